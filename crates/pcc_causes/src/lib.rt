@@ -1,0 +1,2 @@
+//! Definitions alone: when a fault may be told, and which readings a clock gives.
+#![tactic(auto)]

@@ -1,0 +1,2 @@
+//! Definitions alone: devices, the channel as one thread sees it, and its histories.
+#![tactic(auto)]

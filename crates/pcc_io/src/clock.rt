@@ -1,0 +1,61 @@
+//! Clocks that number their readings, and the clock of a script, whose readings lie on a line.
+ghost use Rattle.std.specs.Prelude.{◌≡◌, ◌+◌, ◌-◌, ◌^◌, ◌<◌, ◌≤◌, ℕ, Option, IfSome, min};
+ghost use Rattle.pcc_io.specs.LineClocks.{line_tells};
+
+use std::marker::Model;
+
+/// A clock with numbered readings in microseconds. A reading can't fail.
+pub trait Clock: Drop {
+    /// How many readings were taken. The count stops at the greatest u64.
+    ghost taken: { Self → ℕ };
+
+    /// The reading of a number, from 0, where the clock tells it.
+    ghost tells: { Self → ℕ → Option ℕ };
+
+    /// Takes the next reading.
+    fn now(&mut self) -> u64
+        ensures count { taken self.new ≡ min (taken self.old + 1) (2 ^ 64 - 1) }
+        ensures reading { taken self.old < 2 ^ 64 - 1 → IfSome (tells self.old (taken self.old)) (λ t. result ≡ t) }
+        ensures told { (k : ℕ) → tells self.new k ≡ tells self.old k };
+}
+
+/// A clock whose readings lie on a line: the reading number k is `start + k * step`, at most the greatest u64.
+#[derive(Debug, Drop)]
+pub struct LineClock {
+    start: u64,
+    step: u64,
+    taken: u64,
+}
+
+impl Model for LineClock {
+    ghost use Rattle.pcc_io.specs.LineClocks.{LineState};
+
+    ghost Value = { LineState };
+
+    ghost view = { λ c. record { start = c.start; step = c.step; added = 0; taken = c.taken; told_from = 0 } };
+}
+
+impl LineClock {
+    /// A clock that has given no reading.
+    pub fn new(start: u64, step: u64) -> LineClock
+        ensures { result ≡ record { start = start; step = step; added = 0; taken = 0; told_from = 0 } }
+    {
+        LineClock {
+            start,
+            step,
+            taken: 0,
+        }
+    }
+}
+
+impl Clock for LineClock {
+    ghost taken = { λ c. c.taken };
+
+    ghost tells = { line_tells };
+
+    fn now(&mut self) -> u64 {
+        let at = u128::from(self.start) + u128::from(self.taken) * u128::from(self.step);
+        self.taken = self.taken.saturating_add(1);
+        u64::try_from(at).unwrap_or(u64::MAX)
+    }
+}
