@@ -1,0 +1,9 @@
+//! The fields of a text, read and written: numbers in decimal, bytes in hexadecimal, and texts made of pieces.
+//! Every text of the program stands on it: scripts, tables shown as text, replies, journals and traces.
+#![tactic(auto)]
+
+mod reading;
+mod writing;
+
+pub use reading::{bytes_of, is_text, number, part, split};
+pub use writing::{Piece, put, put_hex, put_number, put_pieces};

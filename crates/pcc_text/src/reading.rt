@@ -1,0 +1,136 @@
+//! Readers of fields. A field is read only if it is spelled as the writers spell it.
+ghost use Rattle.std.specs.Prelude.{◌≡◌, ◌≤◌, ◌<◌, ◌^◌, ◌-◌, [], List, ℕ, IfOk, IfSome, slice_index_or, length, map, option_map, decimal, bytes_eq};
+ghost use Rattle.std.specs.List.{list_all};
+ghost use Rattle.std.specs.Char.{is_ascii_digit};
+ghost use Rattle.pcc_bytes.specs.Bytes.{IsBytes};
+ghost use Rattle.pcc_bytes.specs.Fields.{hex_text, split_at};
+ghost use Rattle.pcc_text.specs.Reading.{hex_of, is_numeral, number_of};
+
+use crate::put_hex;
+use hex::FromHexError;
+use pcc_io::{Bytes, NoMemory};
+use std::alloc::Global;
+use std::str;
+
+/// The parts of a text between the bytes `at`. There is one part more than such bytes.
+#[tactic(auto, using(crate::proofs::Splitting::split_start, crate::proofs::Splitting::split_more, crate::proofs::Splitting::split_cut, crate::proofs::Splitting::split_end, std::proofs::lemmas::List::map_push))]
+pub fn split<'a>(alloc: Global, text: &'a [u8], at: u8) -> Result<Vec<&'a [u8]>, NoMemory>
+    ensures { IfOk result (λ v. map (λ x. x.now) v.items ≡ split_at at text.now) }
+{
+    let mut parts = Vec::new(alloc);
+    let mut start = 0;
+    for (i, b) in text.iter().enumerate() {
+        if *b != at {
+            continue;
+        }
+        parts.push(&text[start..i])?;
+        start = i + 1;
+    }
+    parts.push(&text[start..])?;
+    Ok(parts)
+}
+
+/// The part at a place.
+pub fn part<'a>(parts: &[&'a [u8]], place: usize) -> &'a [u8]
+    requires { place < length parts.now }
+    ensures { result.now ≡ slice_index_or (map (λ x. x.now) parts.now) place [] }
+{
+    parts[place]
+}
+
+/// Whether a field is this text.
+pub fn is_text(field: &[u8], text: &[u8]) -> bool
+    ensures { result ≡ bytes_eq field.now text.now }
+{
+    field == text
+}
+
+fn all_digits(field: &[u8]) -> bool
+    ensures { result ≡ list_all is_ascii_digit field.now }
+{
+    field.iter().all(|b| b.is_ascii_digit())
+}
+
+fn is_decimal(field: &[u8]) -> bool
+    ensures { result ≡ is_numeral field.now }
+{
+    if field.is_empty() {
+        return false;
+    }
+    if field.len() > 1 && field[0] == b'0' {
+        return false;
+    }
+    all_digits(field)
+}
+
+// The number that a field spells, if it fits in 64 bits.
+#[tactic(auto, using(crate::proofs::Numerals::no_numeral, crate::proofs::Numerals::is_utf8))]
+fn any_number(field: &[u8]) -> Option<u64>
+    ensures { result ≡ number_of (2 ^ 64 - 1) field.now }
+{
+    if !is_decimal(field) {
+        return None;
+    }
+    let text = str::from_utf8(field).ok()?;
+    text.parse::<u64>().ok()
+}
+
+/// The number that a field spells in decimal, with no leading zero, if it is at most a limit.
+#[tactic(auto, using(crate::proofs::Laws::number_none, crate::proofs::Laws::number_reads, crate::proofs::Laws::number_again))]
+pub fn number(field: &[u8], limit: u64) -> Option<u64>
+    ensures value { result ≡ number_of limit field.now }
+    ensures bound { IfSome result (λ n. n ≤ limit) }
+
+    // It is read exactly where it is the text of a number up to the limit.
+    ensures spelled { IfSome result (λ n. field.now ≡ decimal n) }
+    ensures only { (n : ℕ) → n ≤ limit → field.now ≡ decimal n → result ≡ Some n }
+{
+    let n = any_number(field)?;
+    if n <= limit { Some(n) } else { None }
+}
+
+// Whether a field is the text of bytes.
+fn is_hex_of(alloc: Global, field: &[u8], bytes: &[u8]) -> Result<bool, NoMemory>
+    ensures { IfOk result (λ same. same ≡ bytes_eq (hex_text bytes.now) field.now) }
+{
+    let mut text = Vec::new(alloc);
+    put_hex(&mut text, bytes)?;
+    Ok(is_text(&text, field))
+}
+
+// What the field decodes to, if the bytes have that field as their text.
+#[tactic(auto, unfolding(crate::specs::Reading::hex_of))]
+fn decoded(alloc: Global, field: &[u8]) -> Result<Option<Vec<u8>>, NoMemory>
+    ensures { IfOk result (λ o. option_map (λ v. v.items) o ≡ hex_of field.now) }
+{
+    if is_text(field, b"-") {
+        return Ok(Some(Vec::new(alloc)));
+    }
+    match hex::decode(alloc, field) {
+        Err(FromHexError::OutOfMemory) => Err(NoMemory),
+        Err(_) => Ok(None),
+        Ok(bytes) => {
+            if is_hex_of(alloc, field, &bytes)? {
+                Ok(Some(bytes))
+            } else {
+                Ok(None)
+            }
+        }
+    }
+}
+
+/// The bytes that a field spells: `-` for none, and else two hexadecimal digits for each. Upper-case digits aren't read.
+#[tactic(auto, using(crate::proofs::Laws::hex_fits, crate::proofs::Laws::hex_reads, crate::proofs::Laws::hex_again))]
+pub fn bytes_of(alloc: Global, field: &[u8]) -> Result<Option<Bytes>, NoMemory>
+    ensures value { IfOk result (λ o. o ≡ hex_of field.now) }
+    ensures bytes { IfOk result (λ o. IfSome o IsBytes) }
+
+    // They are read exactly where the field is the text of bytes.
+    ensures spelled { IfOk result (λ o. IfSome o (λ b. field.now ≡ hex_text b)) }
+    ensures only { IfOk result (λ o. (b : List ℕ) → IsBytes b → field.now ≡ hex_text b → o ≡ Some b) }
+{
+    match decoded(alloc, field)? {
+        Some(bytes) => Ok(Some(Bytes::from_vec(bytes))),
+        None => Ok(None),
+    }
+}

@@ -1,0 +1,71 @@
+//! Writers, which put texts, numbers and bytes at the end of a text. Where memory runs out they may have put a part.
+ghost use Rattle.std.specs.Prelude.{◌≡◌, ◌++◌, OnOk, decimal, map};
+ghost use Rattle.pcc_bytes.specs.Fields.{hex_text};
+ghost use Rattle.pcc_text.specs.Pieces.{spell, spelled, spelled_of};
+
+use itoa::Buffer;
+use pcc_io::NoMemory;
+
+/// A piece of a text.
+#[derive(Clone, Copy)]
+pub enum Piece<'a> {
+    /// A text as it is.
+    Text(&'a [u8]),
+    /// A number in decimal.
+    Number(u64),
+    /// Bytes in hexadecimal.
+    Hex(&'a [u8]),
+}
+
+/// Puts a text at the end.
+pub fn put(out: &mut Vec<u8>, text: &[u8]) -> Result<(), NoMemory>
+    ensures { OnOk result (out.new.items ≡ out.old.items ++ text.now) }
+{
+    out.extend_from_slice(text)?;
+    Ok(())
+}
+
+/// Puts a number at the end, in decimal.
+pub fn put_number(out: &mut Vec<u8>, n: u64) -> Result<(), NoMemory>
+    ensures { OnOk result (out.new.items ≡ out.old.items ++ decimal n) }
+{
+    let mut buffer = Buffer::new();
+    put(out, buffer.format(n).as_bytes())
+}
+
+/// Puts bytes at the end, as two lower-case hexadecimal digits each, or `-` for none.
+pub fn put_hex(out: &mut Vec<u8>, bytes: &[u8]) -> Result<(), NoMemory>
+    ensures { OnOk result (out.new.items ≡ out.old.items ++ hex_text bytes.now) }
+{
+    if bytes.is_empty() {
+        return put(out, b"-");
+    }
+    let start = out.len();
+    let end = start.checked_add(bytes.len() * 2).ok_or(NoMemory)?;
+    out.resize(end, 0)?;
+    match hex::encode_to_slice(bytes, &mut out[start..]) {
+        Ok(()) => Ok(()),
+        Err(_) => unreachable!(),
+    }
+}
+
+fn put_piece(out: &mut Vec<u8>, piece: &Piece) -> Result<(), NoMemory>
+    ensures { OnOk result (out.new.items ≡ out.old.items ++ spell (spelled_of piece.now)) }
+{
+    match *piece {
+        Piece::Text(text) => put(out, text),
+        Piece::Number(n) => put_number(out, n),
+        Piece::Hex(bytes) => put_hex(out, bytes),
+    }
+}
+
+/// Puts pieces at the end, one behind the other.
+#[tactic(auto, unfolding(crate::specs::Pieces::spelled), using(crate::proofs::Appending::appending_start, crate::proofs::Appending::appending_more, crate::proofs::Appending::appending_end, crate::proofs::Appending::pieces_text))]
+pub fn put_pieces(out: &mut Vec<u8>, pieces: &[Piece]) -> Result<(), NoMemory>
+    ensures { OnOk result (out.new.items ≡ out.old.items ++ spelled (map spelled_of pieces.now)) }
+{
+    for piece in pieces {
+        put_piece(out, piece)?;
+    }
+    Ok(())
+}
