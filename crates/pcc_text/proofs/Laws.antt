@@ -40,7 +40,7 @@ false_from_not : (b : Bool) → not b ≡ true → b ≡ false
 false_from_not true h = cc
 false_from_not false h = refl
 
-All-from_lacks : (c : ℕ) (xs : List ℕ) → lacks c xs ≡ true → All (λ x. eqb x c ≡ false) xs
+pub All-from_lacks : (c : ℕ) (xs : List ℕ) → lacks c xs ≡ true → All (λ x. eqb x c ≡ false) xs
 All-from_lacks c xs h k d lt = false_from_not _ (AllPass-from_list_all (λ (x : ℕ). not (eqb x c)) xs h k d lt)
 
 -- no part has the byte
