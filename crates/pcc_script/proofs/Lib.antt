@@ -1,0 +1,9 @@
+pub mod Each
+pub mod Fields
+pub mod Lines
+pub mod Sequence
+pub mod Growing
+pub mod Going
+pub mod Script
+pub mod Public
+pub mod Within

@@ -1,0 +1,5 @@
+pub mod Rows
+pub mod Text
+pub mod Faults
+pub mod Limits
+pub mod Reading

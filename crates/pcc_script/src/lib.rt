@@ -1,0 +1,26 @@
+//! The script language: what a run is set up with and the actions that it makes, as a text. A text is read to the one scenario that it spells, or to its first fault.
+#![tactic(auto)]
+
+mod fault;
+mod field;
+mod limits;
+mod line;
+mod order;
+mod partial;
+mod reading;
+mod scenario;
+mod word;
+
+pub use fault::{ScriptError, ScriptKind};
+pub use limits::{
+    MAX_ACTIONS, MAX_CAPS, MAX_CODE, MAX_CPU, MAX_CPUS, MAX_HOLD, MAX_ID, MAX_LETTERS, MAX_OPENS,
+    MAX_POLLS, MAX_WORKER,
+};
+pub use reading::{scenario_from, within_limits};
+pub use scenario::{
+    Actions, CapLine, CapLines, Device, Letter, Line, OpenLine, Opens, Packages, Picks, Scenario,
+    Wish1,
+};
+
+#[cfg(test)]
+mod tests;

@@ -1,0 +1,34 @@
+//! How large the numbers of a script may be, and how many lines and letters it may have. The code and the definitions name the same constants.
+
+/// The greatest number of a worker.
+pub const MAX_WORKER: u64 = 15;
+
+/// The greatest number of a processor.
+pub const MAX_CPU: u64 = 15;
+
+/// The greatest ID of a subspace.
+pub const MAX_ID: u64 = 255;
+
+/// The greatest command code.
+pub const MAX_CODE: u64 = 4_294_967_295;
+
+/// How often an action may look for its command's completion. It looks at least once.
+pub const MAX_POLLS: u64 = 1_000_000;
+
+/// How many turns the answering side may hold a command.
+pub const MAX_HOLD: u64 = 4_000_000_000;
+
+/// How many `open` lines there may be. There is at least one.
+pub const MAX_OPENS: u32 = 8;
+
+/// How many `cpu` lines there may be.
+pub const MAX_CPUS: u32 = 16;
+
+/// How many `cap` lines there may be.
+pub const MAX_CAPS: u32 = 64;
+
+/// How many `call`, `read`, `set` and `wait` lines there may be, taken together.
+pub const MAX_ACTIONS: u32 = 65_536;
+
+/// How many letters a `pick` line may have. It has at least one.
+pub const MAX_LETTERS: usize = 65_536;

@@ -1,0 +1,106 @@
+//! A text is read line by line, to the scenario that it spells or to its first fault.
+ghost use Rattle.std.specs.Prelude.{◌≡◌, ◌↔◌, ◌<◌, ◌≤◌, ◌^◌, ◌-◌, ℕ, IfOk, length, map};
+ghost use Rattle.pcc_bytes.specs.Fields.{split_at};
+ghost use Rattle.pcc_script.specs.Rows.{most, place};
+ghost use Rattle.pcc_script.specs.Text.{IsScenario, script_text, statements_of};
+ghost use Rattle.pcc_script.specs.Faults.{IfFault, IsReadAs, IsRefusedAt, TextWrong};
+ghost use Rattle.pcc_script.specs.Limits.{IsWithin};
+ghost use Rattle.pcc_script.specs.Reading.{count_for, ended, entry_statement, Gives, read_lines, read_statement, read_text, so_far, start, Tells};
+ghost use Rattle.pcc_script.specs.declared.fault.ScriptKind.{ScriptKind};
+ghost use Rattle.pcc_script.specs.declared.scenario.Scenario.{Scenario};
+
+use crate::fault::{ScriptError, Stop};
+use crate::field::first_field;
+use crate::line::{Entry, entry_of};
+use crate::order::Seen;
+use crate::partial::{Partial, complete};
+use crate::scenario::Scenario;
+use crate::word::word_of;
+use pcc_text::{part, split};
+use std::alloc::Global;
+
+/// What the next line gives.
+#[tactic(auto, unfolding(crate::specs::Reading::read_statement), using(crate::proofs::Sequence::next_placed, crate::proofs::Sequence::next_few))]
+fn next_entry(alloc: Global, seen: &Seen, line: &[u8]) -> Result<Entry, Stop>
+    ensures read { Gives entry_statement result (read_statement seen.now (split_at 32 line.now)) }
+    ensures placed { IfOk result (λ entry. seen.now.next ≤ place (entry_statement entry).word) }
+    ensures few { IfOk result (λ entry. count_for seen.now (entry_statement entry).word < most (entry_statement entry).word) }
+{
+    let fields = split(alloc, line, b' ')?;
+    let word = word_of(first_field(&fields))?;
+    seen.place_test(word)?;
+    entry_of(alloc, word, &fields)
+}
+
+/// What lines give, or the first that is wrong.
+#[tactic(auto, using(crate::proofs::Going::going_start, crate::proofs::Going::going_empty, crate::proofs::Going::going_more, crate::proofs::Going::going_fault, crate::proofs::Going::going_end, crate::proofs::Going::going_count))]
+fn read_all(alloc: Global, lines: &[&[u8]]) -> Result<Partial, ScriptError>
+    requires { length lines.now < 2 ^ 32 - 1 }
+    ensures told { Tells so_far result (read_lines start (map (λ line. line.now) lines.now)) }
+    ensures count { IfOk result (λ partial. length (so_far partial) ≡ length lines.now) }
+{
+    let mut partial = Partial::new(alloc);
+    let mut seen = Seen::start();
+    for i in 0..lines.len() {
+        match next_entry(alloc, &seen, part(lines, i)) {
+            Ok(entry) => {
+                let word = entry.word();
+                partial.put(entry)?;
+                seen = seen.after(word);
+            }
+            Err(Stop::Wrong(kind)) => {
+                let line = i as u32 + 1;
+                return Err(ScriptError::Fault { line, kind });
+            }
+            Err(Stop::NoMemory) => return Err(ScriptError::NoMemory),
+        }
+    }
+    Ok(partial)
+}
+
+/// The scenario of these lines, with `last` behind their last line feed.
+fn finish(alloc: Global, lines: &[&[u8]], last: &[u8]) -> Result<Scenario, ScriptError>
+    requires { length lines.now < 2 ^ 32 - 1 }
+    ensures { Tells statements_of result (ended (read_lines start (map (λ line. line.now) lines.now)) last.now) }
+{
+    let partial = read_all(alloc, lines)?;
+    complete(partial, last, lines.len() as u32 + 1)
+}
+
+/// The scenario that a text spells, or its first fault, as reading finds them.
+#[tactic(auto, unfolding(crate::specs::Reading::read_text), using(crate::proofs::Script::front_push, crate::proofs::Script::last_push, std::proofs::lemmas::List::map_push, crate::proofs::Script::some_parts))]
+fn read(alloc: Global, text: &[u8]) -> Result<Scenario, ScriptError>
+    requires { length text.now < 2 ^ 32 - 1 }
+    ensures { Tells statements_of result (read_text text.now) }
+{
+    let mut parts = split(alloc, text, b'\n')?;
+    match parts.pop() {
+        Some(last) => finish(alloc, &parts, last),
+        None => unreachable!(),
+    }
+}
+
+/// The scenario that a text spells. A text spells at most one, and each scenario within the limits has one text.
+///
+/// A line feed ends each line, and one space stands between two fields. Numbers are decimal without leading zeros, bytes are lower-case hexadecimal digits, or `-` for none.
+/// The lines are, in this order: one `table HEX`, one `clock START STEP`, 1 to 8 `open ID bank` or `open ID cppc HEX`, up to 16 `cpu HEX`, up to 64 `cap ID COUNT VALUE`, up to 65,536 actions (`call WORKER ID CODE HEX POLLS HOLD`, `read WORKER CPU POLLS HOLD`, `set WORKER CPU MIN DESIRED MAX POLLS HOLD`, `wait N`) and at most one `pick LETTERS`.
+#[tactic(auto, using(crate::proofs::Public::is_found, crate::proofs::Public::is_only, crate::proofs::Public::is_wrong, crate::proofs::Public::is_first))]
+pub fn scenario_from(alloc: Global, text: &[u8]) -> Result<Scenario, ScriptError>
+    requires { length text.now < 2 ^ 32 - 1 }
+    // What is read is within the limits, and the text spells it.
+    ensures found { IfOk result (λ s. IsScenario s × (text.now ≡ script_text s)) }
+    // A scenario that the text spells is read, unless memory runs out.
+    ensures only { (s : Scenario) → IsScenario s → text.now ≡ script_text s → IsReadAs s result }
+
+    // A fault that is told is the first of the text.
+    ensures fault { IfFault result (TextWrong text.now) }
+    // The first fault of the text is told, unless memory runs out.
+    ensures first { (line : ℕ) (kind : ScriptKind) → TextWrong text.now line kind → IsRefusedAt line kind result }
+{
+    read(alloc, text)
+}
+
+/// A scenario has a text exactly where its fields are within the limits.
+pub fn within_limits()
+    ensures { (s : Scenario) → IsWithin s ↔ IsScenario s }
+{}
