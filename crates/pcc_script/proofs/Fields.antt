@@ -11,7 +11,7 @@ use Rattle.pcc_script.specs.declared.scenario.Letter.{Letter}
 use Rattle.pcc_script.specs.declared.scenario.Letter.TheVariants.{O, P}
 use Rattle.pcc_script.specs.declared.fault.ScriptKind.{ScriptKind}
 use Rattle.pcc_script.specs.declared.fault.ScriptKind.TheVariants as kind
-use Rattle.pcc_script.specs.Rows.{Value, OfNumber, OfOptional, OfBytes, OfDevice, OfLetters, Limit, Worker, Cpu, Id, Code, Polls, Hold, Any, DeviceName, NamedBank, NamedCppc, Kind, Whole, Positive, Optional, HexBytes, DeviceText, LetterText, IsOf, most_of, spell, letter_text, wrong, text_of}
+use Rattle.pcc_script.specs.Rows.{Value, OfNumber, OfOptional, OfBytes, OfDevice, OfLetters, Limit, Worker, Cpu, Id, Code, Polls, Hold, Any, DeviceName, NamedBank, NamedCppc, Kind, Whole, Positive, Optional, HexBytes, DeviceText, LetterText, IsOf, most_of, spell, letter_text, field_fault, text_of}
 use Rattle.pcc_script.specs.Reading.{number_value, positive_value, some_value, bytes_value, letters_value, letter_of, letters_of, consed, read_field}
 
 limit_small : (l : Limit) → most_of l < 2 ^ 64
@@ -90,7 +90,7 @@ choice_reads false f v e h =
     let q = number_reads (most_of Any) f p.0 (limit_small Any) p.1 in
     subst (Spelled Optional f) (sym p.2) (record { is = (Some p.0, refl, q.1); text = q.0 })
 
-device_reads : (t u : Bool) (f : List ℕ) (v : Value) → bytes_eq f (codes "cppc") ≡ t → bytes_eq f (codes "bank") ≡ u → cond t (Ok (OfDevice NamedCppc)) (cond u (Ok (OfDevice NamedBank)) (Err (wrong DeviceText))) ≡ Ok v → Spelled DeviceText f v
+device_reads : (t u : Bool) (f : List ℕ) (v : Value) → bytes_eq f (codes "cppc") ≡ t → bytes_eq f (codes "bank") ≡ u → cond t (Ok (OfDevice NamedCppc)) (cond u (Ok (OfDevice NamedBank)) (Err (field_fault DeviceText))) ≡ Ok v → Spelled DeviceText f v
 device_reads true u f v e d h =
     let same : OfDevice NamedCppc ≡ v = cc in
     subst (Spelled DeviceText f) same (record { is = (NamedCppc, refl); text = same_text f (codes "cppc") e })
@@ -189,7 +189,7 @@ letters_err (Some []) d h = cc
 letters_err (Some (l ∷ ls)) d h = cc
 letters_err None d h = cc
 
-pub field_wrong : (k : Kind) (f : List ℕ) (d : ScriptKind) → read_field k f ≡ Err d → d ≡ wrong k
+pub field_wrong : (k : Kind) (f : List ℕ) (d : ScriptKind) → read_field k f ≡ Err d → d ≡ field_fault k
 unfolding read_field
 field_wrong (Whole l) f d h = number_err (number_of (most_of l) f) d h
 field_wrong (Positive l) f d h = positive_err (number_of (most_of l) f) d h

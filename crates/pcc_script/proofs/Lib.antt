@@ -1,9 +1,13 @@
 pub mod Each
 pub mod Fields
 pub mod Lines
+pub mod Counting
 pub mod Sequence
 pub mod Growing
 pub mod Going
+pub mod Completing
 pub mod Script
+pub mod Determined
 pub mod Public
+pub mod Places
 pub mod Within

@@ -8,7 +8,7 @@ use Rattle.pcc_script.specs.declared.word.Word.{Word}
 use Rattle.pcc_script.specs.declared.word.Word.TheVariants as word
 use Rattle.pcc_script.specs.declared.fault.ScriptKind.{ScriptKind}
 use Rattle.pcc_script.specs.declared.fault.ScriptKind.TheVariants as kind
-use Rattle.pcc_script.specs.Rows.{Value, Kind, Step, AtLeast, Exactly, AtMost, Takes, HexBytes, IsOf, spell, wrong, field_at, text_of, words, steps_of}
+use Rattle.pcc_script.specs.Rows.{Value, Kind, Step, AtLeast, Exactly, AtMost, Takes, HexBytes, IsOf, spell, field_fault, field_at, text_of, words, steps_of}
 use Rattle.pcc_script.specs.Text.{AllRight}
 use Rattle.pcc_script.specs.Faults.{FirstWrong}
 use Rattle.pcc_script.specs.Reading.{◌>>=◌, read_field, read_at, find, word_named}
@@ -141,7 +141,7 @@ at_wrong i (Takes k ∷ ss) f d h =
           ]
     ]
 
-field_fails : (k : Kind) (f : List ℕ) (r : Result Value ScriptKind) → read_field k f ≡ r → ((v : Value) × IsOf k v × (f ≡ spell v) → ⊥) → r ≡ Err (wrong k)
+field_fails : (k : Kind) (f : List ℕ) (r : Result Value ScriptKind) → read_field k f ≡ r → ((v : Value) × IsOf k v × (f ≡ spell v) → ⊥) → r ≡ Err (field_fault k)
 field_fails k f (Ok v) e never = let s = field_reads k f v e in absurd (never (v, s.is, s.text))
 field_fails k f (Err d) e never = ap Err (field_wrong k f d e)
 

@@ -17,6 +17,7 @@ use Rattle.pcc_script.specs.Rows.{Value, Step, AtLeast, Exactly, AtMost, Takes, 
 use Rattle.pcc_script.specs.Text.{Statement, fields_of, line_of, next_of, count_at, AllRight, LineRight, InOrder}
 use Rattle.pcc_script.specs.Faults.{LineWrong, NotKnown, OutOfPlace, OneMore, Inside}
 use Rattle.pcc_script.specs.Reading.{read_at, word_named, placed, statement_of, count_for, seen_after, read_statement, read_lines, Lines, with_front, go_on, start, Gives, entry_statement}
+use Rattle.pcc_script.proofs.Counting.{count_push, next_push, none_below, place_behind}
 use Rattle.pcc_script.proofs.Fields.{IsCut, space, feed, lacks-spell}
 use Rattle.pcc_script.proofs.Lines.{bind_ok, bind_err, First, Second, ok_same, test_ok, want_ok, test_err, want_err, below, not_below, is_below, isnt_below, same, not_same, at_reads, at_again, at_wrong, at_fails, fields_are, word_reads, word_again, word_at, no_word, word_fails}
 
@@ -31,31 +32,8 @@ pub record Sees (seen : Seen) (before : List Statement) : Type 0 where
 pub sees_start : Sees start []
 sees_start = record { next = refl; from = omega arith; count = refl; above = λ p h. refl }
 
-pub next_push : (rs : List Statement) (r : Statement) → next_of (rs ++ r ∷ []) ≡ max (next_of rs) (behind r.word)
-next_push [] r = omega arith
-next_push (x ∷ xs) r = let e = next_push xs r in omega arith
-
-pub count_push : (p : ℕ) (rs : List Statement) (r : Statement) → count_at p (rs ++ r ∷ []) ≡ count_at p rs + cond (eqb (place r.word) p) 1 0
-count_push p [] r = omega arith
-count_push p (x ∷ xs) r = let e = count_push p xs r in omega arith
-
-pub place_behind : (w : Word) → place w ≤ behind w
-place_behind word.Table = omega arith
-place_behind word.Clock = omega arith
-place_behind word.Open = omega arith
-place_behind word.Cpu = omega arith
-place_behind word.Cap = omega arith
-place_behind word.Call = omega arith
-place_behind word.Read = omega arith
-place_behind word.Set = omega arith
-place_behind word.Wait = omega arith
-place_behind word.Pick = omega arith
-
 above_it : (a b : ℕ) → (a ≡ b → ⊥) → b ≤ a → b < a
 above_it a b ne le = grind arith
-
-pub other : (p a : ℕ) → a < p → cond {A = ℕ} (eqb a p) 1 0 ≡ 0
-other p a h = grind (arith, nat_tests)
 
 abbrev statement_with : Word → List Value → Statement
 statement_with w vs = record { word = w; values = vs }
@@ -86,7 +64,7 @@ sees_more seen before r s le =
       count = omega arith;
       above = λ (p : ℕ) (h : place r.word < p).
           let z : count_at p before ≡ 0 = s.above p (omega arith) in
-          let none : cond {A = ℕ} (eqb (place r.word) p) 1 0 ≡ 0 = other p (place r.word) h in
+          let none : cond {A = ℕ} (eqb (place r.word) p) 1 0 ≡ 0 = none_below p (place r.word) h in
           let push : count_at p (before ++ r ∷ []) ≡ count_at p before + cond (eqb (place r.word) p) 1 0 = count_push p before r in
           omega arith;
     }

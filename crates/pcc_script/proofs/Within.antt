@@ -1,4 +1,4 @@
--- A scenario within the limits has a text.
+-- A scenario has a text exactly where it is within the limits.
 use Rattle.std.proofs.Common.{◌≡◌, ℕ, ◌+◌, ◌<◌, ◌≤◌, eqb, max, cond, List, [], ◌∷◌, ◌++◌, length, map, refl, sym, ap, subst, arith}
 use Rattle.std.specs.List.{AllByRecursion}
 use Rattle.std.proofs.lemmas.Bool.Decides.{nat_tests}
@@ -18,60 +18,8 @@ use Rattle.pcc_script.specs.declared.scenario.CapLine.{CapLine}
 use Rattle.pcc_script.specs.declared.scenario.Letter.{Letter}
 use Rattle.pcc_script.specs.declared.scenario.Scenario.{Scenario}
 use Rattle.pcc_script.specs.Limits.{IsAction, IsBudget, IsCap, IsU64, IsDevice, IsOpen, IsWithin}
-use Rattle.pcc_script.proofs.Sequence.{next_push, count_push, place_behind, other}
-
-pub order_append : (before a b : List Statement) → InOrder before a → InOrder (before ++ a) b → InOrder before (a ++ b)
-order_append before [] b h g = subst (λ (rs : List Statement). InOrder rs b) (append-nil before) g
-order_append before (r ∷ a) b h g = (h.0, order_append (before ++ r ∷ []) a b h.1 (subst (λ (rs : List Statement). InOrder rs b) (sym (append_assoc before (r ∷ []) a)) g))
-
--- a line of a place that may stand more than once
-pub record Stands (p m : ℕ) (r : Statement) : Type 0 where
-  pub place_is : place r.word ≡ p
-  pub behind_is : behind r.word ≡ p
-  pub most_is : most r.word ≡ m
-  pub fields : AllRight 1 (steps_of r.word (fields_of r)) (fields_of r) r.values
-
-one_here : (a p : ℕ) → a ≡ p → cond {A = ℕ} (eqb a p) 1 0 ≡ 1
-one_here a p e = grind (arith, nat_tests)
-
--- lines of one place, where those before leave room
-pub run_of : (p m : ℕ) (rs before : List Statement) → AllByRecursion (Stands p m) rs → next_of before ≤ p → count_at p before + length rs ≤ m → InOrder before rs
-run_of p m [] before h n c = tt
-run_of p m (r ∷ rs) before h n c =
-    let at_p : place r.word ≡ p = h.0.place_is in
-    let behind_p : behind r.word ≡ p = h.0.behind_is in
-    let most_m : most r.word ≡ m = h.0.most_is in
-    let next : next_of (before ++ r ∷ []) ≡ max (next_of before) (behind r.word) = next_push before r in
-    let count : count_at p (before ++ r ∷ []) ≡ count_at p before + cond {A = ℕ} (eqb (place r.word) p) 1 0 = count_push p before r in
-    let one : cond {A = ℕ} (eqb (place r.word) p) 1 0 ≡ 1 = one_here (place r.word) p at_p in
-    let here : count_at (place r.word) before ≡ count_at p before = ap (λ (q : ℕ). count_at q before) at_p in
-    (record { placed = omega arith; few = omega arith; fields = h.0.fields }, run_of p m rs (before ++ r ∷ []) h.1 (omega arith) (omega arith))
-
--- ---- the whole scenario
-
-next_append : (a b : List Statement) → next_of (a ++ b) ≡ max (next_of a) (next_of b)
-next_append [] b = omega arith
-next_append (x ∷ xs) b = let e = next_append xs b in omega arith
-
-next_run : (p m : ℕ) (rs : List Statement) → AllByRecursion (Stands p m) rs → next_of rs ≤ p
-next_run p m [] h = omega arith
-next_run p m (r ∷ rs) h = let e = next_run p m rs h.1 in let b : behind r.word ≡ p = h.0.behind_is in omega arith
-
-none_there : (p : ℕ) (rs : List Statement) → next_of rs < p → count_at p rs ≡ 0
-none_there p [] h = refl
-none_there p (r ∷ rs) h =
-    let e : count_at p rs ≡ 0 = none_there p rs (omega arith) in
-    let b : place r.word ≤ behind r.word = place_behind r.word in
-    let z : cond {A = ℕ} (eqb (place r.word) p) 1 0 ≡ 0 = other p (place r.word) (omega arith) in
-    omega arith
-
--- one more run, behind lines of lower places
-more_run : (p m : ℕ) (before rs : List Statement) → InOrder [] before → next_of before < p → AllByRecursion (Stands p m) rs → length rs ≤ m → InOrder [] (before ++ rs) × (next_of (before ++ rs) ≤ p)
-more_run p m before rs o n h l =
-    let zero : count_at p before ≡ 0 = none_there p before n in
-    let e = next_append before rs in
-    let r = next_run p m rs h in
-    (order_append [] before rs o (run_of p m rs before h (omega arith) (omega arith)), omega arith)
+use Rattle.pcc_script.proofs.Counting.{all_opens, behind_opens, count_append, next_append, none_behind, none_there}
+use Rattle.pcc_script.proofs.Places.{more_run, next_run, order_append, order_split, run_len, run_of, Stands}
 
 -- ---- each line
 
@@ -134,29 +82,14 @@ within_right s h =
     let e : ((((head ++ o) ++ c) ++ p) ++ a) ++ pick_statements s.picks ≡ statements_of s = simp append_assoc in
     subst (InOrder []) e r4
 
-opens_count : (os : List OpenLine) → count_at 2 (map open_statement os) ≡ length os
-opens_count [] = refl
-opens_count (o ∷ os) = let e = opens_count os in omega arith
-
-count_append : (p : ℕ) (a b : List Statement) → count_at p (a ++ b) ≡ count_at p a + count_at p b
-count_append p [] b = omega arith
-count_append p (x ∷ xs) b = let e = count_append p xs b in omega arith
-
 pub within_is : (s : Scenario) → IsWithin s → IsScenario s
 within_is s h =
-    let rest = map cpu_statement s.cpus ++ (map cap_statement s.caps ++ (map action_statement s.actions ++ pick_statements s.picks)) in
-    let e = count_append 2 (map open_statement s.opens) rest in
-    let o = opens_count s.opens in
+    let e = count_append 2 (map open_statement s.opens) (behind_opens s.cpus s.caps s.actions s.picks) in
+    let o = all_opens s.opens in
     let some : 1 ≤ length s.opens = h.some_opens in
     record { right = within_right s h; whole = (omega arith, omega arith, omega arith) }
 
 -- ---- and nothing else has a text
-
-order_split : (before a b : List Statement) → InOrder before (a ++ b) → InOrder before a × InOrder (before ++ a) b
-order_split before [] b h = (tt, subst (λ (rs : List Statement). InOrder rs b) (sym (append-nil before)) h)
-order_split before (r ∷ a) b h =
-    let p = order_split (before ++ r ∷ []) a b h.1 in
-    ((h.0, p.0), subst (λ (rs : List Statement). InOrder rs b) (append_assoc before (r ∷ []) a) p.1)
 
 number_in : (l : Limit) (a : ℕ) → IsOf (Whole l) (OfNumber a) → a ≤ most_of l
 number_in l a h = let e : h.0 ≡ a = (let q : OfNumber a ≡ OfNumber h.0 = h.1 in cc) in subst (λ (n : ℕ). n ≤ most_of l) e h.2
@@ -189,34 +122,6 @@ open_in id (Cppc image) h = record { id = number_in Id id h.1.0; device = bytes_
 each_in : {A : Type 0} (f : A → Statement) (P : A → Type 0) → ((x : A) → FieldsRight (f x) → P x) → (xs : List A) (before : List Statement) → InOrder before (map f xs) → AllByRecursion P xs
 each_in f P g [] before h = tt
 each_in f P g (x ∷ xs) before h = (g x h.0.fields, each_in f P g xs (before ++ f x ∷ []) h.1)
-
--- the lines of a place are no more than it allows
-run_len : (p m : ℕ) (rs before : List Statement) → AllByRecursion (Stands p m) rs → count_at p before ≤ m → InOrder before rs → count_at p before + length rs ≤ m
-run_len p m [] before h n o = omega arith
-run_len p m (r ∷ rs) before h n o =
-    let at_p : place r.word ≡ p = h.0.place_is in
-    let most_m : most r.word ≡ m = h.0.most_is in
-    let few : count_at (place r.word) before < most r.word = o.0.few in
-    let here : count_at (place r.word) before ≡ count_at p before = ap (λ (q : ℕ). count_at q before) at_p in
-    let count : count_at p (before ++ r ∷ []) ≡ count_at p before + cond {A = ℕ} (eqb (place r.word) p) 1 0 = count_push p before r in
-    let one : cond {A = ℕ} (eqb (place r.word) p) 1 0 ≡ 1 = one_here (place r.word) p at_p in
-    let more = run_len p m rs (before ++ r ∷ []) h.1 (omega arith) o.1 in
-    omega arith
-
-other_above : (p a : ℕ) → p < a → cond {A = ℕ} (eqb a p) 1 0 ≡ 0
-other_above p a h = grind (arith, nat_tests)
-
-none_run : (p q m : ℕ) (rs : List Statement) → p < q → AllByRecursion (Stands q m) rs → count_at p rs ≡ 0
-none_run p q m [] lt h = refl
-none_run p q m (r ∷ rs) lt h =
-    let at_q : place r.word ≡ q = h.0.place_is in
-    let z : cond {A = ℕ} (eqb (place r.word) p) 1 0 ≡ 0 = other_above p (place r.word) (omega arith) in
-    let e = none_run p q m rs lt h.1 in
-    omega arith
-
-none_picks : (p : ℕ) (o : Option (List Letter)) → p < 6 → count_at p (pick_statements o) ≡ 0
-none_picks p None lt = refl
-none_picks p (Some ls) lt = let z : cond {A = ℕ} (eqb 6 p) 1 0 ≡ 0 = other_above p 6 lt in omega arith
 
 picks_in : (before : List Statement) (o : Option (List Letter)) → InOrder before (pick_statements o) → IfSome o (λ ls. (1 ≤ length ls) × (length ls ≤ MAX_LETTERS))
 picks_in before None h = tt
@@ -256,9 +161,9 @@ is_within s h =
     let e2 : length p ≡ length s.caps = length-map s.caps cap_statement in
     let e3 : length a ≡ length s.actions = length-map s.actions action_statement in
     let w : 1 ≤ 0 + (0 + count_at 2 (o ++ (c ++ (p ++ (a ++ k))))) = h.whole.2 in
-    let w1 = count_append 2 o (c ++ (p ++ (a ++ k))) in let w2 = count_append 2 c (p ++ (a ++ k)) in let w3 = count_append 2 p (a ++ k) in let w4 = count_append 2 a k in
-    let v1 = none_run 2 3 MAX_CPUS c (omega arith) cs in let v2 = none_run 2 4 MAX_CAPS p (omega arith) ps in let v3 = none_run 2 5 MAX_ACTIONS a (omega arith) as' in let v4 = none_picks 2 s.picks (omega arith) in
-    let u = opens_count s.opens in
+    let w1 = count_append 2 o (behind_opens s.cpus s.caps s.actions s.picks) in
+    let v = none_behind 2 s.cpus s.caps s.actions s.picks (omega arith) in
+    let u = all_opens s.opens in
     record {
       table = bytes_in s.table s1.0.0.fields.1.0;
       start = number_in Any s.start s1.0.1.0.fields.1.0;

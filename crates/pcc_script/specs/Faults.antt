@@ -7,7 +7,7 @@ use Rattle.pcc_script.specs.declared.fault.ScriptKind.{ScriptKind}
 use Rattle.pcc_script.specs.declared.fault.ScriptKind.TheVariants as kind
 use Rattle.pcc_script.specs.declared.scenario.Scenario.{Scenario}
 use Rattle.pcc_script.specs.declared.word.Word.{Word}
-use Rattle.pcc_script.specs.Rows.{AtLeast, AtMost, Exactly, field_at, most, place, Step, steps_of, Takes, text_of, wrong}
+use Rattle.pcc_script.specs.Rows.{AtLeast, AtMost, Exactly, field_at, field_fault, most, place, Step, steps_of, Takes, text_of}
 use Rattle.pcc_script.specs.Text.{after, count_at, InOrder, IsRight, IsWhole, next_of, Statement, statements_text}
 
 -- the fault where a test doesn't hold
@@ -15,7 +15,7 @@ abbrev pub fault_of : Step → ScriptKind
 fault_of (AtLeast n) = kind.Fields
 fault_of (Exactly n) = kind.Fields
 fault_of (AtMost j n) = kind.Many
-fault_of (Takes k) = wrong k
+fault_of (Takes k) = field_fault k
 
 -- the first of these tests that doesn't hold has this fault
 abbrev pub FirstWrong : ℕ → List Step → List (List ℕ) → ScriptKind → Type 0
@@ -29,7 +29,7 @@ pub data LineWrong (before : List Statement) (f : List (List ℕ)) : ScriptKind 
   OneMore : (w : Word) → field_at f 0 ≡ text_of w → next_of before ≤ place w → most w ≤ count_at (place w) before → LineWrong before f kind.Many
   Inside : (w : Word) → (k : ScriptKind) → field_at f 0 ≡ text_of w → next_of before ≤ place w → count_at (place w) before < most w → FirstWrong 1 (steps_of w f) f k → LineWrong before f k
 
--- the first fault of a text, with its line from 1. The text begins with right lines. Behind them stands a wrong line, or bytes with no line feed, or nothing though a line has to come.
+-- the first fault of a text, with the number of its line, from 1. The text begins with right lines. Behind them stands a wrong line with its line feed (byte 10), whose fields are its parts between spaces (byte 32); or bytes with no line feed; or nothing, though a line that has to be is not among them.
 pub data TextWrong (text : List ℕ) : ℕ → ScriptKind → Type 0 where
   AtLine : (before : List Statement) → (bytes rest : List ℕ) → (k : ScriptKind) → InOrder [] before → IsOneLine bytes → text ≡ statements_text before ++ (bytes ++ 10 ∷ rest) → LineWrong before (split_at 32 bytes) k → TextWrong text (suc (length before)) k
   NoEnd : (before : List Statement) → (bytes : List ℕ) → InOrder [] before → IsOneLine bytes → 1 ≤ length bytes → text ≡ statements_text before ++ bytes → TextWrong text (suc (length before)) kind.Newline
@@ -42,16 +42,17 @@ abbrev pub IsReadAs : Scenario → Result Scenario ScriptError → Type 0
 IsReadAs s (Ok t) = t ≡ s
 IsReadAs s (Err e) = e ≡ error.NoMemory
 
-abbrev pub IsFault : ScriptError → (ℕ → ScriptKind → Type 0) → Type 0
-IsFault error.NoMemory holds = Unit {0}
-IsFault (error.Fault line kind) holds = holds line kind
+-- what holds of the line and the kind of an error that isn't want of memory
+abbrev pub HoldsOf : ScriptError → (ℕ → ScriptKind → Type 0) → Type 0
+HoldsOf error.NoMemory holds = Unit {0}
+HoldsOf (error.Fault line kind) holds = holds line kind
 
 -- what holds of the line and the kind of a fault, if one is told
 abbrev pub IfFault : Result Scenario ScriptError → (ℕ → ScriptKind → Type 0) → Type 0
 IfFault (Ok s) holds = Unit {0}
-IfFault (Err e) holds = IsFault e holds
+IfFault (Err e) holds = HoldsOf e holds
 
 -- this fault is told, unless memory ran out
 abbrev pub IsRefusedAt : ℕ → ScriptKind → Result Scenario ScriptError → Type 0
 IsRefusedAt line kind (Ok s) = ⊥
-IsRefusedAt line kind (Err e) = IsFault e (λ n k. (n ≡ line) × (k ≡ kind))
+IsRefusedAt line kind (Err e) = HoldsOf e (λ n k. (n ≡ line) × (k ≡ kind))

@@ -11,10 +11,12 @@ use Rattle.pcc_script.specs.declared.scenario.OpenLine.{OpenLine}
 use Rattle.pcc_script.specs.declared.scenario.CapLine.{CapLine}
 use Rattle.pcc_script.specs.declared.scenario.Scenario.{Scenario}
 
+-- the image of a device is bytes
 abbrev pub IsDevice : Device → Type 0
 IsDevice Bank = Unit {0}
 IsDevice (Cppc image) = IsBytes image
 
+-- an `open` line within the limits
 pub record IsOpen (o : OpenLine) : Type 0 where
   pub id : o.id ≤ MAX_ID
   pub device : IsDevice o.device
@@ -23,6 +25,7 @@ pub record IsOpen (o : OpenLine) : Type 0 where
 abbrev pub IsU64 : ℕ → Type 0
 IsU64 n = n ≤ 2 ^ 64 - 1
 
+-- a `cap` line within the limits
 pub record IsCap (c : CapLine) : Type 0 where
   pub id : c.id ≤ MAX_ID
   pub count : IsU64 c.count
@@ -34,13 +37,14 @@ pub record IsBudget (polls hold : ℕ) : Type 0 where
   pub few : polls ≤ MAX_POLLS
   pub held : hold ≤ MAX_HOLD
 
+-- an action within the limits
 abbrev pub IsAction : Line → Type 0
 IsAction (line.Call worker subspace code bytes polls hold) = (worker ≤ MAX_WORKER) × (subspace ≤ MAX_ID) × (code ≤ MAX_CODE) × IsBytes bytes × IsBudget polls hold
 IsAction (line.Read worker cpu polls hold) = (worker ≤ MAX_WORKER) × (cpu ≤ MAX_CPU) × IsBudget polls hold
 IsAction (line.Set worker wish polls hold) = (worker ≤ MAX_WORKER) × (wish.cpu ≤ MAX_CPU) × IfSome wish.min IsU64 × IsU64 wish.desired × IfSome wish.max IsU64 × IsBudget polls hold
 IsAction (line.Wait n) = IsU64 n
 
--- all numbers and numbers of lines are within their limits
+-- each number, the number of lines of each kind and the number of letters are within their limits
 pub record IsWithin (s : Scenario) : Type 0 where
   pub table : IsBytes s.table
   pub start : IsU64 s.start

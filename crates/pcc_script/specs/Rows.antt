@@ -25,6 +25,7 @@ pub data Value : Type 0 where
   OfDevice : DeviceName → Value
   OfLetters : List Letter → Value
 
+-- the byte of a letter: `o` or `p`
 abbrev pub letter_text : Letter → ℕ
 letter_text O = 111
 letter_text P = 112
@@ -51,6 +52,7 @@ pub data Limit : Type 0 where
   Hold : Limit
   Any : Limit
 
+-- the greatest such number
 abbrev pub most_of : Limit → ℕ
 most_of Worker = MAX_WORKER
 most_of Cpu = MAX_CPU
@@ -79,13 +81,13 @@ IsOf DeviceText v = (name : DeviceName) × (v ≡ OfDevice name)
 IsOf LetterText v = (letters : List Letter) × (v ≡ OfLetters letters) × (1 ≤ length letters)
 
 -- the fault of a field that is the text of no value of this kind
-abbrev pub wrong : Kind → ScriptKind
-wrong (Whole limit) = kind.Number
-wrong (Positive limit) = kind.Number
-wrong Optional = kind.Number
-wrong HexBytes = kind.Hex
-wrong DeviceText = kind.Name
-wrong LetterText = kind.Name
+abbrev pub field_fault : Kind → ScriptKind
+field_fault (Whole limit) = kind.Number
+field_fault (Positive limit) = kind.Number
+field_fault Optional = kind.Number
+field_fault HexBytes = kind.Hex
+field_fault DeviceText = kind.Name
+field_fault LetterText = kind.Name
 
 -- ---- the tests of a line
 
@@ -102,6 +104,7 @@ field_at fields place = slice_index_or fields place []
 
 -- ---- the rows
 
+-- the text of a word
 abbrev pub text_of : Word → List ℕ
 text_of word.Table = codes "table"
 text_of word.Clock = codes "clock"

@@ -14,39 +14,47 @@ use Rattle.pcc_script.specs.declared.scenario.Letter.{Letter}
 use Rattle.pcc_script.specs.declared.scenario.Scenario.{Scenario}
 use Rattle.pcc_script.specs.Rows.{behind, Exactly, field_at, IsOf, AtLeast, most, NamedBank, NamedCppc, OfBytes, OfDevice, OfLetters, OfNumber, OfOptional, place, AtMost, spell, Step, steps_of, Takes, text_of, Value}
 
--- a line: its word and the values of its fields
+-- a line: its word and the values of the fields behind it
 pub record Statement : Type 0 where
   pub word : Word
   pub values : List Value
 
+-- its fields as texts, the first of which is the word
 abbrev pub fields_of : Statement → List (List ℕ)
 fields_of s = text_of s.word ∷ map spell s.values
 
--- its text, without the line feed
+-- its text, with one space between two fields and without the line feed
 abbrev pub line_of : Statement → List ℕ
 line_of s = joined (fields_of s)
 
 -- ---- the lines of a scenario
 
+-- `table HEX`
 abbrev pub table_statement : List ℕ → Statement
 table_statement bytes = record { word = word.Table; values = OfBytes bytes ∷ [] }
 
+-- `clock START STEP`
 abbrev pub clock_statement : ℕ → ℕ → Statement
 clock_statement start step = record { word = word.Clock; values = OfNumber start ∷ OfNumber step ∷ [] }
 
+-- `bank`, or `cppc HEX`
 abbrev pub device_values : Device → List Value
 device_values Bank = OfDevice NamedBank ∷ []
 device_values (Cppc image) = OfDevice NamedCppc ∷ OfBytes image ∷ []
 
+-- `open ID` and the device
 abbrev pub open_statement : OpenLine → Statement
 open_statement o = record { word = word.Open; values = OfNumber o.id ∷ device_values o.device }
 
+-- `cpu HEX`
 abbrev pub cpu_statement : List ℕ → Statement
 cpu_statement bytes = record { word = word.Cpu; values = OfBytes bytes ∷ [] }
 
+-- `cap ID COUNT VALUE`
 abbrev pub cap_statement : CapLine → Statement
 cap_statement c = record { word = word.Cap; values = OfNumber c.id ∷ OfNumber c.count ∷ OfNumber c.value ∷ [] }
 
+-- `call WORKER ID CODE HEX POLLS HOLD`, `read WORKER CPU POLLS HOLD`, `set WORKER CPU MIN DESIRED MAX POLLS HOLD` or `wait N`
 abbrev pub action_statement : Line → Statement
 action_statement (line.Call worker subspace code bytes polls hold) =
     record { word = word.Call; values = OfNumber worker ∷ OfNumber subspace ∷ OfNumber code ∷ OfBytes bytes ∷ OfNumber polls ∷ OfNumber hold ∷ [] }
@@ -56,16 +64,20 @@ action_statement (line.Set worker wish polls hold) =
     record { word = word.Set; values = OfNumber worker ∷ OfNumber wish.cpu ∷ OfOptional wish.min ∷ OfNumber wish.desired ∷ OfOptional wish.max ∷ OfNumber polls ∷ OfNumber hold ∷ [] }
 action_statement (line.Wait n) = record { word = word.Wait; values = OfNumber n ∷ [] }
 
+-- `pick LETTERS`
 abbrev pub pick_statement : List Letter → Statement
 pick_statement letters = record { word = word.Pick; values = OfLetters letters ∷ [] }
 
+-- the `pick` line, if there is one
 abbrev pub pick_statements : Option (List Letter) → List Statement
 pick_statements None = []
 pick_statements (Some letters) = pick_statement letters ∷ []
 
+-- the lines of a scenario, in their order
 abbrev pub statements_of : Scenario → List Statement
 statements_of s = table_statement s.table ∷ clock_statement s.start s.step ∷ (map open_statement s.opens ++ (map cpu_statement s.cpus ++ (map cap_statement s.caps ++ (map action_statement s.actions ++ pick_statements s.picks))))
 
+-- the text of lines, each of which ends with a line feed
 unfoldable pub statements_text : List Statement → List ℕ
 statements_text statements = flat_map line_text (map line_of statements)
 

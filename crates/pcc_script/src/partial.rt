@@ -74,7 +74,7 @@ impl Partial {
 }
 
 /// The scenario, if each line that has to be was there and nothing stands behind the last line feed. `line` is the number of the line behind the last.
-#[tactic(auto, using(crate::proofs::Growing::no_table, crate::proofs::Growing::no_clock, crate::proofs::Growing::no_opens, crate::proofs::Growing::all_there))]
+#[tactic(auto, using(crate::proofs::Completing::no_table, crate::proofs::Completing::no_clock, crate::proofs::Completing::no_opens, crate::proofs::Completing::all_there))]
 pub fn complete(partial: Partial, last: &[u8], line: u32) -> Result<Scenario, ScriptError>
     requires { length (so_far partial) + 1 ≡ line }
     ensures { Tells statements_of result (ended_by None (so_far partial) last.now) }

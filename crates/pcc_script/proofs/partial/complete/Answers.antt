@@ -1,5 +1,5 @@
 use Rattle.std.proofs.Common.{rules, arith}
-use Rattle.pcc_script.proofs.Growing.{completed}
+use Rattle.pcc_script.proofs.Completing.{completed}
 use Rattle.pcc_script.proofs.partial.complete.Goals as goal
 
 pub returns : goal.returns
