@@ -1,5 +1,6 @@
 //! Clocks that number their readings, and the clock of a script, whose readings lie on a line.
 ghost use Rattle.std.specs.Prelude.{◌≡◌, ◌+◌, ◌-◌, ◌^◌, ◌<◌, ◌≤◌, ℕ, Option, IfSome, min};
+ghost use Rattle.pcc_causes.specs.Clock.{line_reading};
 ghost use Rattle.pcc_io.specs.LineClocks.{line_tells};
 
 use std::marker::Model;
@@ -53,7 +54,15 @@ impl Clock for LineClock {
 
     ghost tells = { line_tells };
 
-    fn now(&mut self) -> u64 {
+    fn now(&mut self) -> u64
+        ensures count { self.new.taken ≡ min (self.old.taken + 1) (2 ^ 64 - 1) }
+        ensures reading { self.old.taken < 2 ^ 64 - 1 → IfSome (line_tells self.old self.old.taken) (λ t. result ≡ t) }
+        ensures told { (k : ℕ) → line_tells self.new k ≡ line_tells self.old k }
+
+        // The clock of a script tells each reading, and a reading changes its count alone.
+        ensures exact { result ≡ line_reading self.old.start self.old.step self.old.added self.old.taken }
+        ensures rest { self.new ≡ record self.old { taken = self.new.taken } }
+    {
         let at = u128::from(self.start) + u128::from(self.taken) * u128::from(self.step);
         self.taken = self.taken.saturating_add(1);
         u64::try_from(at).unwrap_or(u64::MAX)
