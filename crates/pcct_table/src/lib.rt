@@ -1,0 +1,2 @@
+//! Definitions alone: the fields of the Platform Communications Channel Table (PCCT) and of its structures.
+#![tactic(auto)]
