@@ -1,7 +1,8 @@
 -- The tables that are served so far: one generic subspace, whose doorbell register can be written.
 use Rattle.std.specs.Prelude.{◌≡◌, ◌≤◌, ◌⊎◌, ℕ, List, [], ◌∷◌, drop, codes}
-use Rattle.pcct_table.specs.Rows.{header_size, head_fields, generic_fields, number_in, part_in}
+use Rattle.pcct_table.specs.Rows.{header_fields, header_size, head_fields, generic_fields, number_in, part_in}
 use Rattle.pcct_codec.specs.TableBytes.{IsTable}
+use Rattle.pcct_codec.specs.declared.first.FirstTable.{FirstTable}
 
 -- the bytes behind the header
 abbrev pub body_of : List ℕ → List ℕ
@@ -30,3 +31,12 @@ pub record IsServed (structure : List ℕ) : Type 0 where
 pub record IsFirstTable (bytes : List ℕ) : Type 0 where
   pub table : IsTable bytes (body_of bytes ∷ [])
   pub served : IsServed (body_of bytes)
+
+-- what a table with one generic subspace says
+abbrev pub told_by : List ℕ → FirstTable
+told_by bytes = record {
+  flags = number_in header_fields (codes "flags") bytes;
+  length = number_in generic_fields (codes "length") (body_of bytes);
+  rate = number_in generic_fields (codes "rate") (body_of bytes);
+  turnaround = number_in generic_fields (codes "turnaround") (body_of bytes);
+}

@@ -1,8 +1,7 @@
 //! A table with one structure, of type 0, as far as a channel over it is served.
-ghost use Rattle.std.specs.Prelude.{◌≡◌, ◌≤◌, ◌↔◌, MatchOption, IfSome, IsTrue, length, codes};
-ghost use Rattle.pcct_table.specs.Rows.{header_fields, generic_fields, number_in};
+ghost use Rattle.std.specs.Prelude.{◌≡◌, ◌≤◌, ◌↔◌, MatchOption, IfSome, IsTrue, length};
 ghost use Rattle.pcct_codec.specs.TableBytes.{IsHeader};
-ghost use Rattle.pcct_codec.specs.FirstTables.{IsDoorbell, IsServed, IsFirstTable, body_of};
+ghost use Rattle.pcct_codec.specs.FirstTables.{IsDoorbell, IsServed, IsFirstTable, told_by};
 
 use crate::places::{byte_sum, u8_at, u16_at, u32_at, u64_at};
 
@@ -60,12 +59,7 @@ fn is_served(structure: &[u8]) -> bool
 #[tactic(auto, using(crate::proofs::Parts::is_first, crate::proofs::Parts::first_size))]
 pub fn first_table(bytes: &[u8]) -> Option<FirstTable>
     ensures found { MatchOption result (IsFirstTable bytes.now → ⊥) (λ _. IsFirstTable bytes.now) }
-    ensures value { IfSome result (λ t. t ≡ record {
-      flags = number_in header_fields (codes "flags") bytes.now;
-      length = number_in generic_fields (codes "length") (body_of bytes.now);
-      rate = number_in generic_fields (codes "rate") (body_of bytes.now);
-      turnaround = number_in generic_fields (codes "turnaround") (body_of bytes.now);
-    }) }
+    ensures value { IfSome result (λ t. t ≡ told_by bytes.now) }
 {
     if bytes.len() != HEADER + GENERIC || byte_sum(bytes) % 256 != 0 || !is_header(bytes) {
         return None;
