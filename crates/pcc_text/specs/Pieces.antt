@@ -1,5 +1,5 @@
 -- A text as a list of pieces, each a text of its own, a number or bytes.
-use Rattle.std.specs.Prelude.{ℕ, List, decimal}
+use Rattle.std.specs.Prelude.{ℕ, if◌then◌else◌, List, decimal}
 use Rattle.std.specs.List.{flat_map}
 use Rattle.pcc_bytes.specs.Fields.{hex_text}
 use Rattle.pcc_text.specs.declared.writing.Piece.{Piece}
@@ -24,3 +24,5 @@ abbrev pub spelled_of : Piece → Spelled
 spelled_of (piece.Text text) = Words text.now
 spelled_of (piece.Number n) = Decimal n
 spelled_of (piece.Hex bytes) = HexOf bytes.now
+spelled_of (piece.Bytes bytes) = HexOf bytes.now
+spelled_of (piece.Either test first second) = Words (if test then first.now else second.now)

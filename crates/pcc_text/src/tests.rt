@@ -1,4 +1,5 @@
 use super::*;
+use pcc_io::Bytes;
 use std::test::Fail;
 
 // Between two cuts, and before and behind them, there is a part, empty or not.
@@ -43,7 +44,8 @@ fn reads_lower_case_bytes_alone(rt: HostRuntime) -> Result<(), Fail> {
 
 #[test]
 fn writes_pieces_behind_one_another(rt: HostRuntime) -> Result<(), Fail> {
-    let mut out = Vec::new(rt.alloc());
+    let alloc = rt.alloc();
+    let mut out = Vec::new(alloc);
     put(&mut out, b"4 ")?;
     put_number(&mut out, u64::MAX)?;
     put_hex(&mut out, &[0, 171])?;

@@ -4,7 +4,7 @@ ghost use Rattle.pcc_bytes.specs.Fields.{hex_text};
 ghost use Rattle.pcc_text.specs.Pieces.{spell, spelled, spelled_of};
 
 use itoa::Buffer;
-use pcc_io::NoMemory;
+use pcc_io::{Bytes, NoMemory};
 
 /// A piece of a text.
 #[derive(Clone, Copy)]
@@ -13,8 +13,12 @@ pub enum Piece<'a> {
     Text(&'a [u8]),
     /// A number in decimal.
     Number(u64),
-    /// Bytes in hexadecimal.
+    /// Bytes in hexadecimal, `-` for none.
     Hex(&'a [u8]),
+    /// The same of a list of bytes.
+    Bytes(&'a Bytes),
+    /// The first text where the test holds, and else the second.
+    Either(bool, &'a [u8], &'a [u8]),
 }
 
 /// Puts a text at the end.
@@ -56,10 +60,14 @@ fn put_piece(out: &mut Vec<u8>, piece: &Piece) -> Result<(), NoMemory>
         Piece::Text(text) => put(out, text),
         Piece::Number(n) => put_number(out, n),
         Piece::Hex(bytes) => put_hex(out, bytes),
+        Piece::Bytes(bytes) => put_hex(out, bytes.as_slice()),
+        Piece::Either(true, text, _) => put(out, text),
+        Piece::Either(false, _, text) => put(out, text),
     }
 }
 
-/// Puts pieces at the end, one behind the other.
+/// Puts pieces at the end, one behind the other. A caller is proved with no file of its own where its pieces are made without calls
+/// (`n as u64`, `&record.input`, `Either`), or are eight at most.
 #[tactic(auto, unfolding(crate::specs::Pieces::spelled), using(crate::proofs::Appending::appending_start, crate::proofs::Appending::appending_more, crate::proofs::Appending::appending_end, crate::proofs::Appending::pieces_text))]
 pub fn put_pieces(out: &mut Vec<u8>, pieces: &[Piece]) -> Result<(), NoMemory>
     ensures { OnOk result (out.new.items ≡ out.old.items ++ spelled (map spelled_of pieces.now)) }
