@@ -1,0 +1,6 @@
+pub mod Histories
+pub mod Replies
+pub mod Calls
+pub mod Steps
+pub mod Actions
+pub mod Tops

@@ -1,0 +1,9 @@
+pub mod Replies
+pub mod StepRun
+pub mod Histories
+pub mod ReplyText
+pub mod BankChannels
+pub mod SetUp
+pub mod Answers
+pub mod Statuses
+pub mod WorkedRuns

@@ -1,0 +1,14 @@
+//! The top call of the program: all that it does over a source and a sink that are handed in.
+#![tactic(auto)]
+
+mod channel;
+mod command;
+mod refusal;
+mod reply;
+mod served;
+mod step;
+mod top;
+mod worked;
+
+pub use top::{Finished, run};
+pub use worked::worked_runs;

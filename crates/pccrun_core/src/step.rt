@@ -1,0 +1,130 @@
+//! The command `step`: the lines of a script are run in one thread, and their replies and the journals are printed.
+ghost use Rattle.std.specs.Prelude.{◌≡◌, ◌≤◌, ◌<◌, ◌++◌, ◌+◌, ◌^◌, [], ◌∷◌, true, false, length, IfOk, OnOk};
+ghost use Rattle.std.specs.List.{AllByRecursion};
+ghost use Rattle.pcc_script.specs.Limits.{IsAction, IsWithin};
+ghost use Rattle.pcct_codec.specs.FirstTables.{told_by};
+ghost use Rattle.pccrun_core.specs.BankChannels.{channel_of, no_limits};
+ghost use Rattle.pccrun_core.specs.ReplyText.{replies_text};
+ghost use Rattle.pccrun_core.specs.StepRun.{step_run, turn_of};
+ghost use Rattle.pccrun_core.specs.SetUp.{IsPromptCall, IsServedScript, room_limit, room_of, step_text};
+
+use crate::channel::BankChannel;
+use crate::reply::put_reply;
+use pcc_io::NoMemory;
+use pcc_journal::{JournalHead, put_journal};
+use pcc_script::{Actions, Line, Scenario};
+use pcct_codec::FirstTable;
+use rate_limit::Limits;
+use std::alloc::Global;
+
+/// How many bytes a communication space has at most.
+const ROOM_LIMIT: u64 = 4096;
+
+/// The line of the first action in a served script, behind a `table`, a `clock` and an `open` line.
+const FIRST_ACTION: u64 = 4;
+
+// Runs a line, and puts its reply at the end.
+#[tactic(auto, using(crate::proofs::Steps::turn_is))]
+fn run_line(
+    alloc: Global,
+    out: &mut Vec<u8>,
+    bank: &mut BankChannel,
+    line: u64,
+    action: &Line,
+) -> Result<(), NoMemory>
+    requires within { IsAction action.now }
+    requires served { IsPromptCall action.now }
+    requires first { bank.old.head.id ≡ 0 }
+    ensures reply { OnOk result (let t = turn_of action.now (channel_of bank.old ∷ []) in out.new.items ≡ out.old.items ++ replies_text line (t.reply ∷ [])) }
+    ensures bank { OnOk result (let t = turn_of action.now (channel_of bank.old ∷ []) in t.channels ≡ channel_of bank.new ∷ []) }
+    ensures head { bank.new.head ≡ bank.old.head }
+{
+    match action {
+        Line::Call {
+            worker,
+            code,
+            bytes,
+            ..
+        } => {
+            let outcome = bank.call(alloc, *worker, *code, bytes.as_slice())?;
+            put_reply(out, line, outcome, bank.records())
+        }
+        _ => unreachable!(),
+    }
+}
+
+// Runs lines from a number on, and puts their replies at the end.
+#[tactic(auto, using(crate::proofs::Steps::going_start, crate::proofs::Steps::going_more, crate::proofs::Steps::going_end))]
+fn run_lines(
+    alloc: Global,
+    out: &mut Vec<u8>,
+    bank: &mut BankChannel,
+    first: u64,
+    actions: &Actions,
+) -> Result<(), NoMemory>
+    requires within { AllByRecursion IsAction actions.now }
+    requires few { length actions.now ≤ 65536 }
+    requires low { first < 2 ^ 32 }
+    requires served { AllByRecursion IsPromptCall actions.now }
+    requires id { bank.old.head.id ≡ 0 }
+    ensures replies { OnOk result (let r = step_run actions.now (channel_of bank.old ∷ []) in out.new.items ≡ out.old.items ++ replies_text first r.replies) }
+    ensures bank { OnOk result (let r = step_run actions.now (channel_of bank.old ∷ []) in r.channels ≡ channel_of bank.new ∷ []) }
+    ensures head { bank.new.head ≡ bank.old.head }
+{
+    for i in 0..actions.len() {
+        run_line(alloc, out, bank, first + i as u64, actions.at(i))?;
+    }
+    Ok(())
+}
+
+// The bytes of the communication space in a shared memory of this length.
+fn room_for(len: u64) -> u32
+    ensures room { result ≡ room_of len }
+    ensures small { result ≤ room_limit }
+{
+    let words = len.saturating_sub(8) / 8 * 8;
+    if words < ROOM_LIMIT {
+        words as u32
+    } else {
+        ROOM_LIMIT as u32
+    }
+}
+
+// The head of the journal of a served script.
+fn head_for(table: &FirstTable) -> JournalHead
+    requires rate { table.now.rate ≡ 0 }
+    requires turnaround { table.now.turnaround ≡ 0 }
+    ensures { result ≡ record { id = 0; kind = 0; cppc = false; room = room_of table.now.length; limits = no_limits; reports = true } }
+{
+    JournalHead {
+        id: 0,
+        kind: 0,
+        cppc: false,
+        room: room_for(table.length),
+        limits: Limits {
+            turnaround: u32::from(table.turnaround),
+            per_minute: table.rate,
+        },
+        reports: true,
+    }
+}
+
+/// The text of `step` for a served script.
+#[tactic(auto, unfolding(crate::specs::SetUp::step_text))]
+pub fn step_answer(
+    alloc: Global,
+    scenario: &Scenario,
+    table: &FirstTable,
+) -> Result<Vec<u8>, NoMemory>
+    requires within { IsWithin scenario.now }
+    requires served { IsServedScript scenario.now }
+    requires table { table.now ≡ told_by scenario.now.table }
+    ensures { IfOk result (λ v. v.items ≡ step_text scenario.now) }
+{
+    let head = head_for(table);
+    let mut out = Vec::new(alloc);
+    let mut bank = BankChannel::new(alloc, head, scenario.start, scenario.step)?;
+    run_lines(alloc, &mut out, &mut bank, FIRST_ACTION, &scenario.actions)?;
+    put_journal(&mut out, &head, bank.records(), None)?;
+    Ok(out)
+}

@@ -1,0 +1,184 @@
+//! The top call of every command that needs no threads.
+ghost use Rattle.std.specs.Prelude.{◌≡◌, ◌≢◌, ◌≤◌, ◌<◌, List, ℕ, IfOk, IfErr, IsErrOf, MatchOption, length, map};
+ghost use Rattle.std.specs.String.{string_bytes};
+ghost use Rattle.std.specs.Io.KnownBytes.{Appends, Keeps};
+ghost use Rattle.pcc_causes.specs.Causes.{AppendsPrefix, Rose};
+ghost use Rattle.pcc_script.specs.Text.{IsScenario, script_text};
+ghost use Rattle.pcc_script.specs.declared.scenario.Scenario.{Scenario};
+ghost use Rattle.pccrun_core.specs.Answers.{Answers, AsksFor, IsServedInput, IsStep, IsUnbuilt, input_limit, refused_line};
+ghost use Rattle.pccrun_core.specs.SetUp.{IsServedScript, step_text};
+ghost use Rattle.pccrun_core.specs.Statuses.{code_of};
+ghost use Rattle.pccrun_core.specs.declared.command.Command.{Command};
+ghost use Rattle.pccrun_core.specs.declared.top.Stop.TheVariants.{NoMemory as OutOfMemory};
+
+use crate::command::{Command, command_of, usage};
+use crate::refusal::Refusal;
+use crate::served::served_table;
+use crate::step::step_answer;
+use pcc_io::{NoMemory, ReadEnd, Sink, Source, WriteFault, read_to_end, write_whole};
+use pcc_script::{ScriptError, scenario_from, within_limits};
+use std::alloc::Global;
+
+/// How many bytes of input are read at most.
+const INPUT_LIMIT: usize = 4_194_304;
+
+/// How the program ended.
+#[derive(Clone, Copy, Debug, PartialEq, Eq)]
+pub struct Finished {
+    /// The exit status: 0 the command's text was written, 2 the usage line, 3 the line of a refused input; 4 the source failed, 5 the
+    /// sink failed, 6 memory ran out.
+    pub status: u8,
+}
+
+/// What ends the program, by its exit status.
+#[derive(Clone, Copy, Debug, PartialEq, Eq)]
+enum Status {
+    Done = 0,
+    Usage = 2,
+    Refused = 3,
+    ReadFault = 4,
+    WriteFault = 5,
+    NoMemory = 6,
+}
+
+// A text that is to be written, and the status behind it.
+#[derive(Drop)]
+struct Answer {
+    status: Status,
+    text: Vec<u8>,
+}
+
+// Why there is nothing to write.
+#[derive(Clone, Copy)]
+enum Stop {
+    ReadFault,
+    NoMemory,
+}
+
+impl From<NoMemory> for Stop {
+    ghost from_gives = { λ _ e. e ≡ OutOfMemory };
+
+    fn from(_: NoMemory) -> Stop {
+        Stop::NoMemory
+    }
+}
+
+fn copy_of(alloc: Global, text: &[u8]) -> Result<Vec<u8>, NoMemory>
+    ensures { IfOk result (λ v. v.items ≡ text.now) }
+{
+    Ok(Vec::from_slice(alloc, text)?)
+}
+
+// The text of `step`, or None where the text spells no script that is served.
+#[tactic(auto, using(crate::proofs::Tops::served_histories))]
+fn step_of(alloc: Global, text: &[u8]) -> Result<Option<Vec<u8>>, NoMemory>
+    requires { length text.now ≤ input_limit }
+    ensures { IfOk result (λ o. MatchOption o (IsUnbuilt text.now) (λ v. (s : Scenario) × IsStep text.now s × (v.items ≡ step_text s))) }
+{
+    within_limits();
+    let scenario = match scenario_from(alloc, text) {
+        Ok(scenario) => scenario,
+        Err(ScriptError::NoMemory) => return Err(NoMemory),
+        Err(ScriptError::Fault { .. }) => return Ok(None),
+    };
+    match served_table(&scenario) {
+        None => Ok(None),
+        Some(table) => Ok(Some(step_answer(alloc, &scenario, &table)?)),
+    }
+}
+
+// What the words and the bytes of the source lead to.
+#[tactic(auto, using(crate::proofs::Tops::usage, crate::proofs::Tops::stepped, crate::proofs::Tops::not_built, crate::proofs::Tops::too_long))]
+fn answer_to<S: Source>(alloc: Global, words: &[String], source: &mut S) -> Result<Answer, Stop>
+    ensures answer { IfOk result (λ a. Answers (map (λ w. string_bytes w) words.now) (S.left source.old) (S.left source.new) (code_of a.status) a.text.items) }
+    ensures read_fault { IsErrOf result Stop.ReadFault → ((c : Command) × AsksFor (map (λ w. string_bytes w) words.now) c) × Rose (S.faults source.old) (S.faults source.new) }
+    ensures unasked { ((c : Command) → AsksFor (map (λ w. string_bytes w) words.now) c → ⊥) → source.new ≡ source.old }
+{
+    let Some(command) = command_of(words) else {
+        let text = copy_of(alloc, usage())?;
+        return Ok(Answer {
+            status: Status::Usage,
+            text,
+        });
+    };
+    let bytes = match read_to_end(alloc, source, INPUT_LIMIT) {
+        Ok(bytes) => bytes,
+        Err(ReadEnd::ReadFault) => return Err(Stop::ReadFault),
+        Err(ReadEnd::NoMemory) => return Err(Stop::NoMemory),
+        Err(ReadEnd::TooLong { .. }) => return refused(alloc, Refusal::Long),
+    };
+    let text = match command {
+        Command::Step => step_of(alloc, &bytes)?,
+    };
+    match text {
+        Some(text) => Ok(Answer {
+            status: Status::Done,
+            text,
+        }),
+        None => refused(alloc, Refusal::Unbuilt),
+    }
+}
+
+fn refused(alloc: Global, refusal: Refusal) -> Result<Answer, Stop>
+    ensures line { IfOk result (λ a. (a.status ≡ Status.Refused) × (a.text.items ≡ refused_line refusal)) }
+    ensures memory { IfErr result (λ e. e ≡ Stop.NoMemory) }
+{
+    let text = copy_of(alloc, refusal.line())?;
+    Ok(Answer {
+        status: Status::Refused,
+        text,
+    })
+}
+
+/// Does all that the program does for a command without threads: tests the words, reads the source to its end, runs the command, and
+/// writes its whole text. It always returns.
+#[tactic(auto, using(crate::proofs::Tops::served_input_runs))]
+pub fn run<S: Source, W: Sink>(
+    alloc: Global,
+    words: &[String],
+    source: &mut S,
+    sink: &mut W,
+) -> Finished
+    ensures known { result.status ≤ 6 }
+
+    // The text that the words and the bytes lead to was written whole.
+    ensures written { result.status < 4 → (text : List ℕ)
+        × Answers (map (λ w. string_bytes w) words.now) (S.left source.old) (S.left source.new) result.status text
+        × Appends (W.held sink.old) (W.held sink.new) text }
+
+    // Only the source can make it 4, where it is read, and nothing is written then.
+    ensures read_fault { result.status ≡ 4 → ((c : Command) × AsksFor (map (λ w. string_bytes w) words.now) c)
+        × Rose (S.faults source.old) (S.faults source.new) × Keeps (W.held sink.old) (W.held sink.new) }
+
+    // Only the sink can make it 5, and a prefix of that text was written then.
+    ensures write_fault { result.status ≡ 5 → Rose (W.faults sink.old) (W.faults sink.new) × ((status : ℕ) × (text : List ℕ)
+        × Answers (map (λ w. string_bytes w) words.now) (S.left source.old) (S.left source.new) status text
+        × AppendsPrefix (W.held sink.old) (W.held sink.new) text) }
+    ensures memory { result.status ≡ 6 → Keeps (W.held sink.old) (W.held sink.new) }
+
+    // A served script is run, where neither source nor sink fails and memory doesn't run out.
+    ensures complete { IsServedInput (map (λ w. string_bytes w) words.now) (S.left source.old)
+        → (Rose (S.faults source.old) (S.faults source.new) → ⊥) → (Rose (W.faults sink.old) (W.faults sink.new) → ⊥)
+        → result.status ≢ 6 → result.status ≡ 0 }
+
+    // Words that ask for no command leave the source as it was.
+    ensures unasked { ((c : Command) → AsksFor (map (λ w. string_bytes w) words.now) c → ⊥) → source.new ≡ source.old }
+{
+    let answer = match answer_to(alloc, words, source) {
+        Ok(answer) => answer,
+        Err(Stop::ReadFault) => return ended(Status::ReadFault),
+        Err(Stop::NoMemory) => return ended(Status::NoMemory),
+    };
+    match write_whole(sink, &answer.text) {
+        Ok(()) => ended(answer.status),
+        Err(WriteFault) => ended(Status::WriteFault),
+    }
+}
+
+fn ended(status: Status) -> Finished
+    ensures { result ≡ record { status = code_of status } }
+{
+    Finished {
+        status: status as u8,
+    }
+}
