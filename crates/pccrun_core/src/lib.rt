@@ -12,3 +12,6 @@ mod worked;
 
 pub use top::{Finished, run};
 pub use worked::worked_runs;
+
+#[cfg(test)]
+mod tests;

@@ -1,0 +1,63 @@
+//! What is kept of each command.
+ghost use Rattle.std.specs.Prelude.{◌≡◌, [], ◌∷◌, true, false};
+ghost use Rattle.pcc_journal.specs.Records.{exchanges_of, times_of};
+
+use pcc_io::Bytes;
+
+/// A command that was answered.
+#[derive(Debug, Drop)]
+pub struct Record {
+    /// The number of the caller.
+    pub caller: u32,
+    /// The command's code.
+    pub code: u32,
+    /// The whole communication space as it was sent.
+    pub input: Bytes,
+    /// Whether the responder told an error.
+    pub error: bool,
+    /// The whole communication space as it came back.
+    pub output: Bytes,
+    /// The reading at which it was posted, in microseconds.
+    pub post: u64,
+    /// The reading at which its completion was seen, in microseconds.
+    pub done: u64,
+    /// Whether the caller had given the command up before it was complete.
+    pub late: bool,
+}
+
+/// A command that was posted and isn't complete.
+#[derive(Debug, Drop)]
+pub struct Pending {
+    /// The number of the caller.
+    pub caller: u32,
+    /// The command's code.
+    pub code: u32,
+    /// The whole communication space as it was sent.
+    pub input: Bytes,
+    /// The reading at which it was posted, in microseconds.
+    pub post: u64,
+}
+
+/// The definitions on a record. It does nothing.
+pub fn worked_cases()
+    ensures exchanges { exchanges_of (record {
+      caller = 3;
+      code = 16;
+      input = 1 ∷ [];
+      error = true;
+      output = 2 ∷ [];
+      post = 10;
+      done = 20;
+      late = false;
+    } ∷ []) ≡ record { code = 16; input = 1 ∷ []; error = true; output = 2 ∷ [] } ∷ [] }
+    ensures times { times_of (record {
+      caller = 3;
+      code = 16;
+      input = 1 ∷ [];
+      error = true;
+      output = 2 ∷ [];
+      post = 10;
+      done = 20;
+      late = false;
+    } ∷ []) ≡ record { post = 10; done = 20 } ∷ [] }
+{}
