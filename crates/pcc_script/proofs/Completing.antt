@@ -1,11 +1,11 @@
 -- Whether what was read is whole, and the scenario that it then is.
 use Rattle.std.proofs.Common.{◌≡◌, ℕ, ◌+◌, ◌<◌, List, [], ◌∷◌, ◌++◌, length, map, refl, arith, leb, Bool, true, false}
-use Rattle.std.specs.Prelude.{Option, Some, None, ◌&&◌}
+use Rattle.std.specs.Prelude.{Option, Some, None, Ok, ◌&&◌}
 use Rattle.std.proofs.lemmas.Bool.Decides.{nat_tests}
 use Rattle.pcc_script.specs.declared.partial.ClockLine.{ClockLine}
 use Rattle.pcc_script.specs.declared.partial.Partial.{Partial}
-use Rattle.pcc_script.specs.Reading.{clocks, ended_by, is_whole, so_far, tables}
-use Rattle.pcc_script.specs.Text.{count_at, open_statement, statements_of}
+use Rattle.pcc_script.specs.Reading.{clocks, Completes, is_whole, so_far, tables}
+use Rattle.pcc_script.specs.Text.{count_at, open_statement}
 use Rattle.pcc_script.proofs.Counting.{all_opens, behind_opens, count_append, none_behind, none_opens}
 
 counts : (n : ℕ) (p : Partial) → count_at n (so_far p) ≡ count_at n (tables p.table) + (count_at n (clocks p.clock) + (count_at n (map open_statement p.opens) + count_at n (behind_opens p.cpus p.caps p.actions p.picks)))
@@ -59,6 +59,6 @@ pub all_there : (p : Partial) (t : List ℕ) (c : ClockLine) → p.table ≡ Som
 all_there p t c e k h = rw (count_0 p, count_1 p, count_2 p, e, k, one_leb (length p.opens) h) refl
 
 pub completed : (p : Partial) (last : List ℕ) (t : List ℕ) (c : ClockLine) → length last ≡ 0 → p.table ≡ Some t → p.clock ≡ Some c → 0 < length p.opens
-    → ended_by None (so_far p) last ≡ record { right = statements_of (record { table = t; start = c.start; step = c.step; opens = p.opens; cpus = p.cpus; caps = p.caps; actions = p.actions; picks = p.picks }); fault = None }
-completed p [] t c z e k h = rw (all_there p t c e k h, e, k) refl
+    → Completes (Ok (record { table = t; start = c.start; step = c.step; opens = p.opens; cpus = p.cpus; caps = p.caps; actions = p.actions; picks = p.picks })) (so_far p) last
+completed p [] t c z e k h = (rw (all_there p t c e k h) refl, rw (e, k) refl)
 completed p (b ∷ bs) t c z e k h = absurd (omega arith)

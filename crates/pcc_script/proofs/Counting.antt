@@ -10,7 +10,7 @@ use Rattle.pcc_script.specs.declared.scenario.OpenLine.{OpenLine}
 use Rattle.pcc_script.specs.declared.word.Word.{Word}
 use Rattle.pcc_script.specs.declared.word.Word.TheVariants as word
 use Rattle.pcc_script.specs.Rows.{behind, place}
-use Rattle.pcc_script.specs.Text.{action_statement, cap_statement, count_at, cpu_statement, next_of, open_statement, pick_statement, pick_statements, Statement}
+use Rattle.pcc_script.specs.Text.{action_statement, cap_statement, count_at, cpu_statement, next_of, open_statement, pick_statements, Statement}
 
 pub place_behind : (w : Word) → place w ≤ behind w
 place_behind word.Table = omega arith

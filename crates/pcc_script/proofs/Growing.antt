@@ -1,9 +1,7 @@
 -- A line is put at the end of what is read so far.
-use Rattle.std.proofs.Common.{◌≡◌, ℕ, ◌+◌, ◌<◌, ◌≤◌, List, [], ◌∷◌, ◌++◌, length, map, refl, arith, eqb, leb, cond, lit<, Bool, true, false}
-use Rattle.std.specs.Prelude.{Option, Some, None, ◌&&◌}
-use Rattle.std.proofs.lemmas.Bool.Decides.{nat_tests}
+use Rattle.std.proofs.Common.{◌≡◌, ℕ, ◌≤◌, List, [], ◌∷◌, ◌++◌, refl, arith, lit<}
+use Rattle.std.specs.Prelude.{Some}
 use Rattle.pcc_script.specs.Rows.{place}
-use Rattle.pcc_script.specs.declared.scenario.Line.TheVariants as line
 use Rattle.pcc_script.specs.declared.word.Word.TheVariants as word
 use Rattle.std.proofs.lemmas.List.{append_assoc, append-nil, map-append}
 use Rattle.pcc_script.specs.declared.scenario.OpenLine.{OpenLine}
@@ -12,9 +10,9 @@ use Rattle.pcc_script.specs.declared.scenario.Letter.{Letter}
 use Rattle.pcc_script.specs.declared.scenario.Line.{Line}
 use Rattle.pcc_script.specs.declared.partial.Partial.{Partial}
 use Rattle.pcc_script.specs.declared.partial.ClockLine.{ClockLine}
-use Rattle.pcc_script.specs.Text.{Statement, count_at, statements_of, table_statement, clock_statement, open_statement, cpu_statement, cap_statement, action_statement, pick_statement, pick_statements}
+use Rattle.pcc_script.specs.Text.{table_statement, clock_statement, open_statement, cpu_statement, cap_statement, action_statement, pick_statement}
 use Rattle.pcc_script.proofs.Counting.{action_place}
-use Rattle.pcc_script.specs.Reading.{tables, clocks, so_far, Empty, is_whole, ended_by}
+use Rattle.pcc_script.specs.Reading.{so_far, Empty}
 
 -- where the next line stands at a place or behind it, there is nothing behind that place
 pub empty_later : (next place : ℕ) (p : Partial) → next ≤ place → Empty next p → Empty place p

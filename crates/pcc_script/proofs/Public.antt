@@ -1,24 +1,11 @@
 -- What a caller is told of a text.
-use Rattle.std.proofs.Common.{◌≡◌, ℕ, suc, List, [], ◌∷◌, ◌++◌, length, map, refl, sym, ap, ◌∙◌}
-use Rattle.std.specs.Prelude.{Option, Some, None, Result, Ok, Err, IfOk}
-use Rattle.std.specs.List.{filter_map}
-use Rattle.std.proofs.lemmas.List.{append-nil}
-use Rattle.std.proofs.lemmas.List.Elements.{filter_map-append}
-use Rattle.pcc_script.specs.declared.word.Word.{Word}
-use Rattle.pcc_script.specs.declared.word.Word.TheVariants as word
-use Rattle.pcc_script.specs.declared.scenario.Device.{Device}
-use Rattle.pcc_script.specs.declared.scenario.Device.TheVariants.{Bank, Cppc}
-use Rattle.pcc_script.specs.declared.scenario.Line.{Line}
-use Rattle.pcc_script.specs.declared.scenario.Line.TheVariants as line
-use Rattle.pcc_script.specs.declared.scenario.OpenLine.{OpenLine}
-use Rattle.pcc_script.specs.declared.scenario.CapLine.{CapLine}
-use Rattle.pcc_script.specs.declared.scenario.Letter.{Letter}
+use Rattle.std.proofs.Common.{◌≡◌, ℕ, suc, List, length, refl, sym, ap, ◌∙◌}
+use Rattle.std.specs.Prelude.{Some, None, Result, Ok, Err, IfOk}
 use Rattle.pcc_script.specs.declared.scenario.Scenario.{Scenario}
 use Rattle.pcc_script.specs.declared.fault.ScriptKind.{ScriptKind}
 use Rattle.pcc_script.specs.declared.fault.ScriptError.{ScriptError}
 use Rattle.pcc_script.specs.declared.fault.ScriptError.TheVariants as error
-use Rattle.pcc_script.specs.Rows.{Value, OfNumber, OfOptional, OfBytes, OfDevice, OfLetters, NamedBank, NamedCppc}
-use Rattle.pcc_script.specs.Text.{Statement, table_statement, clock_statement, open_statement, cpu_statement, cap_statement, action_statement, pick_statement, pick_statements, statements_of, IsScenario, script_text}
+use Rattle.pcc_script.specs.Text.{Statement, statements_of, IsScenario, script_text}
 use Rattle.pcc_script.specs.Faults.{IfFault, IsReadAs, IsRefusedAt, TextWrong}
 use Rattle.pcc_script.specs.Reading.{Lines, read_text, Tells}
 use Rattle.pcc_script.proofs.Script.{reads_found, reads_again, reads_wrong, reads_fails}

@@ -7,7 +7,6 @@ use Rattle.std.proofs.lemmas.List.Folds.{list_all-append}
 use Rattle.pcc_bytes.specs.Fields.{split_at, joined}
 use Rattle.pcc_text.proofs.Laws.{lacks, EachLacks, split_join, text_of_parts}
 use Rattle.pcc_script.specs.declared.word.Word.{Word}
-use Rattle.pcc_script.specs.declared.word.Word.TheVariants as word
 use Rattle.pcc_script.specs.declared.order.Seen.{Seen}
 use Rattle.pcc_script.specs.declared.line.Entry.{Entry}
 use Rattle.pcc_script.specs.declared.fault.Stop.{Stop}

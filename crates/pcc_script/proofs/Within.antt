@@ -1,9 +1,8 @@
 -- A scenario has a text exactly where it is within the limits.
-use Rattle.std.proofs.Common.{◌≡◌, ℕ, ◌+◌, ◌<◌, ◌≤◌, eqb, max, cond, List, [], ◌∷◌, ◌++◌, length, map, refl, sym, ap, subst, arith}
+use Rattle.std.proofs.Common.{◌≡◌, ℕ, ◌+◌, ◌<◌, ◌≤◌, List, [], ◌∷◌, ◌++◌, length, map, refl, sym, subst, arith}
 use Rattle.std.specs.List.{AllByRecursion}
-use Rattle.std.proofs.lemmas.Bool.Decides.{nat_tests}
 use Rattle.std.proofs.lemmas.List.{append_assoc, append-nil}
-use Rattle.pcc_script.specs.Rows.{place, behind, most, steps_of, letter_text, OfNumber, OfOptional, OfBytes, Limit, Worker, Cpu, Id, Code, Polls, Hold, Any, NamedBank, NamedCppc, Whole, Positive, Optional, HexBytes, LetterText, OfLetters, IsOf, most_of}
+use Rattle.pcc_script.specs.Rows.{steps_of, letter_text, OfNumber, OfOptional, OfBytes, Limit, Worker, Cpu, Id, Code, Polls, Hold, Any, NamedBank, NamedCppc, Whole, Positive, Optional, HexBytes, LetterText, OfLetters, IsOf, most_of}
 use Rattle.pcc_bytes.specs.Bytes.{IsBytes}
 use Rattle.pcc_script.specs.declared.limits.TheConstants.{MAX_ACTIONS, MAX_CAPS, MAX_CPUS, MAX_ID, MAX_LETTERS, MAX_OPENS, MAX_POLLS}
 use Rattle.pcc_script.specs.Text.{Statement, fields_of, next_of, count_at, AllRight, InOrder, table_statement, clock_statement, open_statement, cpu_statement, cap_statement, action_statement, pick_statement, pick_statements, statements_of, IsScenario}

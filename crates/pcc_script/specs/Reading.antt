@@ -15,10 +15,11 @@ use Rattle.pcc_script.specs.declared.partial.ClockLine.{ClockLine}
 use Rattle.pcc_script.specs.declared.partial.Partial.{Partial}
 use Rattle.pcc_script.specs.declared.scenario.Letter.{Letter}
 use Rattle.pcc_script.specs.declared.scenario.Letter.TheVariants.{O, P}
+use Rattle.pcc_script.specs.declared.scenario.Scenario.{Scenario}
 use Rattle.pcc_script.specs.declared.word.Word.{Word}
 use Rattle.pcc_script.specs.declared.word.Word.TheVariants as word
 use Rattle.pcc_script.specs.Rows.{Any, AtLeast, AtMost, behind, DeviceText, Exactly, field_at, HexBytes, Kind, LetterText, most, most_of, NamedBank, NamedCppc, OfBytes, OfDevice, OfLetters, OfNumber, OfOptional, Optional, place, Positive, Step, steps_of, Takes, text_of, Value, Whole, words}
-use Rattle.pcc_script.specs.Text.{action_statement, cap_statement, clock_statement, count_at, cpu_statement, open_statement, pick_statement, pick_statements, Statement, table_statement}
+use Rattle.pcc_script.specs.Text.{action_statement, cap_statement, clock_statement, count_at, cpu_statement, open_statement, pick_statement, pick_statements, Statement, statements_of, table_statement}
 
 infixl 10 ◌>>=◌
 abbrev pub ◌>>=◌ : {A B : Type 0} → Result A ScriptKind → (A → Result B ScriptKind) → Result B ScriptKind
@@ -208,6 +209,11 @@ is_whole statements = nat_le 1 (count_at (place word.Table) statements) && (nat_
 abbrev pub end_fault : List Statement → List ℕ → Option ScriptKind
 end_fault statements [] = if is_whole statements then None else Some kind.Missing
 end_fault statements (b ∷ bs) = Some kind.Newline
+
+-- a function took these lines to the scenario that they are, or told what is wrong behind the last line feed
+abbrev pub Completes : Result Scenario ScriptKind → List Statement → List ℕ → Type 0
+Completes (Ok s) statements last = (end_fault statements last ≡ None) × (statements ≡ statements_of s)
+Completes (Err k) statements last = end_fault statements last ≡ Some k
 
 abbrev pub ended_by : Option ScriptKind → List Statement → List ℕ → Lines
 ended_by (Some k) statements last = record { right = statements; fault = Some k }

@@ -40,9 +40,8 @@ pub fn positive_field(fields: &[&[u8]], place: usize, limit: u64) -> Result<u64,
     ensures bound { IfOk result (λ n. n ≤ limit) }
 {
     match number(part(fields, place), limit) {
-        Some(0) => Err(Stop::Wrong(ScriptKind::Number)),
+        Some(0) | None => Err(Stop::Wrong(ScriptKind::Number)),
         Some(n) => Ok(n),
-        None => Err(Stop::Wrong(ScriptKind::Number)),
     }
 }
 
@@ -95,13 +94,7 @@ pub fn letters_field(alloc: Global, fields: &[&[u8]], place: usize) -> Result<Pi
     ensures { Gives OfLetters result (letters_value (letters_of (field_at (map (λ field. field.now) fields.now) place))) }
 {
     match letters(alloc, part(fields, place))? {
-        Some(letters) => {
-            if letters.len() == 0 {
-                Err(Stop::Wrong(ScriptKind::Name))
-            } else {
-                Ok(letters)
-            }
-        }
-        None => Err(Stop::Wrong(ScriptKind::Name)),
+        Some(letters) if letters.len() > 0 => Ok(letters),
+        _ => Err(Stop::Wrong(ScriptKind::Name)),
     }
 }

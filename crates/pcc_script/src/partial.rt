@@ -1,10 +1,9 @@
 //! The scenario that grows line by line.
-ghost use Rattle.std.specs.Prelude.{◌≡◌, ◌+◌, ◌++◌, ◌∷◌, [], None, ℕ, IfOk, length};
+ghost use Rattle.std.specs.Prelude.{◌≡◌, ◌++◌, ◌∷◌, [], ℕ, IfOk};
 ghost use Rattle.pcc_script.specs.Rows.{behind, place};
-ghost use Rattle.pcc_script.specs.Text.{statements_of};
-ghost use Rattle.pcc_script.specs.Reading.{Empty, ended_by, entry_statement, so_far, Tells};
+ghost use Rattle.pcc_script.specs.Reading.{Completes, Empty, entry_statement, so_far};
 
-use crate::fault::{ScriptError, ScriptKind};
+use crate::fault::ScriptKind;
 use crate::line::Entry;
 use crate::scenario::{Actions, CapLines, Opens, Packages, Picks, Scenario};
 use pcc_io::{Bytes, NoMemory};
@@ -73,18 +72,14 @@ impl Partial {
     }
 }
 
-/// The scenario, if each line that has to be was there and nothing stands behind the last line feed. `line` is the number of the line behind the last.
+/// The scenario, if nothing stands behind the last line feed and each line that has to be was there.
 #[tactic(auto, using(crate::proofs::Completing::no_table, crate::proofs::Completing::no_clock, crate::proofs::Completing::no_opens, crate::proofs::Completing::all_there))]
-pub fn complete(partial: Partial, last: &[u8], line: u32) -> Result<Scenario, ScriptError>
-    requires { length (so_far partial) + 1 ≡ line }
-    ensures { Tells statements_of result (ended_by None (so_far partial) last.now) }
+pub fn complete(partial: Partial, last: &[u8]) -> Result<Scenario, ScriptKind>
+    ensures { Completes result (so_far partial) last.now }
 {
     if !last.is_empty() {
-        let kind = ScriptKind::Newline;
-        return Err(ScriptError::Fault { line, kind });
+        return Err(ScriptKind::Newline);
     }
-    let kind = ScriptKind::Missing;
-    let missing = ScriptError::Fault { line, kind };
     let Partial {
         table,
         clock,
@@ -95,13 +90,13 @@ pub fn complete(partial: Partial, last: &[u8], line: u32) -> Result<Scenario, Sc
         picks,
     } = partial;
     let Some(table) = table else {
-        return Err(missing);
+        return Err(ScriptKind::Missing);
     };
     let Some(clock) = clock else {
-        return Err(missing);
+        return Err(ScriptKind::Missing);
     };
     if opens.len() == 0 {
-        return Err(missing);
+        return Err(ScriptKind::Missing);
     }
     Ok(Scenario {
         table,

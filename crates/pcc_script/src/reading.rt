@@ -64,7 +64,13 @@ fn finish(alloc: Global, lines: &[&[u8]], last: &[u8]) -> Result<Scenario, Scrip
     ensures { Tells statements_of result (ended (read_lines start (map (λ line. line.now) lines.now)) last.now) }
 {
     let partial = read_all(alloc, lines)?;
-    complete(partial, last, lines.len() as u32 + 1)
+    match complete(partial, last) {
+        Ok(scenario) => Ok(scenario),
+        Err(kind) => {
+            let line = lines.len() as u32 + 1;
+            Err(ScriptError::Fault { line, kind })
+        }
+    }
 }
 
 /// The scenario that a text spells, or its first fault, as reading finds them.
