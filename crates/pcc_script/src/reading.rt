@@ -89,7 +89,7 @@ fn read(alloc: Global, text: &[u8]) -> Result<Scenario, ScriptError>
 /// The scenario that a text spells. A text spells at most one, and each scenario within the limits has one text.
 ///
 /// A line feed ends each line, and one space stands between two fields. Numbers are decimal without leading zeros, bytes are lower-case hexadecimal digits, or `-` for none.
-/// The lines are, in this order: one `table HEX`, one `clock START STEP`, 1 to 8 `open ID bank` or `open ID cppc HEX`, up to 16 `cpu HEX`, up to 64 `cap ID COUNT VALUE`, up to 65,536 actions (`call WORKER ID CODE HEX POLLS HOLD`, `read WORKER CPU POLLS HOLD`, `set WORKER CPU MIN DESIRED MAX POLLS HOLD`, `wait N`) and at most one `pick LETTERS`.
+/// The lines are, in this order: one `table HEX`, one `clock START STEP`, 1 to `MAX_OPENS` lines `open ID bank` or `open ID cppc HEX`, up to `MAX_CPUS` lines `cpu HEX`, up to `MAX_CAPS` lines `cap ID COUNT VALUE`, up to `MAX_ACTIONS` actions (`call WORKER ID CODE HEX POLLS HOLD`, `read WORKER CPU POLLS HOLD`, `set WORKER CPU MIN DESIRED MAX POLLS HOLD`, `wait N`) and at most one `pick LETTERS`.
 #[tactic(auto, using(crate::proofs::Public::is_found, crate::proofs::Public::is_only, crate::proofs::Public::is_wrong, crate::proofs::Public::is_first))]
 pub fn scenario_from(alloc: Global, text: &[u8]) -> Result<Scenario, ScriptError>
     requires { length text.now < 2 ^ 32 - 1 }
