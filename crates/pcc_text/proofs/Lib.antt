@@ -1,4 +1,6 @@
+pub mod DigitTable
 pub mod Splitting
 pub mod Numerals
 pub mod Appending
 pub mod Laws
+pub mod HexReading

@@ -2,6 +2,7 @@
 //! Every text of the program stands on it: scripts, tables shown as text, replies, journals and traces.
 #![tactic(auto)]
 
+mod digits;
 mod reading;
 mod writing;
 

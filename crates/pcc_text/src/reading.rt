@@ -1,13 +1,14 @@
 //! Readers of fields. A field is read only if it is spelled as the writers spell it.
-ghost use Rattle.std.specs.Prelude.{◌≡◌, ◌≤◌, ◌<◌, ◌^◌, ◌-◌, [], List, ℕ, IfOk, IfSome, slice_index_or, length, map, option_map, decimal, bytes_eq};
+ghost use Rattle.std.specs.Prelude.{◌≡◌, ◌≤◌, ◌<◌, ◌^◌, ◌-◌, ◌%◌, [], List, ℕ, IfOk, IfSome, slice_index_or, length, map, option_map, decimal, bytes_eq};
 ghost use Rattle.std.specs.List.{list_all};
 ghost use Rattle.std.specs.Char.{is_ascii_digit};
+ghost use Rattle.hex.specs.Hex.{encode_lower};
 ghost use Rattle.pcc_bytes.specs.Bytes.{IsBytes};
 ghost use Rattle.pcc_bytes.specs.Fields.{hex_text, split_at};
 ghost use Rattle.pcc_text.specs.Reading.{hex_of, is_numeral, number_of};
 
+use crate::digits::{are_bytes, read_hex};
 use crate::put_hex;
-use hex::FromHexError;
 use pcc_io::{Bytes, NoMemory};
 use std::alloc::Global;
 use std::str;
@@ -98,25 +99,34 @@ fn is_hex_of(alloc: Global, field: &[u8], bytes: &[u8]) -> Result<bool, NoMemory
     Ok(is_text(&text, field))
 }
 
-// What the field decodes to, if the bytes have that field as their text.
-#[tactic(auto, unfolding(crate::specs::Reading::hex_of))]
+// The bytes that a field spells. Their text is written again and compared, which refuses all other fields.
+#[tactic(auto, using(crate::proofs::HexReading::dash_read, crate::proofs::HexReading::odd_unread, crate::proofs::HexReading::bytes_read, crate::proofs::HexReading::other_unread))]
 fn decoded(alloc: Global, field: &[u8]) -> Result<Option<Vec<u8>>, NoMemory>
     ensures { IfOk result (λ o. option_map (λ v. v.items) o ≡ hex_of field.now) }
 {
     if is_text(field, b"-") {
         return Ok(Some(Vec::new(alloc)));
     }
-    match hex::decode(alloc, field) {
-        Err(FromHexError::OutOfMemory) => Err(NoMemory),
-        Err(_) => Ok(None),
-        Ok(bytes) => {
-            if is_hex_of(alloc, field, &bytes)? {
-                Ok(Some(bytes))
-            } else {
-                Ok(None)
-            }
-        }
+    if field.len() % 2 != 0 {
+        return Ok(None);
     }
+    let bytes = read_back(alloc, field)?;
+    if is_hex_of(alloc, field, &bytes)? {
+        Ok(Some(bytes))
+    } else {
+        Ok(None)
+    }
+}
+
+fn read_back(alloc: Global, text: &[u8]) -> Result<Vec<u8>, NoMemory>
+    requires { length text.now % 2 ≡ 0 }
+    ensures read { IfOk result (λ v. (bytes : List ℕ) → IsBytes bytes → text.now ≡ encode_lower bytes → v.items ≡ bytes) }
+    ensures fits { IfOk result (λ v. IsBytes v.items) }
+{
+    let mut bytes = vec![in alloc; 0u8; text.len() / 2]?;
+    read_hex(text, &mut bytes);
+    are_bytes(&bytes);
+    Ok(bytes)
 }
 
 /// The bytes that a field spells: `-` for none, and else two hexadecimal digits for each. Upper-case digits aren't read.

@@ -3,6 +3,7 @@ ghost use Rattle.std.specs.Prelude.{◌≡◌, ◌++◌, OnOk, decimal, map};
 ghost use Rattle.pcc_bytes.specs.Fields.{hex_text};
 ghost use Rattle.pcc_text.specs.Pieces.{spell, spelled, spelled_of};
 
+use crate::digits::write_hex;
 use itoa::Buffer;
 use pcc_io::{Bytes, NoMemory};
 
@@ -47,10 +48,8 @@ pub fn put_hex(out: &mut Vec<u8>, bytes: &[u8]) -> Result<(), NoMemory>
     let start = out.len();
     let end = start.checked_add(bytes.len() * 2).ok_or(NoMemory)?;
     out.resize(end, 0)?;
-    match hex::encode_to_slice(bytes, &mut out[start..]) {
-        Ok(()) => Ok(()),
-        Err(_) => unreachable!(),
-    }
+    write_hex(bytes, &mut out[start..]);
+    Ok(())
 }
 
 fn put_piece(out: &mut Vec<u8>, piece: &Piece) -> Result<(), NoMemory>

@@ -1,0 +1,40 @@
+-- What a field of hexadecimal digits is read as.
+use Rattle.std.proofs.Common.{◌≡◌, ℕ, ◌*◌, ◌%◌, Bool, true, false, List, [], ◌∷◌, length, refl, sym, ap, ◌∙◌, arith}
+use Rattle.std.specs.Prelude.{Option, Some, None, bytes_eq}
+use Rattle.hex.specs.Hex.{encode_lower, lower_digits}
+use Rattle.hex.proofs.HexLemmas.{length-encode_with}
+use Rattle.pcc_bytes.specs.Bytes.{IsBytes}
+use Rattle.pcc_bytes.specs.Fields.{hex_text}
+use Rattle.pcc_text.specs.Reading.{hex_of}
+use Rattle.pcc_text.proofs.Laws.{hex_again, hex_fits, hex_reads, same_text, text_same}
+
+none_from : {A : Type 0} (o : Option A) → ((x : A) → o ≡ Some x → ⊥) → o ≡ None
+none_from None h = refl
+none_from (Some x) h = absurd (h x refl)
+
+not_both : (b : Bool) → b ≡ true → b ≡ false → ⊥
+not_both b h k = let e : true ≡ false = sym h ∙ k in cc
+
+pub dash_read : (field : List ℕ) → bytes_eq field (45 ∷ []) ≡ true → hex_of field ≡ Some []
+unfolding hex_of
+dash_read field h = rw h refl
+
+-- what a field with two digits for each of some bytes, or with none, spells
+spelled_by : (field b : List ℕ) → bytes_eq field (45 ∷ []) ≡ false → hex_of field ≡ Some b → field ≡ encode_lower b
+spelled_by field [] dash h = absurd (not_both (bytes_eq field (45 ∷ [])) (text_same field (45 ∷ []) (hex_reads field [] h)) dash)
+spelled_by field (x ∷ xs) dash h = hex_reads field (x ∷ xs) h
+
+pub odd_unread : (field : List ℕ) → bytes_eq field (45 ∷ []) ≡ false → (length field % 2 ≡ 0 → ⊥) → hex_of field ≡ None
+odd_unread field dash odd = none_from (hex_of field) (λ b h.
+    let n = length-encode_with lower_digits b in
+    let m : length field ≡ 2 * length b = ap length (spelled_by field b dash h) ∙ n in
+    odd (omega arith))
+
+pub bytes_read : (field bytes : List ℕ) → bytes_eq (hex_text bytes) field ≡ true → IsBytes bytes → hex_of field ≡ Some bytes
+bytes_read field bytes h small = ap hex_of (sym (same_text (hex_text bytes) field h)) ∙ hex_again bytes small
+
+pub other_unread : (field bytes : List ℕ) → bytes_eq field (45 ∷ []) ≡ false → bytes_eq (hex_text bytes) field ≡ false
+    → ((b : List ℕ) → IsBytes b → field ≡ encode_lower b → bytes ≡ b) → hex_of field ≡ None
+other_unread field bytes dash h read = none_from (hex_of field) (λ b e.
+    let same : bytes ≡ b = read b (hex_fits field b e) (spelled_by field b dash e) in
+    not_both (bytes_eq (hex_text bytes) field) (text_same (hex_text bytes) field (ap hex_text same ∙ sym (hex_reads field b e))) h)
