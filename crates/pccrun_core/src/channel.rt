@@ -118,9 +118,10 @@ impl BankChannel {
         &self.records
     }
 
+    /// Makes a call of a caller: a command of this code, whose input is the space with the bytes laid over its front. It is answered as the
+    /// line of a run whose command is held for fewer turns than it has polls, for every such hold. A code above 255, more bytes than
+    /// the space has, and a journal with 4,096 records are refused, in this order, and change nothing.
     #[tactic(auto, using(crate::proofs::Calls::bad_code, crate::proofs::Calls::too_long, crate::proofs::Calls::journal_full, crate::proofs::Calls::done))]
-    /// Makes a call of a caller: a command of this code, whose input is the space with the bytes laid over its front. It is answered as a line of a
-    /// run whose command is held for fewer turns than it has polls.
     pub fn call(
         &mut self,
         alloc: Global,

@@ -40,15 +40,15 @@ pub fn put_reply(
 }
 
 #[tactic(auto, unfolding(crate::specs::ReplyText::reply_text))]
-fn put_done(out: &mut Vec<u8>, line: u64, record: &Record) -> Result<(), NoMemory>
-    ensures { OnOk result (out.new.items ≡ out.old.items ++ reply_text line (Done record.now.error record.now.output)) }
+fn put_done(out: &mut Vec<u8>, line: u64, entry: &Record) -> Result<(), NoMemory>
+    ensures { OnOk result (out.new.items ≡ out.old.items ++ reply_text line (Done entry.now.error entry.now.output)) }
 {
     put_pieces(
         out,
         &[
             Piece::Number(line),
-            Piece::Either(record.error, b" error ", b" ok "),
-            Piece::Bytes(&record.output),
+            Piece::Either(entry.error, b" error ", b" ok "),
+            Piece::Bytes(&entry.output),
             Piece::Text(b"\n"),
         ],
     )
