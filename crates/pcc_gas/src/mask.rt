@@ -1,0 +1,17 @@
+//! Writes of a register that keep some of its bits.
+
+ghost use Rattle.std.specs.Prelude.{◌≡◌, bit_and, bit_or};
+
+/// How a register is written: which of its bits are kept, and which are set (ACPI 6.5, 14.1.3, the doorbell's masks).
+#[derive(Clone, Copy, Debug, PartialEq, Eq)]
+pub struct Masks {
+    pub preserve: u64,
+    pub set: u64,
+}
+
+/// What is written to a register that was read: the bits to preserve as they were, with the bits to set.
+pub fn masked(read: u64, preserve: u64, set: u64) -> u64
+    ensures { result ≡ bit_or (bit_and read preserve) set }
+{
+    (read & preserve) | set
+}
