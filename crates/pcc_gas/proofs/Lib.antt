@@ -1,1 +1,4 @@
 pub mod Addresses
+pub mod Bits
+pub mod Fields
+pub mod Windows

@@ -30,3 +30,10 @@ pub record FieldPut (space : List ℕ) (field : Field) (value : ℕ) (after : Li
   pub len : length after ≡ length space
   pub put : field_value after field ≡ value
   pub others : (bit : ℕ) → (InField field bit → ⊥) → bit_of after bit ≡ bit_of space bit
+
+-- after: the space with the bits of a number in so many bytes from a place on
+pub record Overwritten (space after : List ℕ) (first count number : ℕ) : Type 0 where
+  pub len : length after ≡ length space
+  pub before : (bit : ℕ) → bit < 8 * first → bit_of after bit ≡ bit_of space bit
+  pub inside : (i : ℕ) → i < 8 * count → bit_of after (8 * first + i) ≡ bit_at number i
+  pub behind : (i : ℕ) → 8 * count ≤ i → bit_of after (8 * first + i) ≡ bit_of space (8 * first + i)

@@ -4,7 +4,12 @@
 mod address;
 mod field;
 mod mask;
+mod worked;
 
 pub use address::{Gas, Register, gas_from, gas_to, register_laws};
-pub use field::{Field, fields_apart};
+pub use field::{Field, field_get, field_put, fields_apart};
 pub use mask::{Masks, masked};
+pub use worked::{worked_addresses, worked_fields};
+
+#[cfg(test)]
+mod tests;
