@@ -1,5 +1,5 @@
 -- The bytes of a generic address (ACPI 6.5, 5.2.3.2), and of the register descriptor that holds one in a `_CPC` package
--- (ACPI 6.5, 6.4.3.7 and 8.4.6.1).
+-- (ACPI 6.5, 6.4.3.7, 6.4.2.9 and 8.4.6.1).
 use Rattle.std.specs.Prelude.{◌≡◌, ◌⊎◌, ℕ, ◌%◌, List, [], ◌∷◌, length, take, drop, slice_index, sum}
 use Rattle.byteorder.specs.Endian.{little_bytes}
 use Rattle.pcc_bytes.specs.Bytes.{number_at}

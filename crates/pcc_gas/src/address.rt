@@ -21,11 +21,13 @@ pub struct Gas {
     pub address: u64,
 }
 
-/// A register of a `_CPC` package: the descriptor that holds its address (ACPI 6.5, 6.4.3.7), and the end tag's checksum.
+/// A register of a `_CPC` package: the descriptor that holds its address (ACPI 6.5, 6.4.3.7), and the checksum
+/// of the end tag behind it (6.4.2.9).
 #[derive(Clone, Copy, Debug, PartialEq, Eq)]
 pub struct Register {
+    /// Where the register lies.
     pub gas: Gas,
-    /// 0 where no checksum is given.
+    /// The checksum of the bytes; 0 where no checksum is given.
     pub checksum: u8,
 }
 

@@ -16,7 +16,7 @@ pub struct Field {
     pub width: u8,
 }
 
-/// The number in a field.
+/// The number in a field. It is read from the bytes around the field, at most nine, at once.
 pub fn field_get(space: &[u8], field: Field) -> u64
     requires some { 1 ≤ field.width }
     requires most { field.width ≤ 64 }
@@ -62,7 +62,7 @@ fn end_of(field: Field) -> u64
     u64::from(field.at_bit) + u64::from(field.width)
 }
 
-/// The bytes that a field lies in.
+/// Bytes of a space, at most nine, and a field's place in them.
 #[derive(Clone, Copy)]
 struct Window {
     /// The place of the first byte.
@@ -76,6 +76,7 @@ struct Window {
     ghost low: { shift < 8 },
 }
 
+/// The bytes that a field lies in.
 fn window_of(field: Field) -> Window
     requires some { 1 ≤ field.width }
     requires most { field.width ≤ 64 }
@@ -131,7 +132,7 @@ fn with_bits(bits: u128, shift: u32, width: u8, value: u64) -> u128
     (bits & !(ones(width) << shift)) | (u128::from(value) << shift)
 }
 
-/// As many ones.
+/// A number whose lowest bits are ones, so many.
 fn ones(width: u8) -> u128
     requires { width ≤ 64 }
     ensures { result ≡ 2 ^ width - 1 }

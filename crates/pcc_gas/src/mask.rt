@@ -2,10 +2,12 @@
 
 ghost use Rattle.std.specs.Prelude.{◌≡◌, bit_and, bit_or};
 
-/// How a register is written: which of its bits are kept, and which are set (ACPI 6.5, 14.1.3, the doorbell's masks).
+/// The masks of a register that is written, as of a doorbell (ACPI 6.5, 14.1.3).
 #[derive(Clone, Copy, Debug, PartialEq, Eq)]
 pub struct Masks {
+    /// Bits that stay as they were read.
     pub preserve: u64,
+    /// Bits that are set besides.
     pub set: u64,
 }
 
