@@ -3,9 +3,8 @@
 
 use pcc_io::{StdSink, StdSource};
 use pccrun_core::run;
-use std::env;
-use std::io;
 use std::process::ExitCode;
+use std::{env, io};
 
 /// The exit status where memory runs out.
 const NO_MEMORY: u8 = 6;
