@@ -2,8 +2,13 @@
 //! (ACPI 6.5, 14.1.3).
 #![tactic(auto)]
 
-ghost use Rattle.std.specs.Prelude.{◌≡◌, [], ◌∷◌, None, Some};
-ghost use Rattle.rate_limit.specs.RateLimits.{WithinLimits, earliest_of};
+ghost use Rattle.std.specs.Prelude.{◌≡◌, ◌≤◌, ◌↔◌, [], ◌∷◌, List, ℕ, None, Some};
+ghost use Rattle.rate_limit.specs.RateLimits.{WithinLimits, after_minute, after_turnaround, earliest_of};
+ghost use Rattle.rate_limit.specs.declared.Limits.{Limits};
+ghost use Rattle.rate_limit.specs.declared.Times.{Times};
+
+/// The microseconds of a minute.
+const MINUTE: u128 = 60_000_000;
 
 /// What the structure of a subspace asks of its posts.
 #[derive(Clone, Copy, Debug, PartialEq, Eq)]
@@ -20,6 +25,40 @@ pub struct Times {
     pub post: u64,
     pub done: u64,
 }
+
+// The end of the turnaround behind the last completion.
+fn after_turnaround(limits: &Limits, times: &[Times]) -> u128
+    ensures { result ≡ after_turnaround limits.now times.now }
+{
+    if times.is_empty() {
+        return 0;
+    }
+    u128::from(times[times.len() - 1].done) + u128::from(limits.turnaround)
+}
+
+// A minute behind the post that stands as many from the end as a minute may have.
+fn after_minute(limits: &Limits, times: &[Times]) -> u128
+    ensures { result ≡ after_minute limits.now times.now }
+{
+    let most = limits.per_minute as usize;
+    if most == 0 || times.len() < most {
+        return 0;
+    }
+    u128::from(times[times.len() - most].post) + MINUTE
+}
+
+/// The least reading at which the next command may be posted, by the times of all commands so far. It looks at two of them at most.
+pub fn earliest(limits: &Limits, times: &[Times]) -> u128
+    ensures { result ≡ earliest_of limits.now times.now }
+{
+    after_turnaround(limits, times).max(after_minute(limits, times))
+}
+
+/// Where posts keep the limits, one more keeps them exactly where its reading is at least the earliest. It does nothing.
+pub fn earliest_is_exact()
+    ensures { (limits : Limits) (times : List Times) (post : ℕ) → WithinLimits limits times None
+        → (WithinLimits limits times (Some post) ↔ (earliest_of limits times ≤ post)) }
+{}
 
 /// The definitions on worked cases. It does nothing.
 pub fn worked_cases()
@@ -42,3 +81,34 @@ pub fn worked_cases()
     ensures turnaround_broken { WithinLimits (record { turnaround = 500; per_minute = 0 })
         (record { post = 1000; done = 1010 } ∷ record { post = 1509; done = 1520 } ∷ []) None → ⊥ }
 {}
+
+#[cfg(test)]
+mod tests {
+    use super::*;
+
+    fn earliest_of(turnaround: u32, per_minute: u32, times: &[Times]) -> u128 {
+        let limits = Limits {
+            turnaround,
+            per_minute,
+        };
+        earliest(&limits, times)
+    }
+
+    #[test]
+    fn the_earliest_post(rt: HostRuntime) {
+        let first = Times { post: 0, done: 0 };
+        let second = Times {
+            post: 1000,
+            done: 1000,
+        };
+        let last = Times {
+            post: 0,
+            done: u64::MAX,
+        };
+        assert_eq!(rt; earliest_of(0, 2, &[]), 0);
+        assert_eq!(rt; earliest_of(0, 2, &[first]), 0);
+        assert_eq!(rt; earliest_of(0, 2, &[first, second]), 60_000_000);
+        assert_eq!(rt; earliest_of(500, 0, &[first, second]), 1500);
+        assert_eq!(rt; earliest_of(500, 0, &[last]), 18_446_744_073_709_552_115);
+    }
+}
