@@ -1,2 +1,5 @@
+pub mod WithSpare
 pub mod Records
 pub mod JournalText
+pub mod Events
+pub mod WorkedEvents

@@ -1,8 +1,9 @@
--- What records tell: exchanges of the channel, and the times of its commands.
+-- What records and executed commands tell: exchanges of the channel, and the times of its commands.
 use Rattle.std.specs.Prelude.{List, map}
 use Rattle.pcc_history.specs.Channel.{Exchange}
 use Rattle.rate_limit.specs.declared.Times.{Times}
 use Rattle.pcc_journal.specs.declared.record.Record.{Record}
+use Rattle.pcc_journal.specs.declared.command.Command.{Command}
 
 abbrev pub exchange_of_record : Record → Exchange
 exchange_of_record r = record { code = r.code; input = r.input; error = r.error; output = r.output }
@@ -17,3 +18,10 @@ times_of_record r = record { post = r.post; done = r.done }
 -- when their commands were posted and done
 abbrev pub times_of : List Record → List Times
 times_of records = map times_of_record records
+
+abbrev pub exchange_of_command : Command → Exchange
+exchange_of_command c = record { code = c.code; input = c.input; error = c.error; output = c.output }
+
+-- the history that executed commands tell
+abbrev pub exchanges_of_commands : List Command → List Exchange
+exchanges_of_commands commands = map exchange_of_command commands

@@ -1,6 +1,4 @@
 //! What is kept of each command.
-ghost use Rattle.std.specs.Prelude.{◌≡◌, [], ◌∷◌, true, false};
-ghost use Rattle.pcc_journal.specs.Records.{exchanges_of, times_of};
 
 use pcc_io::Bytes;
 
@@ -37,27 +35,3 @@ pub struct Pending {
     /// The reading at which it was posted, in microseconds.
     pub post: u64,
 }
-
-/// The definitions on a record. It does nothing.
-pub fn worked_cases()
-    ensures exchanges { exchanges_of (record {
-      caller = 3;
-      code = 16;
-      input = 1 ∷ [];
-      error = true;
-      output = 2 ∷ [];
-      post = 10;
-      done = 20;
-      late = false;
-    } ∷ []) ≡ record { code = 16; input = 1 ∷ []; error = true; output = 2 ∷ [] } ∷ [] }
-    ensures times { times_of (record {
-      caller = 3;
-      code = 16;
-      input = 1 ∷ [];
-      error = true;
-      output = 2 ∷ [];
-      post = 10;
-      done = 20;
-      late = false;
-    } ∷ []) ≡ record { post = 10; done = 20 } ∷ [] }
-{}

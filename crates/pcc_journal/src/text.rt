@@ -1,13 +1,14 @@
 //! The text of a journal.
-ghost use Rattle.std.specs.Prelude.{◌≡◌, ◌++◌, OnOk};
+ghost use Rattle.std.specs.Prelude.{◌≡◌, ◌++◌, IfOk, OnOk};
 ghost use Rattle.std.specs.Option.{option_copied};
 ghost use Rattle.pcc_text.specs.Pieces.{spelled};
 ghost use Rattle.pcc_journal.specs.JournalText.{end_line, head_line, journal_text, pending_line, pending_text, record_line, records_text};
 
-use crate::{Pending, Record};
+use crate::{Journal, Pending, Record};
 use pcc_io::NoMemory;
 use pcc_text::{Piece, put_pieces};
 use rate_limit::Limits;
+use std::alloc::Global;
 
 /// What the first line of a journal says of its subspace.
 #[derive(Clone, Copy, Debug, PartialEq, Eq)]
@@ -132,4 +133,18 @@ pub fn put_journal(
             Piece::Text(b"\n"),
         ],
     )
+}
+
+/// The text of a journal.
+pub fn journal_lines(
+    alloc: Global,
+    head: &JournalHead,
+    journal: &Journal,
+    pending: Option<&Pending>,
+) -> Result<Vec<u8>, NoMemory>
+    ensures { IfOk result (λ lines. lines.items ≡ journal_text head.now journal.now.items (option_copied pending.entry)) }
+{
+    let mut lines = Vec::new(alloc);
+    put_journal(&mut lines, head, journal.as_slice(), pending)?;
+    Ok(lines)
 }
