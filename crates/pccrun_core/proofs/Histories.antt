@@ -1,5 +1,5 @@
 -- Each journal of a run is a legal and whole history.
-use Rattle.std.proofs.Common.{◌≡◌, ℕ, ◌+◌, Bool, true, false, cond, List, [], ◌∷◌, ◌++◌, length, take, refl, sym, ap, ◌∙◌, subst, arith}
+use Rattle.std.proofs.Common.{◌≡◌, ℕ, ◌+◌, ◌≤◌, Bool, true, false, cond, List, [], ◌∷◌, ◌++◌, length, take, refl, sym, ap, ◌∙◌, subst, arith}
 use Rattle.std.specs.Prelude.{Option, Some, None, IfSome, ◌==◌, ◌&&◌, nat_lt}
 use Rattle.std.specs.List.{AllByRecursion}
 use Rattle.std.proofs.lemmas.List.{append_assoc, append-nil, length-map, map-append, take-append-le, take_all}
@@ -8,12 +8,16 @@ use Rattle.pcc_history.specs.Channel.{Exchange, Object, both, over}
 use Rattle.pcc_history.specs.Histories.{Legal, WholeHistory, space_after, state_after}
 use Rattle.pcc_journal.specs.declared.record.Record.{Record}
 use Rattle.pcc_journal.specs.declared.record.Pending.{Pending}
-use Rattle.pcc_journal.specs.Records.{exchange_of_record, exchanges_of, times_of}
-use Rattle.rate_limit.specs.RateLimits.{earliest_of}
+use Rattle.pcc_journal.specs.Records.{exchange_of_record, exchanges_of, times_of, times_of_record}
+use Rattle.rate_limit.specs.declared.Limits.{Limits}
+use Rattle.rate_limit.specs.declared.Times.{Times}
+use Rattle.rate_limit.specs.RateLimits.{WithinLimits, earliest_of}
+use Rattle.rate_limit.proofs.Law.{exact as post_exact, completed as completion_keeps}
+use Rattle.std.proofs.lemmas.Bool.{ltb-false}
 use Rattle.pcc_script.specs.declared.scenario.Line.{Line}
 use Rattle.pcc_script.specs.declared.scenario.Line.TheVariants as line
 use Rattle.pccrun_core.specs.Replies.{Reply, BadCode, TooLong, JournalFull}
-use Rattle.pccrun_core.specs.StepRun.{Answered, Call, Channel, ChannelStart, ChannelState, InFlight, Turn, Run, after_post, answer_behind, answer_call, answer_unless, completed, exchange_with, fresh, next_reading, post_call, record_of, refusal_of, step_run, turn_of}
+use Rattle.pccrun_core.specs.StepRun.{Answered, Call, Channel, ChannelStart, ChannelState, InFlight, Turn, Run, after_post, answer_behind, answer_call, answer_unless, completed, exchange_with, fresh, next_reading, post_call, post_of, record_of, refusal_of, step_run, turn_of}
 use Rattle.pccrun_core.specs.Histories.{AreHistories, IsHistory, asked_by, asked_on, is_posted}
 
 -- ---- histories that grow
@@ -58,8 +62,9 @@ abbrev IsWaiting : List ℕ → Option InFlight → List (List ℕ) → Type 0
 IsWaiting space None waiting = waiting ≡ []
 IsWaiting space (Some p) waiting = (bytes : List ℕ) × (waiting ≡ bytes ∷ []) × (p.command.input ≡ over space bytes)
 
--- what was asked so far is recorded, but for the command in flight
+-- what was asked so far is recorded, but for the command in flight, and the posts keep the limits
 record Kept (start : ChannelStart) (now : ChannelState) (asked : List (List ℕ)) : Type 0 where
+  limits : WithinLimits start.head.limits (times_of now.records) (post_of now.in_flight)
   answered : List (List ℕ)
   waiting : List (List ℕ)
   parts : asked ≡ answered ++ waiting
@@ -69,6 +74,10 @@ record Kept (start : ChannelStart) (now : ChannelState) (asked : List (List ℕ)
 -- what a reply adds to the asked bytes
 abbrev added_by : Reply → List ℕ → List (List ℕ)
 added_by reply bytes = cond (is_posted (Some reply)) (bytes ∷ []) []
+
+decide : {A : Type 0} (P : A → Type 0) (b : Bool) (x y : A) → (b ≡ true → P x) → (b ≡ false → P y) → P (cond b x y)
+decide P true x y h k = h refl
+decide P false x y h k = k refl
 
 choose : {A : Type 0} (P : A → Type 0) (b : Bool) (x y : A) → P x → P y → P (cond b x y)
 choose P true x y h k = h
@@ -99,22 +108,38 @@ completed_records start command late now asked bytes h e =
       whole = subst Q (sym more) whole;
     }
 
+-- a posted command keeps the limits when it is complete
+completed_within : (start : ChannelStart) (command : Pending) (late : Bool) (now : ChannelState) → WithinLimits start.head.limits (times_of now.records) (Some command.post)
+    → WithinLimits start.head.limits (times_of (completed start command late now).records) None
+completed_within start command late now w =
+    let r : Record = record_of command (exchange_with start command now) (next_reading start now) late in
+    let same : times_of (now.records ++ r ∷ []) ≡ times_of now.records ++ times_of_record r ∷ [] = map-append times_of_record now.records (r ∷ []) in
+    let P : List Times → Type 0 = λ v. WithinLimits start.head.limits v None in
+    subst P (sym same) (completion_keeps start.head.limits (times_of now.records) (times_of_record r) w)
+
 after_post_keeps : (start : ChannelStart) (call : Call) (command : Pending) (now : ChannelState) (asked : List (List ℕ)) → Recorded start now.records now.object asked → command.input ≡ over now.object.space call.bytes
+    → WithinLimits start.head.limits (times_of now.records) (Some command.post)
     → let a = after_post start call command now in Kept start a.now (asked ++ added_by a.reply call.bytes)
-after_post_keeps start call command now asked h e =
+after_post_keeps start call command now asked h e w =
     choose (λ (a : Answered). Kept start a.now (asked ++ added_by a.reply call.bytes)) (nat_lt call.hold call.polls) _ _
-    (record { answered = asked ++ call.bytes ∷ []; waiting = []; parts = sym (append-nil (asked ++ call.bytes ∷ [])); recorded = completed_records start command false now asked call.bytes h e; flight = refl })
-    (record { answered = asked; waiting = call.bytes ∷ []; parts = refl; recorded = h; flight = (call.bytes, refl, e) })
+    (record { limits = completed_within start command false now w; answered = asked ++ call.bytes ∷ []; waiting = []; parts = sym (append-nil (asked ++ call.bytes ∷ [])); recorded = completed_records start command false now asked call.bytes h e; flight = refl })
+    (record { limits = w; answered = asked; waiting = call.bytes ∷ []; parts = refl; recorded = h; flight = (call.bytes, refl, e) })
 
 post_call_keeps : (start : ChannelStart) (call : Call) (now : ChannelState) (asked : List (List ℕ)) → Recorded start now.records now.object asked → now.in_flight ≡ None
+    → WithinLimits start.head.limits (times_of now.records) None
     → let a = post_call start call now in Kept start a.now (asked ++ added_by a.reply call.bytes)
-post_call_keeps start call now asked h none =
+post_call_keeps start call now asked h none w =
     let P : Option InFlight → Type 0 = λ o. IsWaiting now.object.space o [] in
+    let Q : Option InFlight → Type 0 = λ o. WithinLimits start.head.limits (times_of now.records) (post_of o) in
     let later : ChannelState = record now { taken = now.taken + 1 } in
-    let command : Pending = record { caller = call.caller; code = call.code; input = over now.object.space call.bytes; post = next_reading start now } in
-    choose (λ (a : Answered). Kept start a.now (asked ++ added_by a.reply call.bytes)) (nat_lt (next_reading start now) (earliest_of start.head.limits (times_of now.records))) _ _
-    (record { answered = asked; waiting = []; parts = refl; recorded = h; flight = subst P (sym none) refl })
-    (after_post_keeps start call command later asked h refl)
+    let reading : ℕ = next_reading start now in
+    let earliest : ℕ = earliest_of start.head.limits (times_of now.records) in
+    let command : Pending = record { caller = call.caller; code = call.code; input = over now.object.space call.bytes; post = reading } in
+    decide (λ (a : Answered). Kept start a.now (asked ++ added_by a.reply call.bytes)) (nat_lt reading earliest) _ _
+    (λ soon. record { limits = subst Q (sym none) w; answered = asked; waiting = []; parts = refl; recorded = h; flight = subst P (sym none) refl })
+    (λ allowed.
+    let in_time : earliest ≤ reading = ltb-false reading earliest allowed in
+    after_post_keeps start call command later asked h refl ((post_exact start.head.limits (times_of now.records) reading w).1 in_time))
 
 behind_keeps : (start : ChannelStart) (call : Call) (now : ChannelState) (o : Option InFlight) (asked : List (List ℕ)) → now.in_flight ≡ o → Kept start now asked
     → let a = answer_behind start call now o in Kept start a.now (asked ++ added_by a.reply call.bytes)
@@ -123,16 +148,19 @@ behind_keeps start call now None asked e h =
     let none : h.waiting ≡ [] = subst P e h.flight in
     let all : asked ≡ h.answered = h.parts ∙ ap (λ (v : List (List ℕ)). h.answered ++ v) none ∙ append-nil h.answered in
     let R : List (List ℕ) → Type 0 = Recorded start now.records now.object in
-    post_call_keeps start call now asked (subst R (sym all) h.recorded) e
+    let W : Option InFlight → Type 0 = λ o. WithinLimits start.head.limits (times_of now.records) (post_of o) in
+    post_call_keeps start call now asked (subst R (sym all) h.recorded) e (subst W e h.limits)
 behind_keeps start call now (Some p) asked e h =
     let P : Option InFlight → Type 0 = λ o. IsWaiting now.object.space o h.waiting in
     let flight : IsWaiting now.object.space (Some p) h.waiting = subst P e h.flight in
     let all : asked ≡ h.answered ++ flight.0 ∷ [] = h.parts ∙ ap (λ (v : List (List ℕ)). h.answered ++ v) flight.1 in
     let next : ChannelState = completed start p.command true now in
+    let W : Option InFlight → Type 0 = λ o. WithinLimits start.head.limits (times_of now.records) (post_of o) in
+    let w : WithinLimits start.head.limits (times_of now.records) (Some p.command.post) = subst W e h.limits in
     let R : List (List ℕ) → Type 0 = Recorded start next.records next.object in
     choose (λ (a : Answered). Kept start a.now (asked ++ added_by a.reply call.bytes)) (nat_lt p.left call.polls) _ _
-    (post_call_keeps start call next asked (subst R (sym all) (completed_records start p.command true now h.answered flight.0 h.recorded flight.2)) refl)
-    (record { answered = h.answered; waiting = flight.0 ∷ []; parts = append-nil asked ∙ all; recorded = h.recorded; flight = (flight.0, refl, flight.2) })
+    (post_call_keeps start call next asked (subst R (sym all) (completed_records start p.command true now h.answered flight.0 h.recorded flight.2)) refl (completed_within start p.command true now w))
+    (record { limits = w; answered = h.answered; waiting = flight.0 ∷ []; parts = append-nil asked ∙ all; recorded = h.recorded; flight = (flight.0, refl, flight.2) })
 
 unless_keeps : (start : ChannelStart) (call : Call) (now : ChannelState) (o : Option Reply) (asked : List (List ℕ)) → IfSome o (λ r. is_posted (Some r) ≡ false) → Kept start now asked
     → let a = answer_unless start call now o in Kept start a.now (asked ++ added_by a.reply call.bytes)
@@ -183,7 +211,7 @@ turn_keeps start (line.Call worker subspace code bytes polls hold) now asked h =
     on_keeps start (start.head.id == subspace) (record { caller = worker; code = code; bytes = bytes; polls = polls; hold = hold }) now asked h
 turn_keeps start (line.Wait n) now asked h =
     let moved : ChannelState = record now { added = now.added + n } in
-    kept_alone start moved asked (record { answered = h.answered; waiting = h.waiting; parts = h.parts; recorded = h.recorded; flight = h.flight })
+    kept_alone start moved asked (record { limits = h.limits; answered = h.answered; waiting = h.waiting; parts = h.parts; recorded = h.recorded; flight = h.flight })
 turn_keeps start (line.Read worker cpu polls hold) now asked h = kept_alone start now asked h
 turn_keeps start (line.Set worker wish polls hold) now asked h = kept_alone start now asked h
 
@@ -207,13 +235,17 @@ front start now asked h =
     let n : length h.answered ≡ length now.records = WholeHistory-length start.opening (exchanges_of now.records) h.answered h.recorded.whole ∙ length-map now.records exchange_of_record in
     ap (take (length now.records)) h.parts ∙ take-append-le (length now.records) h.answered h.waiting (omega arith) ∙ take_all (length now.records) h.answered (omega arith)
 
+-- no post
+none_within : (l : Limits) → WithinLimits l [] None
+none_within l = record { turnaround = λ i lt. absurd (omega arith); rate = λ i some lt. absurd (omega arith) }
+
 pub run_histories : (start : ChannelStart) (ls : List Line) → AreHistories ls (step_run ls (record { start = start; now = fresh start } ∷ []))
 run_histories start ls =
-    let nothing : Kept start (fresh start) [] = record { answered = []; waiting = []; parts = refl; recorded = record { legal = tt; state = refl; space = refl; whole = tt }; flight = refl } in
+    let nothing : Kept start (fresh start) [] = record { limits = none_within start.head.limits; answered = []; waiting = []; parts = refl; recorded = record { legal = tt; state = refl; space = refl; whole = tt }; flight = refl } in
     let begin : One start (record { start = start; now = fresh start } ∷ []) [] = record { now = fresh start; is = refl; kept = nothing } in
     let r : Run = step_run ls (record { start = start; now = fresh start } ∷ []) in
     let end : One start r.channels (asked_on start.head.id ls r.replies) = run_keeps start ls (record { start = start; now = fresh start } ∷ []) [] begin in
     let P : List Channel → Type 0 = AllByRecursion (IsHistory ls r.replies) in
     let Q : List (List ℕ) → Type 0 = WholeHistory start.opening (exchanges_of end.now.records) in
     let same : take (length end.now.records) (asked_on start.head.id ls r.replies) ≡ end.kept.answered = front start end.now (asked_on start.head.id ls r.replies) end.kept in
-    subst P (sym end.is) (record { legal = end.kept.recorded.legal; whole = subst Q (sym same) end.kept.recorded.whole }, tt)
+    subst P (sym end.is) (record { legal = end.kept.recorded.legal; whole = subst Q (sym same) end.kept.recorded.whole; limits = end.kept.limits }, tt)

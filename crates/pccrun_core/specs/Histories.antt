@@ -2,11 +2,12 @@
 use Rattle.std.specs.Prelude.{◌==◌, ◌&&◌, ℕ, Bool, true, false, if◌then◌else◌, List, [], ◌∷◌, ◌++◌, length, take, Option, Some}
 use Rattle.std.specs.List.{AllByRecursion}
 use Rattle.pcc_history.specs.Histories.{Legal, WholeHistory}
-use Rattle.pcc_journal.specs.Records.{exchanges_of}
+use Rattle.rate_limit.specs.RateLimits.{WithinLimits}
+use Rattle.pcc_journal.specs.Records.{exchanges_of, times_of}
 use Rattle.pcc_script.specs.declared.scenario.Line.{Line}
 use Rattle.pcc_script.specs.declared.scenario.Line.TheVariants as line
 use Rattle.pccrun_core.specs.Replies.{Reply, Done, TimedOut}
-use Rattle.pccrun_core.specs.StepRun.{Channel, Run}
+use Rattle.pccrun_core.specs.StepRun.{Channel, Run, post_of}
 
 -- the replies of a call that was posted
 abbrev pub is_posted : Option Reply → Bool
@@ -24,10 +25,12 @@ abbrev pub asked_on : ℕ → List Line → List (Option Reply) → List (List �
 asked_on id (l ∷ ls) (r ∷ rs) = asked_by id l r ++ asked_on id ls rs
 asked_on id _ _ = []
 
--- the records are a legal history from the start on, and each input is the output before it with the bytes of its line laid over it
+-- The records are a legal history from the start on, each input is the output before it with the bytes of its line laid over it, and
+-- the posts keep the limits of the journal's head, that of a command in flight included.
 pub record IsHistory (lines : List Line) (replies : List (Option Reply)) (c : Channel) : Type 0 where
   pub legal : Legal c.start.device c.start.head.reports c.start.state (exchanges_of c.now.records)
   pub whole : WholeHistory c.start.opening (exchanges_of c.now.records) (take (length c.now.records) (asked_on c.start.head.id lines replies))
+  pub limits : WithinLimits c.start.head.limits (times_of c.now.records) (post_of c.now.in_flight)
 
 -- each journal of a run of these lines is a history
 abbrev pub AreHistories : List Line → Run → Type 0

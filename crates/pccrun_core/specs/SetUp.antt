@@ -1,5 +1,5 @@
 -- What a script opens, and what `step` prints for it.
-use Rattle.std.specs.Prelude.{◌≡◌, ℕ, ◌+◌, ◌-◌, ◌*◌, ◌/◌, min, true, false, List, [], ◌∷◌, ◌++◌, length, map, Option, Some, None, codes}
+use Rattle.std.specs.Prelude.{◌≡◌, ℕ, ◌+◌, ◌-◌, ◌*◌, ◌/◌, min, true, false, List, [], ◌∷◌, ◌++◌, length, map, None, codes}
 use Rattle.std.specs.List.{AllByRecursion, flat_map}
 use Rattle.pcct_table.specs.Rows.{generic_fields, head_fields, number_in}
 use Rattle.pcct_codec.specs.FirstTables.{IsFirstTable, body_of}

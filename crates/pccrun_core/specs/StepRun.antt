@@ -37,6 +37,11 @@ abbrev pub pending_of : Option InFlight → Option Pending
 pending_of None = None
 pending_of (Some p) = Some p.command
 
+-- the reading at which the command in flight was posted
+abbrev pub post_of : Option InFlight → Option ℕ
+post_of None = None
+post_of (Some p) = Some p.command.post
+
 -- what changes: the channel, the records, the command in flight, how many readings its clock gave, and the time that was added to the clock
 pub record ChannelState : Type 0 where
   pub object : Object

@@ -1,5 +1,5 @@
 -- A post may be added exactly from the earliest reading on.
-use Rattle.std.proofs.Common.{◌≡◌, ◌≢◌, inl, inr, ℕ, zero, suc, ◌+◌, ◌-◌, ◌<◌, ◌≤◌, eqb, ltb, true, false, List, [], ◌∷◌, length, slice_index, refl, ap, ◌∙◌, arith}
+use Rattle.std.proofs.Common.{◌≡◌, ◌≢◌, inl, inr, ℕ, zero, suc, ◌+◌, ◌-◌, ◌<◌, ◌≤◌, eqb, ltb, true, false, List, [], ◌∷◌, ◌++◌, length, slice_index, refl, ap, ◌∙◌, arith}
 use Rattle.std.specs.Prelude.{Some, None}
 use Rattle.std.proofs.lemmas.Bool.{cases_lt}
 use Rattle.std.proofs.lemmas.Bool.Decides.{nat_tests}
@@ -117,3 +117,22 @@ exact l ts p w = (
     rate = rate_holds l ts p w (omega arith);
   },
 )
+
+-- ---- a post that is completed
+
+posts_more : (ts : List Times) (t : Times) → posts_of (ts ++ t ∷ []) None ≡ posts_of ts (Some t.post)
+posts_more [] t = refl
+posts_more (x ∷ ts) t = ap (λ (v : List ℕ). x.post ∷ v) (posts_more ts t)
+
+-- the limits of a pending post are those of its command once it is complete
+pub completed : (l : Limits) (ts : List Times) (t : Times) → WithinLimits l ts (Some t.post) → WithinLimits l (ts ++ t ∷ []) None
+completed l ts t w =
+    let same : posts_of (ts ++ t ∷ []) None ≡ posts_of ts (Some t.post) = posts_more ts t in
+    let n : length (posts_of ts (Some t.post)) ≡ length ts + 1 = length_pending ts t.post in
+    record {
+      turnaround = λ i. rw same (λ lt.
+          let inside : i < length ts = omega arith in
+          let here : times_at (ts ++ t ∷ []) i ≡ times_at ts i = get_or_append_left ts (t ∷ []) (record { post = 0; done = 0 }) i inside in
+          rw here (w.turnaround i lt));
+      rate = λ i some. rw same (w.rate i some);
+    }

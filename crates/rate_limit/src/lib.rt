@@ -2,7 +2,7 @@
 //! (ACPI 6.5, 14.1.3).
 #![tactic(auto)]
 
-ghost use Rattle.std.specs.Prelude.{◌≡◌, ◌≤◌, ◌↔◌, [], ◌∷◌, List, ℕ, None, Some};
+ghost use Rattle.std.specs.Prelude.{◌≡◌, ◌≤◌, ◌↔◌, ◌++◌, [], ◌∷◌, List, ℕ, None, Some};
 ghost use Rattle.rate_limit.specs.RateLimits.{WithinLimits, after_minute, after_turnaround, earliest_of};
 ghost use Rattle.rate_limit.specs.declared.Limits.{Limits};
 ghost use Rattle.rate_limit.specs.declared.Times.{Times};
@@ -58,6 +58,11 @@ pub fn earliest(limits: &Limits, times: &[Times]) -> u128
 pub fn earliest_is_exact()
     ensures { (limits : Limits) (times : List Times) (post : ℕ) → WithinLimits limits times None
         → (WithinLimits limits times (Some post) ↔ (earliest_of limits times ≤ post)) }
+{}
+
+/// A post that keeps the limits while it is pending keeps them when it is complete, whenever that is. It does nothing.
+pub fn completion_keeps_limits()
+    ensures { (limits : Limits) (times : List Times) (last : Times) → WithinLimits limits times (Some last.post) → WithinLimits limits (times ++ last ∷ []) None }
 {}
 
 /// The definitions on worked cases. It does nothing.
