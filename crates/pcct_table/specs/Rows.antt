@@ -1,16 +1,10 @@
 -- The fields of the Platform Communications Channel Table and of its structures, a row for each (ACPI 6.5, 14.1).
-use Rattle.std.specs.Prelude.{ℕ, ◌+◌, ◌==◌, if◌then◌else◌, List, [], ◌∷◌, take, drop, Option, Some, None, codes}
+use Rattle.std.specs.Prelude.{ℕ, ◌+◌, ◌==◌, if◌then◌else◌, List, [], ◌∷◌, ◌++◌, map, take, drop, Option, Some, None, codes}
 use Rattle.std.specs.Str.{bytes_eq}
 use Rattle.pcc_bytes.specs.Bytes.{number_at}
-
--- what stands in a field: a little-endian number of 1, 2, 4 or 8 bytes, a generic address, or so many bytes
-pub data Kind : Type 0 where
-  Byte : Kind
-  Word : Kind
-  Dword : Kind
-  Qword : Kind
-  Address : Kind
-  Array : ℕ → Kind
+use Rattle.pcct_table.specs.declared.rows.Kind.{Kind}
+use Rattle.pcct_table.specs.declared.rows.Kind.TheVariants.{Byte, Word, Dword, Qword, Address, Array}
+use Rattle.pcct_table.specs.declared.rows.Row.{Row}
 
 -- how many bytes a field has
 abbrev pub width : Kind → ℕ
@@ -29,6 +23,10 @@ pub record Field : Type 0 where
 
 abbrev pub field : List ℕ → ℕ → Kind → Field
 field name at kind = record { name = name; at = at; kind = kind }
+
+-- the rows of the program as fields
+abbrev pub fields_of : List Row → List Field
+fields_of rows = map (λ r. field r.0.now r.1 r.2) rows
 
 -- the header of a table (5.2.6, 14.1)
 abbrev pub header_fields : List Field
@@ -54,11 +52,10 @@ header_size = 48
 abbrev pub head_fields : List Field
 head_fields = field (codes "type") 0 Byte ∷ field (codes "size") 1 Byte ∷ []
 
--- the generic communications subspace structure, of type 0, behind its head (14.1.3)
-abbrev pub generic_fields : List Field
-generic_fields =
-    field (codes "reserved") 2 (Array 6)
-    ∷ field (codes "base") 8 Qword
+-- the fields that types 0 to 2 share: their memory, their doorbell and their times
+abbrev pub memory_fields : List Field
+memory_fields =
+    field (codes "base") 8 Qword
     ∷ field (codes "length") 16 Qword
     ∷ field (codes "doorbell") 24 Address
     ∷ field (codes "preserve") 36 Qword
@@ -68,9 +65,91 @@ generic_fields =
     ∷ field (codes "turnaround") 60 Word
     ∷ []
 
+-- the fields that types 1 to 4 share: the platform's interrupt
+abbrev pub interrupt_fields : List Field
+interrupt_fields = field (codes "interrupt") 2 Dword ∷ field (codes "interrupt_flags") 6 Byte ∷ field (codes "reserved") 7 (Array 1) ∷ []
+
+-- the generic communications subspace structure, of type 0, behind its head (14.1.3)
+abbrev pub generic_fields : List Field
+generic_fields = field (codes "reserved") 2 (Array 6) ∷ memory_fields
+
+-- the hardware-reduced subspace structure of type 1 (14.1.4)
+abbrev pub hw_reduced1_fields : List Field
+hw_reduced1_fields = interrupt_fields ++ memory_fields
+
+-- the hardware-reduced subspace structure of type 2, whose interrupt is acknowledged by a register (14.1.5)
+abbrev pub hw_reduced2_fields : List Field
+hw_reduced2_fields =
+    interrupt_fields
+    ++ memory_fields
+    ++ (field (codes "ack") 62 Address
+    ∷ field (codes "ack_preserve") 74 Qword
+    ∷ field (codes "ack_write") 82 Qword
+    ∷ [])
+
+-- the extended subspace structures, the initiator's of type 3 and the responder's of type 4 (14.1.6)
+abbrev pub extended_fields : List Field
+extended_fields =
+    interrupt_fields
+    ++ (field (codes "base") 8 Qword
+    ∷ field (codes "length") 16 Dword
+    ∷ field (codes "doorbell") 20 Address
+    ∷ field (codes "preserve") 32 Qword
+    ∷ field (codes "write") 40 Qword
+    ∷ field (codes "latency") 48 Dword
+    ∷ field (codes "rate") 52 Dword
+    ∷ field (codes "turnaround") 56 Dword
+    ∷ field (codes "ack") 60 Address
+    ∷ field (codes "ack_preserve") 72 Qword
+    ∷ field (codes "ack_set") 80 Qword
+    ∷ field (codes "reserved2") 88 (Array 8)
+    ∷ field (codes "check") 96 Address
+    ∷ field (codes "check_mask") 108 Qword
+    ∷ field (codes "update") 116 Address
+    ∷ field (codes "update_preserve") 128 Qword
+    ∷ field (codes "update_set") 136 Qword
+    ∷ field (codes "error") 144 Address
+    ∷ field (codes "error_mask") 156 Qword
+    ∷ [])
+
+-- the hardware registers based subspace structure, of type 5 (14.1.7)
+abbrev pub hw_register_fields : List Field
+hw_register_fields =
+    field (codes "version") 2 Word
+    ∷ field (codes "base") 4 Qword
+    ∷ field (codes "length") 12 Qword
+    ∷ field (codes "doorbell") 20 Address
+    ∷ field (codes "preserve") 32 Qword
+    ∷ field (codes "write") 40 Qword
+    ∷ field (codes "check") 48 Address
+    ∷ field (codes "check_mask") 60 Qword
+    ∷ field (codes "error") 68 Address
+    ∷ field (codes "error_mask") 80 Qword
+    ∷ field (codes "latency") 88 Dword
+    ∷ field (codes "turnaround") 92 Dword
+    ∷ []
+
+-- the fields of a type's structures behind their heads; an unknown type has none
+abbrev pub fields_of_kind : ℕ → List Field
+fields_of_kind kind =
+    if kind == 0 then generic_fields
+    else (if kind == 1 then hw_reduced1_fields
+    else (if kind == 2 then hw_reduced2_fields
+    else (if kind == 3 then extended_fields
+    else (if kind == 4 then extended_fields
+    else (if kind == 5 then hw_register_fields
+    else [])))))
+
 -- the number of bytes of a structure, by its type, where the type is known
 abbrev pub size_of_kind : ℕ → Option ℕ
-size_of_kind kind = if kind == 0 then Some 62 else None
+size_of_kind kind =
+    if kind == 0 then Some 62
+    else (if kind == 1 then Some 62
+    else (if kind == 2 then Some 90
+    else (if kind == 3 then Some 164
+    else (if kind == 4 then Some 164
+    else (if kind == 5 then Some 96
+    else None)))))
 
 -- the parts of a generic address (5.2.3.2)
 abbrev pub address_fields : List Field
