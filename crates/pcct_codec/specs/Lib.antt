@@ -1,2 +1,5 @@
 pub mod TableBytes
+pub mod Tables
+pub mod Faults
+pub mod Worked
 pub mod FirstTables

@@ -3,7 +3,8 @@ ghost use Rattle.std.specs.Prelude.{◌≡◌, ◌≤◌, ◌↔◌, MatchOption
 ghost use Rattle.pcct_codec.specs.TableBytes.{IsHeader};
 ghost use Rattle.pcct_codec.specs.FirstTables.{IsDoorbell, IsServed, IsFirstTable, told_by};
 
-use crate::places::{byte_sum, u8_at, u16_at, u32_at, u64_at};
+use crate::sum::byte_sum;
+use pcct_table::places::{u8_at, u16_at, u32_at, u64_at};
 
 /// The header's bytes, and those of a structure of type 0.
 const HEADER: usize = 48;

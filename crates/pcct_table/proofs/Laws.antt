@@ -1,5 +1,5 @@
 -- The bytes of fields that stand one behind the other are those of their values.
-use Rattle.std.proofs.Common.{◌≡◌, ℕ, ◌+◌, ◌≤◌, List, [], ◌∷◌, ◌++◌, length, take, drop, slice_index, refl, sym, ap, ◌∙◌, append_assoc, arith, length-drop, length-take, Bool, true, eqb, leb, ◌&&◌, lit≤}
+use Rattle.std.proofs.Common.{◌≡◌, ℕ, ◌+◌, ◌≤◌, List, [], ◌∷◌, ◌++◌, length, take, drop, slice_index, refl, sym, ap, ◌∙◌, append_assoc, arith, rules, length-drop, length-take, Bool, true, eqb, leb, ◌&&◌, lit≤}
 use Rattle.std.proofs.lemmas.Bool.{and_parts, eqb-true, leb-true}
 use Rattle.std.specs.Prelude.{Some}
 use Rattle.std.proofs.lemmas.List.{append-nil, take-append-drop, drop-drop, drop_all}
@@ -78,3 +78,7 @@ spelling b (HwReduced2 t) fits h = spelled_back b 90 2 hw_reduced2_fields (value
 spelling b (Initiator t) fits h = spelled_back b 164 3 extended_fields (values34 t) refl h.size (lit≤ tt) h.kind h.told h.values fits
 spelling b (Responder t) fits h = spelled_back b 164 4 extended_fields (values34 t) refl h.size (lit≤ tt) h.kind h.told h.values fits
 spelling b (HwRegister t) fits h = spelled_back b 96 5 hw_register_fields (values5 t) refl h.size (lit≤ tt) h.kind h.told h.values fits
+
+-- bytes spell one structure at most
+pub one_structure : (b : List ℕ) (s u : Subspace) → SubspaceBytes b s → SubspaceBytes b u → s ≡ u
+one_structure b s u h k = search rules

@@ -1,0 +1,78 @@
+//! Why bytes are no table, and why a table isn't written.
+ghost use Rattle.std.specs.Prelude.{◌≡◌};
+ghost use Rattle.pcct_codec.specs.declared.fault.TableFault.TheVariants.{NoMemory as OutOfMemory};
+ghost use Rattle.pcct_codec.specs.declared.fault.TableWriteFault.TheVariants.{
+  NoMemory as NoMemoryToWrite,
+  WriteFault as NotWritten,
+};
+
+use pcc_io::{NoMemory, WriteFault};
+use std::alloc::AllocError;
+
+/// The first check that fails on the bytes of a source, in this order, with its place from the table's first byte.
+#[derive(Clone, Copy, Debug, PartialEq, Eq)]
+pub enum TableFault {
+    /// The source ended after so many bytes, fewer than a header's 48 or than the header tells.
+    Short { at: u32 },
+    /// The first four bytes aren't `PCCT`.
+    Signature,
+    /// The header tells a length below 48 or above 42,032.
+    LengthOutside { len: u32 },
+    /// The revision is neither 1 nor 2.
+    Revision { found: u8 },
+    /// A structure begins here, behind 256.
+    TooMany { at: u32 },
+    /// Of the structure that begins here one byte is left, or it passes the table's end.
+    Overrun { at: u32 },
+    /// The structure that begins here is of an unknown type.
+    SubspaceType { at: u32, kind: u8 },
+    /// The structure that begins here tells another size than its type's.
+    SubspaceLength { at: u32, kind: u8, found: u8 },
+    /// All bytes have this sum modulo 256, and it isn't 0.
+    Checksum { sum: u8 },
+    /// The source failed.
+    ReadFault,
+    /// Memory ran out.
+    NoMemory,
+}
+
+impl From<NoMemory> for TableFault {
+    ghost from_gives = { λ _ e. e ≡ OutOfMemory };
+
+    fn from(_: NoMemory) -> TableFault {
+        TableFault::NoMemory
+    }
+}
+
+impl From<AllocError> for TableFault {
+    ghost from_gives = { λ _ e. e ≡ OutOfMemory };
+
+    fn from(_: AllocError) -> TableFault {
+        TableFault::NoMemory
+    }
+}
+
+/// Why a table isn't written.
+#[derive(Clone, Copy, Debug, PartialEq, Eq)]
+pub enum TableWriteFault {
+    /// The sink failed.
+    WriteFault,
+    /// Memory ran out.
+    NoMemory,
+}
+
+impl From<WriteFault> for TableWriteFault {
+    ghost from_gives = { λ _ e. e ≡ NotWritten };
+
+    fn from(_: WriteFault) -> TableWriteFault {
+        TableWriteFault::WriteFault
+    }
+}
+
+impl From<NoMemory> for TableWriteFault {
+    ghost from_gives = { λ _ e. e ≡ NoMemoryToWrite };
+
+    fn from(_: NoMemory) -> TableWriteFault {
+        TableWriteFault::NoMemory
+    }
+}
