@@ -170,6 +170,6 @@ fn a_source_or_a_sink_that_fails_is_told(rt: HostRuntime) -> Result<(), Fail> {
         table_to(alloc, &table, &mut sink),
         Err(TableWriteFault::WriteFault)
     );
-    assert_eq!(rt; sink.bytes_held(), ONE_GENERIC_SUBSPACE[..10]);
+    assert_eq!(rt; sink.bytes_held(), &ONE_GENERIC_SUBSPACE[..10]);
     Ok(())
 }
