@@ -23,6 +23,7 @@ spelled pieces = flat_map spell pieces
 abbrev pub spelled_of : Piece → Spelled
 spelled_of (piece.Text text) = Words text.now
 spelled_of (piece.Number n) = Decimal n
+spelled_of (piece.Wide n) = Decimal n
 spelled_of (piece.Hex bytes) = HexOf bytes.now
 spelled_of (piece.Bytes bytes) = HexOf bytes.now
 spelled_of (piece.Either test first second) = Words (if test then first.now else second.now)

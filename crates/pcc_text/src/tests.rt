@@ -56,11 +56,13 @@ fn writes_pieces_behind_one_another(rt: HostRuntime) -> Result<(), Fail> {
             Piece::Hex(&[]),
             Piece::Text(b" at "),
             Piece::Number(10),
+            Piece::Text(b" "),
+            Piece::Wide(18_446_744_073_709_552_115),
         ],
     )?;
     assert_eq!(rt;
         out.as_slice(),
-        b"4 1844674407370955161500ab in - at 10".as_slice()
+        b"4 1844674407370955161500ab in - at 10 18446744073709552115".as_slice()
     );
     Ok(())
 }

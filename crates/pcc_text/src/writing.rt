@@ -14,6 +14,8 @@ pub enum Piece<'a> {
     Text(&'a [u8]),
     /// A number in decimal.
     Number(u64),
+    /// A number of up to 128 bits in decimal.
+    Wide(u128),
     /// Bytes in hexadecimal, `-` for none.
     Hex(&'a [u8]),
     /// The same of a list of bytes.
@@ -58,6 +60,7 @@ fn put_piece(out: &mut Vec<u8>, piece: &Piece) -> Result<(), NoMemory>
     match *piece {
         Piece::Text(text) => put(out, text),
         Piece::Number(n) => put_number(out, n),
+        Piece::Wide(n) => put(out, Buffer::new().format(n).as_bytes()),
         Piece::Hex(bytes) => put_hex(out, bytes),
         Piece::Bytes(bytes) => put_hex(out, bytes.as_slice()),
         Piece::Either(true, text, _) => put(out, text),

@@ -1,62 +1,37 @@
--- Calls on a prompt channel: each is refused by itself, by a full journal, or executed in its call.
-use Rattle.std.proofs.Common.{◌≡◌, ℕ, ◌+◌, ◌-◌, ◌*◌, ◌<◌, ◌≤◌, ◌^◌, min, Bool, true, false, cond, eqb, List, [], ◌∷◌, ◌++◌, length, drop, refl, sym, ap, ◌∙◌, subst, arith}
+-- Calls on an open Bank: each is refused by itself, by a full journal or as too soon, or is executed in its call.
+use Rattle.std.proofs.Common.{◌≡◌, ℕ, ◌+◌, ◌-◌, ◌<◌, ◌≤◌, ◌^◌, min, Bool, true, false, cond, List, [], ◌∷◌, ◌++◌, length, drop, refl, sym, ap, ◌∙◌, subst, arith}
 use Rattle.std.specs.Prelude.{Some, None, nat_lt, nat_le, ◌==◌, slice_get}
 use Rattle.std.proofs.lemmas.Bool.Decides.{nat_tests}
 use Rattle.std.proofs.lemmas.Grind.{common_steps}
-use Rattle.std.proofs.lemmas.List.{map-append}
 use Rattle.std.proofs.lemmas.Option.{slice_get-get_or}
 use Rattle.std.proofs.Math.Seq.{get_or-append_seam}
 use Rattle.pcc_causes.specs.Clock.{line_reading}
 use Rattle.pcc_history.specs.Devices.{Executed, bank_exec}
 use Rattle.pcc_history.specs.Channel.{Object, both, object_after, over}
 use Rattle.pcc_io.specs.LineClocks.{LineState}
-use Rattle.rate_limit.specs.declared.Times.{Times}
-use Rattle.rate_limit.specs.declared.Limits.{Limits}
-use Rattle.rate_limit.specs.RateLimits.{earliest_of, times_at}
+use Rattle.rate_limit.specs.RateLimits.{earliest_of}
 use Rattle.pcc_journal.specs.declared.record.Record.{Record}
 use Rattle.pcc_journal.specs.declared.text.JournalHead.{JournalHead}
 use Rattle.pcc_journal.specs.declared.record.Pending.{Pending}
-use Rattle.pcc_journal.specs.Records.{times_of, times_of_record}
-use Rattle.pccrun_core.specs.Replies.{Reply, Done, BadCode, TooLong, JournalFull}
+use Rattle.pcc_journal.specs.Records.{times_of}
+use Rattle.pccrun_core.specs.Replies.{Reply, Done, BadCode, TooLong, JournalFull, TooSoon}
 use Rattle.pccrun_core.specs.ReplyText.{StandsFor}
 use Rattle.pccrun_core.specs.declared.reply.Outcome.{Outcome}
 use Rattle.pccrun_core.specs.declared.reply.Outcome.TheVariants as outcome
-use Rattle.pccrun_core.specs.StepRun.{Answered, Call, ChannelState, answer_call, answer_unless, answer_behind, completed, exchange_with, has_byte_codes, journal_limit, next_reading, record_of, refusal_of}
-use Rattle.pccrun_core.specs.BankChannels.{IsAnswered, IsPrompt, OpenBank, bank_with, command_of, executed, no_limits, start_of}
+use Rattle.pccrun_core.specs.StepRun.{Answered, Call, ChannelState, answer_call, answer_unless, answer_behind, completed, exchange_with, has_byte_codes, journal_limit, next_reading, post_call, record_of, refusal_of}
+use Rattle.pccrun_core.specs.BankChannels.{IsAnswered, IsOpen, OpenBank, bank_with, command_of, executed, read_once, start_of}
 
--- ---- readings never fall
+-- ---- open Banks
 
-pub line_reading-rises : (start step added k : ℕ) → line_reading start step added k ≤ line_reading start step added (k + 1)
-line_reading-rises start step added k = let e : (k + 1) * step ≡ k * step + step = grind arith in omega arith
-
-last_of : (ts : List Times) (t : Times) → times_at (ts ++ t ∷ []) (length (ts ++ t ∷ []) - 1) ≡ t
-last_of ts t =
-    let e : length (ts ++ t ∷ []) - 1 ≡ length ts = grind (arith, common_steps) in
-    ap (times_at (ts ++ t ∷ [])) e ∙ get_or-append_seam ts t [] (record { post = 0; done = 0 })
-
--- without limits a post is allowed from the last completion on
-pub earliest_of-no_limits : (ts : List Times) (t : Times) → earliest_of no_limits (ts ++ t ∷ []) ≤ t.done
-earliest_of-no_limits ts t =
-    let n : length (ts ++ t ∷ []) ≡ length ts + 1 = grind (arith, common_steps) in
-    let some : eqb (length (ts ++ t ∷ [])) 0 ≡ false = grind (arith, nat_tests) in
-    rw (some, last_of ts t) (omega arith)
-
-pub new_is_prompt : (b : OpenBank) → has_byte_codes b.head.kind ≡ true → b.head.reports ≡ true → b.head.limits ≡ no_limits → b.now.in_flight ≡ None
-    → length b.now.object.space ≡ b.head.room → length b.now.object.state ≡ b.head.room + 1 → b.now.records ≡ [] → b.now.taken ≡ 0 → IsPrompt b
-new_is_prompt b byte_codes reports limits rest space state none taken =
-    let zero_yet : earliest_of b.head.limits (times_of b.now.records) ≡ 0 = ap (λ (l : Limits). earliest_of l (times_of b.now.records)) limits ∙ ap (λ (rs : List Record). earliest_of no_limits (times_of rs)) none in
+pub new_is_open : (b : OpenBank) → has_byte_codes b.head.kind ≡ true → b.head.reports ≡ true → b.now.in_flight ≡ None
+    → length b.now.object.space ≡ b.head.room → length b.now.object.state ≡ b.head.room + 1 → b.now.records ≡ [] → IsOpen b
+new_is_open b byte_codes reports rest space state none =
     let empty : length b.now.records ≡ 0 = ap length none in
-    record {
-      byte_codes = byte_codes;
-      reports = reports;
-      limits = limits;
-      at_rest = rest;
-      space = space;
-      state = state;
-      few = omega arith;
-      taken = rw empty taken;
-      in_time = rw zero_yet (omega arith);
-    }
+    record { byte_codes = byte_codes; reports = reports; at_rest = rest; space = space; state = state; few = omega arith }
+
+-- a reading leaves the Bank open
+pub read_is_open : (b : OpenBank) → IsOpen b → IsOpen (read_once b)
+read_is_open b h = record { byte_codes = h.byte_codes; reports = h.reports; at_rest = h.at_rest; space = h.space; state = h.state; few = h.few }
 
 -- ---- a Bank keeps the lengths of its state and of the space
 
@@ -78,33 +53,15 @@ bank_keeps_room room code state space e f =
 over-length : (space bytes : List ℕ) → length bytes ≤ length space → length (over space bytes) ≡ length space
 over-length space bytes le = grind (arith, common_steps)
 
--- a command that was executed at once leaves the Bank prompt
-pub executed_is_prompt : (b : OpenBank) (caller code : ℕ) (bytes : List ℕ) → IsPrompt b → length b.now.records < journal_limit → length bytes ≤ b.head.room → IsPrompt (executed b caller code bytes)
-executed_is_prompt b caller code bytes h room fits =
+-- a command that was executed at once leaves the Bank open
+pub executed_is_open : (b : OpenBank) (caller code : ℕ) (bytes : List ℕ) → IsOpen b → length b.now.records < journal_limit → length bytes ≤ b.head.room → IsOpen (executed b caller code bytes)
+executed_is_open b caller code bytes h room fits =
+    let next : OpenBank = executed b caller code bytes in
     let old_space : length b.now.object.space ≡ b.head.room = h.space in
     let input : length (over b.now.object.space bytes) ≡ b.head.room = over-length b.now.object.space bytes (omega arith) ∙ h.space in
     let after : HasRoom b.head.room (bank_exec b.now.object.state code (over b.now.object.space bytes)) = bank_keeps_room b.head.room code b.now.object.state (over b.now.object.space bytes) input h.state in
-    let next : OpenBank = executed b caller code bytes in
-    let command : Pending = command_of b caller code bytes in
-    let later : ChannelState = record b.now { taken = b.now.taken + 1 } in
-    let r : Record = record_of command (exchange_with (start_of b) command later) (next_reading (start_of b) later) false in
     let one_more : length next.now.records ≡ length b.now.records + 1 = grind (arith, common_steps) in
-    let same_times : times_of next.now.records ≡ times_of b.now.records ++ times_of_record r ∷ [] = map-append times_of_record b.now.records (r ∷ []) in
-    let done : earliest_of b.head.limits (times_of next.now.records) ≤ r.done =
-    rw (h.limits, same_times) (earliest_of-no_limits (times_of b.now.records) (times_of_record r)) in
-    let rises : r.done ≤ next_reading (start_of b) next.now = line_reading-rises b.clock.start b.clock.step b.now.added (b.now.taken + 1) in
-    let taken : b.now.taken ≡ 2 * length b.now.records = h.taken in
-    record {
-      byte_codes = h.byte_codes;
-      reports = h.reports;
-      limits = h.limits;
-      at_rest = refl;
-      space = after.space;
-      state = after.state;
-      few = omega arith;
-      taken = omega arith;
-      in_time = omega arith;
-    }
+    record { byte_codes = h.byte_codes; reports = h.reports; at_rest = refl; space = after.space; state = after.state; few = omega arith }
 
 -- ---- answers
 
@@ -115,62 +72,79 @@ refused b call reply outcome e told =
     record { told = subst P (sym a) told; left = ap (λ (x : Answered). record b { now = x.now }) (sym a) }
 
 -- the code doesn't fit one byte
-pub bad_code : (b : OpenBank) (call : Call) → IsPrompt b → 255 < call.code → IsAnswered b call b (outcome.BadCode call.code)
+pub bad_code : (b : OpenBank) (call : Call) → IsOpen b → 255 < call.code → IsAnswered b call b (outcome.BadCode call.code)
 bad_code b call h large =
     let wide : nat_lt 255 call.code ≡ true = grind (arith, nat_tests) in
     refused b call (BadCode call.code) (outcome.BadCode call.code) (rw (h.byte_codes, wide) refl) refl
 
 -- the bytes don't fit the space
-pub too_long : (b : OpenBank) (call : Call) → IsPrompt b → call.code ≤ 255 → b.head.room < length call.bytes → IsAnswered b call b (outcome.TooLong (length call.bytes) b.head.room)
+pub too_long : (b : OpenBank) (call : Call) → IsOpen b → call.code ≤ 255 → b.head.room < length call.bytes → IsAnswered b call b (outcome.TooLong (length call.bytes) b.head.room)
 too_long b call h small long =
     let narrow : nat_lt 255 call.code ≡ false = grind (arith, nat_tests) in
     let over_room : nat_lt b.head.room (length call.bytes) ≡ true = grind (arith, nat_tests) in
     refused b call (TooLong (length call.bytes) b.head.room) (outcome.TooLong (length call.bytes) b.head.room) (rw (h.byte_codes, narrow, over_room) refl) refl
 
 -- the journal has no place left
-pub journal_full : (b : OpenBank) (call : Call) → IsPrompt b → call.code ≤ 255 → length call.bytes ≤ b.head.room → journal_limit ≤ length b.now.records → IsAnswered b call b outcome.JournalFull
+pub journal_full : (b : OpenBank) (call : Call) → IsOpen b → call.code ≤ 255 → length call.bytes ≤ b.head.room → journal_limit ≤ length b.now.records → IsAnswered b call b outcome.JournalFull
 journal_full b call h small short full =
     let narrow : nat_lt 255 call.code ≡ false = grind (arith, nat_tests) in
     let in_room : nat_lt b.head.room (length call.bytes) ≡ false = grind (arith, nat_tests) in
     let all : nat_le journal_limit (length b.now.records + 0) ≡ true = grind (arith, nat_tests) in
     refused b call JournalFull outcome.JournalFull (rw (h.byte_codes, narrow, in_room, h.at_rest, all) refl) refl
 
--- executed in its call
-pub done : (b : OpenBank) (caller code : ℕ) (bytes : List ℕ) (polls hold : ℕ) → IsPrompt b → code ≤ 255 → length bytes ≤ b.head.room → length b.now.records < journal_limit → hold < polls
-    → IsAnswered b (record { caller = caller; code = code; bytes = bytes; polls = polls; hold = hold }) (executed b caller code bytes) (outcome.Done (length b.now.records))
-done b caller code bytes polls hold h small short room soon =
-    let call : Call = record { caller = caller; code = code; bytes = bytes; polls = polls; hold = hold } in
-    let narrow : nat_lt 255 code ≡ false = grind (arith, nat_tests) in
-    let in_room : nat_lt b.head.room (length bytes) ≡ false = grind (arith, nat_tests) in
+-- a call that is accepted is answered by the limits
+accepted : (b : OpenBank) (call : Call) → IsOpen b → call.code ≤ 255 → length call.bytes ≤ b.head.room → length b.now.records < journal_limit
+    → answer_call (start_of b) call b.now ≡ post_call (start_of b) call b.now
+accepted b call h small short room =
+    let narrow : nat_lt 255 call.code ≡ false = grind (arith, nat_tests) in
+    let in_room : nat_lt b.head.room (length call.bytes) ≡ false = grind (arith, nat_tests) in
     let some : nat_le journal_limit (length b.now.records + 0) ≡ false = grind (arith, nat_tests) in
+    let none : refusal_of b.head call b.now ≡ None = rw (h.byte_codes, narrow, in_room, h.at_rest, some) refl in
+    ap (answer_unless (start_of b) call b.now) none ∙ ap (answer_behind (start_of b) call b.now) h.at_rest
+
+-- the reading is below the earliest
+pub too_soon : (b : OpenBank) (call : Call) → IsOpen b → call.code ≤ 255 → length call.bytes ≤ b.head.room → length b.now.records < journal_limit
+    → next_reading (start_of b) b.now < earliest_of b.head.limits (times_of b.now.records)
+    → IsAnswered b call (read_once b) (outcome.TooSoon (next_reading (start_of b) b.now) (earliest_of b.head.limits (times_of b.now.records)))
+too_soon b call h small short room below =
+    let reading : ℕ = next_reading (start_of b) b.now in
+    let earliest : ℕ = earliest_of b.head.limits (times_of b.now.records) in
+    let soon : nat_lt reading earliest ≡ true = grind (arith, nat_tests) in
+    let a : answer_call (start_of b) call b.now ≡ record { reply = TooSoon reading earliest; now = (read_once b).now } = accepted b call h small short room ∙ rw soon refl in
+    let P : Answered → Type 0 = λ x. StandsFor x.now.records (outcome.TooSoon reading earliest) x.reply in
+    record { told = subst P (sym a) refl; left = ap (λ (x : Answered). record b { now = x.now }) (sym a) }
+
+-- executed in its call
+pub done : (b : OpenBank) (caller code : ℕ) (bytes : List ℕ) (polls hold : ℕ) → IsOpen b → code ≤ 255 → length bytes ≤ b.head.room → length b.now.records < journal_limit
+    → earliest_of b.head.limits (times_of b.now.records) ≤ next_reading (start_of b) b.now → hold < polls
+    → IsAnswered b (record { caller = caller; code = code; bytes = bytes; polls = polls; hold = hold }) (executed b caller code bytes) (outcome.Done (length b.now.records))
+done b caller code bytes polls hold h small short room in_time soon =
+    let call : Call = record { caller = caller; code = code; bytes = bytes; polls = polls; hold = hold } in
     let in_call : nat_lt hold polls ≡ true = grind (arith, nat_tests) in
     let reading : ℕ = next_reading (start_of b) b.now in
     let earliest : ℕ = earliest_of b.head.limits (times_of b.now.records) in
-    let in_time : earliest ≤ reading = h.in_time in
     let not_soon : nat_lt reading earliest ≡ false = grind (arith, nat_tests) in
     let command : Pending = command_of b caller code bytes in
     let later : ChannelState = record b.now { taken = b.now.taken + 1 } in
     let now : ChannelState = completed (start_of b) command false later in
     let r : Record = record_of command (exchange_with (start_of b) command later) (next_reading (start_of b) later) false in
-    let accepted : refusal_of b.head call b.now ≡ None = rw (h.byte_codes, narrow, in_room, h.at_rest, some) refl in
-    let a : answer_call (start_of b) call b.now ≡ record { reply = Done r.error r.output; now = now } =
-    ap (answer_unless (start_of b) call b.now) accepted ∙ ap (answer_behind (start_of b) call b.now) h.at_rest ∙ rw (not_soon, in_call) refl in
+    let a : answer_call (start_of b) call b.now ≡ record { reply = Done r.error r.output; now = now } = accepted b call h small short room ∙ rw (not_soon, in_call) refl in
     let P : Answered → Type 0 = λ x. StandsFor x.now.records (outcome.Done (length b.now.records)) x.reply in
     let placed : slice_get (b.now.records ++ r ∷ []) (length b.now.records) ≡ Some r =
     slice_get-get_or (b.now.records ++ r ∷ []) (length b.now.records) r (grind (arith, common_steps)) ∙ ap Some (get_or-append_seam b.now.records r [] r) in
     record { told = subst P (sym a) (r, placed, refl); left = ap (λ (x : Answered). record b { now = x.now }) (sym a) }
 
 -- the same of a Bank that a value stands for, and by the place of the record
-pub done_at : (x b new : OpenBank) (caller code : ℕ) (bytes : List ℕ) (place polls hold : ℕ) → x ≡ b → IsPrompt x → code ≤ 255 → length bytes ≤ x.head.room → place ≡ length x.now.records → place < journal_limit → hold < polls
-    → new ≡ executed b caller code bytes → IsAnswered b (record { caller = caller; code = code; bytes = bytes; polls = polls; hold = hold }) new (outcome.Done place)
-done_at x b new caller code bytes place polls hold same h small short is room soon e =
+pub done_at : (x b new : OpenBank) (caller code : ℕ) (bytes : List ℕ) (place polls hold : ℕ) → x ≡ b → IsOpen x → code ≤ 255 → length bytes ≤ x.head.room → place ≡ length x.now.records → place < journal_limit
+    → earliest_of x.head.limits (times_of x.now.records) ≤ next_reading (start_of x) x.now → hold < polls
+    → executed x caller code bytes ≡ new → IsAnswered b (record { caller = caller; code = code; bytes = bytes; polls = polls; hold = hold }) new (outcome.Done place)
+done_at x b new caller code bytes place polls hold same h small short is room in_time soon e =
     let call : Call = record { caller = caller; code = code; bytes = bytes; polls = polls; hold = hold } in
     let few : length x.now.records < journal_limit = rw (← is) room in
     let P : OpenBank → Type 0 = λ v. IsAnswered x call v (outcome.Done place) in
     let Q : ℕ → Type 0 = λ n. IsAnswered x call (executed x caller code bytes) (outcome.Done n) in
-    let R : OpenBank → Type 0 = λ v. new ≡ executed v caller code bytes → IsAnswered v call new (outcome.Done place) in
-    let from : R x = λ f. subst P (sym f) (subst Q (sym is) (done x caller code bytes polls hold h small short few soon)) in
-    subst R same from e
+    let R : OpenBank → Type 0 = λ v. IsAnswered v call new (outcome.Done place) in
+    subst R same (subst P e (subst Q (sym is) (done x caller code bytes polls hold h small short few in_time soon)))
 
 -- ---- the fields of a Bank behind a command
 

@@ -1,14 +1,11 @@
 -- A Bank's channel whose commands are executed in their calls.
-use Rattle.std.specs.Prelude.{◌≡◌, ◌≤◌, ℕ, ◌+◌, ◌*◌, true, false, List, ◌∷◌, length, replicate, None}
-use Rattle.rate_limit.specs.declared.Limits.{Limits}
-use Rattle.rate_limit.specs.RateLimits.{earliest_of}
+use Rattle.std.specs.Prelude.{◌≡◌, ◌≤◌, ℕ, ◌+◌, true, false, List, ◌∷◌, length, replicate, None}
 use Rattle.pcc_history.specs.Devices.{bank_exec}
 use Rattle.pcc_history.specs.Channel.{over}
 use Rattle.pcc_io.specs.LineClocks.{LineState}
 use Rattle.pcc_journal.specs.declared.text.JournalHead.{JournalHead}
 use Rattle.pcc_journal.specs.declared.record.Record.{Record}
 use Rattle.pcc_journal.specs.declared.record.Pending.{Pending}
-use Rattle.pcc_journal.specs.Records.{times_of}
 use Rattle.pccrun_core.specs.StepRun.{Call, Channel, ChannelStart, ChannelState, ScriptClock, answer_call, completed, fresh, has_byte_codes, journal_limit, next_reading}
 use Rattle.pccrun_core.specs.ReplyText.{StandsFor}
 use Rattle.pccrun_core.specs.declared.reply.Outcome.{Outcome}
@@ -41,22 +38,14 @@ bank_with head clock state space records = record {
   now = record { object = record { state = state; space = space }; records = records; in_flight = None; taken = clock.taken; added = clock.added };
 }
 
--- neither a turnaround nor a rate
-abbrev pub no_limits : Limits
-no_limits = record { turnaround = 0; per_minute = 0 }
-
--- On a subspace of the types 0 to 2 with neither a turnaround nor a rate nothing is in flight, device and space have the room,
--- each record took two readings, and no reading is too soon.
-pub record IsPrompt (b : OpenBank) : Type 0 where
+-- on a subspace of the types 0 to 2 nothing is in flight, device and space have the room, and the journal has its records at most
+pub record IsOpen (b : OpenBank) : Type 0 where
   pub byte_codes : has_byte_codes b.head.kind ≡ true
   pub reports : b.head.reports ≡ true
-  pub limits : b.head.limits ≡ no_limits
   pub at_rest : b.now.in_flight ≡ None
   pub space : length b.now.object.space ≡ b.head.room
   pub state : length b.now.object.state ≡ b.head.room + 1
   pub few : length b.now.records ≤ journal_limit
-  pub taken : b.now.taken ≡ 2 * length b.now.records
-  pub in_time : earliest_of b.head.limits (times_of b.now.records) ≤ next_reading (start_of b) b.now
 
 -- the command of a call that is posted at the next reading
 abbrev pub command_of : OpenBank → ℕ → ℕ → List ℕ → Pending
@@ -65,6 +54,10 @@ command_of b caller code bytes = record { caller = caller; code = code; input = 
 -- the Bank behind a command that was posted and executed at once
 abbrev pub executed : OpenBank → ℕ → ℕ → List ℕ → OpenBank
 executed b caller code bytes = record b { now = completed (start_of b) (command_of b caller code bytes) false (record b.now { taken = b.now.taken + 1 }) }
+
+-- the Bank with one reading more taken
+abbrev pub read_once : OpenBank → OpenBank
+read_once b = record b { now = record b.now { taken = b.now.taken + 1 } }
 
 -- what became of a call stands for its reply, and the Bank is as the answer leaves it
 pub record IsAnswered (old : OpenBank) (call : Call) (new : OpenBank) (outcome : Outcome) : Type 0 where

@@ -30,6 +30,7 @@ StandsFor records (outcome.Done place) reply = (r : Record) × (slice_get record
 StandsFor records (outcome.BadCode code) reply = reply ≡ BadCode code
 StandsFor records (outcome.TooLong len room) reply = reply ≡ TooLong len room
 StandsFor records outcome.JournalFull reply = reply ≡ JournalFull
+StandsFor records (outcome.TooSoon now earliest) reply = reply ≡ TooSoon now earliest
 
 -- the place that an outcome names is one of so many
 abbrev pub IsPlaced : ℕ → Outcome → Type 0

@@ -1,21 +1,20 @@
 //! A Bank's channel in one thread: whole calls on its device, its communication space, its clock and its records.
-ghost use Rattle.std.specs.Prelude.{◌≡◌, ◌≤◌, ◌<◌, ◌+◌, ◌++◌, ◌∷◌, [], ℕ, true, length, vec_len, vec_capacity, IfOk, OnOk, OnErr};
+ghost use Rattle.std.specs.Prelude.{◌≡◌, ◌≤◌, ◌<◌, ◌+◌, ◌^◌, ◌++◌, ℕ, true, MatchOption, length, vec_len, vec_capacity, IfOk, OnErr};
 ghost use Rattle.pcc_history.specs.Devices.{bank_exec};
 ghost use Rattle.pcc_history.specs.Channel.{object_after, over};
+ghost use Rattle.rate_limit.specs.RateLimits.{earliest_of};
 ghost use Rattle.pcc_steps.specs.Execution.{is_bad};
 ghost use Rattle.pccrun_core.specs.ReplyText.{IsPlaced};
-ghost use Rattle.pccrun_core.specs.StepRun.{has_byte_codes, journal_limit};
-ghost use Rattle.pccrun_core.specs.BankChannels.{IsAnswered, executed, new_bank, no_limits};
+ghost use Rattle.pccrun_core.specs.StepRun.{has_byte_codes};
+ghost use Rattle.pccrun_core.specs.BankChannels.{IsAnswered, new_bank};
 
 use crate::reply::Outcome;
 use pcc_io::{Bytes, Clock, LineClock, NoMemory};
-use pcc_journal::{JournalHead, Record};
+use pcc_journal::{Journal, JournalHead, Record, ReserveRefusal};
 use pcc_steps::{Bank, ExecStatus, whole_call};
+use rate_limit::{Limits, Times, earliest};
 use std::alloc::Global;
 use std::marker::Model;
-
-/// How many records a journal has at most.
-const JOURNAL_LIMIT: usize = 4096;
 
 /// The greatest code that the generic header of the types 0 to 2 can carry (ACPI 6.5, 14.2.1).
 const GREATEST_CODE: u32 = 255;
@@ -27,17 +26,17 @@ pub struct BankChannel {
     device: Bank,
     space: Vec<u8>,
     clock: LineClock,
-    records: Vec<Record>,
+    journal: Journal,
 }
 
 impl Model for BankChannel {
-    ghost use Rattle.pccrun_core.specs.BankChannels.{IsPrompt, OpenBank, bank_with};
+    ghost use Rattle.pccrun_core.specs.BankChannels.{IsOpen, OpenBank, bank_with};
 
     ghost Value = { OpenBank };
 
-    ghost view = { λ c. bank_with c.head c.clock c.device c.space.items c.records.items };
+    ghost view = { λ c. bank_with c.head c.clock c.device c.space.items c.journal.items };
 
-    ghost invariant = { λ c. IsPrompt (bank_with c.head c.clock c.device c.space.items c.records.items) };
+    ghost invariant = { λ c. IsOpen (bank_with c.head c.clock c.device c.space.items c.journal.items) };
 }
 
 // The bytes laid over the front of a space.
@@ -77,18 +76,19 @@ fn fill(list: &mut Vec<u8>, bytes: &[u8])
     }
 }
 
-// Puts a record at the end of a list that has the memory for it.
-fn append(records: &mut Vec<Record>, entry: Record)
-    requires { vec_len records.old < vec_capacity records.old }
-    ensures { records.new.items ≡ records.old.items ++ entry ∷ [] }
+// The earliest reading for a post, where this one is below it.
+fn too_soon(limits: &Limits, times: &[Times], reading: u64) -> Option<u128>
+    ensures { MatchOption result (earliest_of limits.now times.now ≤ reading) (λ e. (e ≡ earliest_of limits.now times.now) × (reading < e)) }
 {
-    match records.push(entry) {
-        Ok(()) => {}
-        Err(_) => unreachable!(),
+    let earliest = earliest(limits, times);
+    if u128::from(reading) < earliest {
+        Some(earliest)
+    } else {
+        None
     }
 }
 
-#[tactic(auto, using(crate::proofs::Calls::new_is_prompt))]
+#[tactic(auto, using(crate::proofs::Calls::new_is_open))]
 impl BankChannel {
     /// A channel that nothing was asked of, with zeros in its device and its space. Its clock has this start and this step.
     pub fn new(
@@ -99,7 +99,6 @@ impl BankChannel {
     ) -> Result<BankChannel, NoMemory>
         requires byte_codes { has_byte_codes head.kind ≡ true }
         requires reports { head.reports ≡ true }
-        requires limits { head.limits ≡ no_limits }
         ensures { IfOk result (λ b. b ≡ new_bank head (record { start = start; step = step })) }
     {
         Ok(BankChannel {
@@ -107,7 +106,7 @@ impl BankChannel {
             device: Bank::new(alloc, head.room)?,
             space: vec![in alloc; 0; head.room as usize]?,
             clock: LineClock::new(start, step),
-            records: Vec::new(alloc),
+            journal: Journal::new(alloc),
         })
     }
 
@@ -115,13 +114,14 @@ impl BankChannel {
     pub fn records(&self) -> &[Record]
         ensures { result.now ≡ self.now.now.records }
     {
-        &self.records
+        self.journal.as_slice()
     }
 
     /// Makes a call of a caller: a command of this code, whose input is the space with the bytes laid over its front. It is answered as the
     /// line of a run whose command is held for fewer turns than it has polls, for every such hold. A code above 255, more bytes than
-    /// the space has, and a journal with 4,096 records are refused, in this order, and change nothing.
-    #[tactic(auto, using(crate::proofs::Calls::bad_code, crate::proofs::Calls::too_long, crate::proofs::Calls::journal_full, crate::proofs::Calls::done))]
+    /// the space has, and a journal with 4,096 records are refused, in this order, and change nothing. A call that is too soon
+    /// has moved the clock alone.
+    #[tactic(auto, using(crate::proofs::Calls::bad_code, crate::proofs::Calls::too_long))]
     pub fn call(
         &mut self,
         alloc: Global,
@@ -129,9 +129,11 @@ impl BankChannel {
         code: u32,
         bytes: &[u8],
     ) -> Result<Outcome, NoMemory>
+        requires { self.old.now.taken < 2 ^ 63 }
         ensures answered { IfOk result (λ outcome. (polls hold : ℕ) → hold < polls
             → IsAnswered self.old (record { caller = caller; code = code; bytes = bytes.now; polls = polls; hold = hold }) self.new outcome) }
         ensures placed { IfOk result (IsPlaced (length self.new.now.records)) }
+        ensures readings { self.new.now.taken ≤ self.old.now.taken + 2 }
         ensures head { self.new.head ≡ self.old.head }
         ensures err { OnErr result (self.new ≡ self.old) }
     {
@@ -143,35 +145,46 @@ impl BankChannel {
         if len > room as usize {
             return Ok(Outcome::TooLong { len, room });
         }
-        let place = self.records.len();
-        if place >= JOURNAL_LIMIT {
-            return Ok(Outcome::JournalFull);
-        }
-        self.execute(alloc, caller, code, bytes)?;
-        Ok(Outcome::Done { place })
+        self.post(alloc, caller, code, bytes)
     }
 
     // Posts a command, executes it and records it. All memory is taken first.
-    fn execute(
+    fn post(
         &mut self,
         alloc: Global,
         caller: u32,
         code: u32,
         bytes: &[u8],
-    ) -> Result<(), NoMemory>
+    ) -> Result<Outcome, NoMemory>
+        requires early { self.old.now.taken < 2 ^ 63 }
+        requires narrow { code ≤ GREATEST_CODE }
         requires fits { length bytes.now ≤ self.old.head.room }
-        requires room { length self.old.now.records < journal_limit }
-        ensures ok { OnOk result (self.new ≡ executed self.old caller code bytes.now) }
+        ensures answered { IfOk result (λ outcome. (polls hold : ℕ) → hold < polls
+            → IsAnswered self.old (record { caller = caller; code = code; bytes = bytes.now; polls = polls; hold = hold }) self.new outcome) }
+        ensures placed { IfOk result (IsPlaced (length self.new.now.records)) }
+        ensures readings { self.new.now.taken ≤ self.old.now.taken + 2 }
+        ensures head { self.new.head ≡ self.old.head }
         ensures err { OnErr result (self.new ≡ self.old) }
     {
-        self.records.reserve(1)?;
+        match self.journal.reserve() {
+            Ok(()) => {}
+            Err(ReserveRefusal::JournalFull) => return Ok(Outcome::JournalFull),
+            Err(ReserveRefusal::NoMemory) => return Err(NoMemory),
+        }
         let input = laid_over(alloc, &self.space, bytes)?;
         let mut output = Vec::with_capacity(alloc, self.space.len())?;
         let post = self.clock.now();
+        if let Some(earliest) = too_soon(&self.head.limits, self.journal.times(), post) {
+            return Ok(Outcome::TooSoon {
+                now: post,
+                earliest,
+            });
+        }
+        let place = self.journal.len();
         let status = run(&mut self.device, &mut self.space, code, bytes);
         let done = self.clock.now();
         fill(&mut output, &self.space);
-        let entry = Record {
+        self.journal.append(Record {
             caller,
             code,
             input: Bytes::from_vec(input),
@@ -180,8 +193,7 @@ impl BankChannel {
             post,
             done,
             late: false,
-        };
-        append(&mut self.records, entry);
-        Ok(())
+        });
+        Ok(Outcome::Done { place })
     }
 }

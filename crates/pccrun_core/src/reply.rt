@@ -1,6 +1,6 @@
 //! What a call line is answered, and the text of that answer.
 ghost use Rattle.std.specs.Prelude.{◌≡◌, ◌++◌, length, OnOk};
-ghost use Rattle.pccrun_core.specs.Replies.{BadCode, Done, JournalFull, Reply, TooLong};
+ghost use Rattle.pccrun_core.specs.Replies.{BadCode, Done, JournalFull, Reply, TooLong, TooSoon};
 ghost use Rattle.pccrun_core.specs.ReplyText.{IsPlaced, StandsFor, reply_text};
 
 use pcc_io::NoMemory;
@@ -18,6 +18,8 @@ pub enum Outcome {
     TooLong { len: usize, room: u32 },
     /// The journal has no place left.
     JournalFull,
+    /// The reading of its post is below the earliest that the limits allow, both in microseconds.
+    TooSoon { now: u64, earliest: u128 },
 }
 
 /// Puts the reply of a line, whose number in the script counts from 1.
@@ -36,6 +38,7 @@ pub fn put_reply(
         Outcome::BadCode { code } => put_bad_code(out, line, code),
         Outcome::TooLong { len, room } => put_too_long(out, line, len, room),
         Outcome::JournalFull => put_journal_full(out, line),
+        Outcome::TooSoon { now, earliest } => put_too_soon(out, line, now, earliest),
     }
 }
 
@@ -91,4 +94,21 @@ fn put_journal_full(out: &mut Vec<u8>, line: u64) -> Result<(), NoMemory>
     ensures { OnOk result (out.new.items ≡ out.old.items ++ reply_text line JournalFull) }
 {
     put_pieces(out, &[Piece::Number(line), Piece::Text(b" journal full\n")])
+}
+
+#[tactic(auto, unfolding(crate::specs::ReplyText::reply_text))]
+fn put_too_soon(out: &mut Vec<u8>, line: u64, now: u64, earliest: u128) -> Result<(), NoMemory>
+    ensures { OnOk result (out.new.items ≡ out.old.items ++ reply_text line (TooSoon now earliest)) }
+{
+    put_pieces(
+        out,
+        &[
+            Piece::Number(line),
+            Piece::Text(b" too soon "),
+            Piece::Number(now),
+            Piece::Text(b" "),
+            Piece::Wide(earliest),
+            Piece::Text(b"\n"),
+        ],
+    )
 }

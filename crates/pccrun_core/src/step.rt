@@ -3,7 +3,7 @@ ghost use Rattle.std.specs.Prelude.{◌≡◌, ◌≤◌, ◌<◌, ◌++◌, ◌
 ghost use Rattle.std.specs.List.{AllByRecursion};
 ghost use Rattle.pcc_script.specs.Limits.{IsAction, IsWithin};
 ghost use Rattle.pcct_codec.specs.FirstTables.{told_by};
-ghost use Rattle.pccrun_core.specs.BankChannels.{channel_of, no_limits};
+ghost use Rattle.pccrun_core.specs.BankChannels.{channel_of};
 ghost use Rattle.pccrun_core.specs.ReplyText.{replies_text};
 ghost use Rattle.pccrun_core.specs.StepRun.{step_run, turn_of};
 ghost use Rattle.pccrun_core.specs.SetUp.{IsPromptCall, IsServedScript, room_limit, room_of, step_text};
@@ -35,8 +35,10 @@ fn run_line(
     requires within { IsAction action.now }
     requires served { IsPromptCall action.now }
     requires first { bank.old.head.id ≡ 0 }
+    requires early { bank.old.now.taken < 2 ^ 63 }
     ensures reply { OnOk result (let t = turn_of action.now (channel_of bank.old ∷ []) in out.new.items ≡ out.old.items ++ replies_text line (t.reply ∷ [])) }
     ensures bank { OnOk result (let t = turn_of action.now (channel_of bank.old ∷ []) in t.channels ≡ channel_of bank.new ∷ []) }
+    ensures readings { bank.new.now.taken ≤ bank.old.now.taken + 2 }
     ensures head { bank.new.head ≡ bank.old.head }
 {
     match action {
@@ -67,6 +69,7 @@ fn run_lines(
     requires low { first < 2 ^ 32 }
     requires served { AllByRecursion IsPromptCall actions.now }
     requires id { bank.old.head.id ≡ 0 }
+    requires early { bank.old.now.taken ≡ 0 }
     ensures replies { OnOk result (let r = step_run actions.now (channel_of bank.old ∷ []) in out.new.items ≡ out.old.items ++ replies_text first r.replies) }
     ensures bank { OnOk result (let r = step_run actions.now (channel_of bank.old ∷ []) in r.channels ≡ channel_of bank.new ∷ []) }
     ensures head { bank.new.head ≡ bank.old.head }
@@ -92,9 +95,7 @@ fn room_for(len: u64) -> u32
 
 // The head of the journal of a served script.
 fn head_for(table: &FirstTable) -> JournalHead
-    requires rate { table.now.rate ≡ 0 }
-    requires turnaround { table.now.turnaround ≡ 0 }
-    ensures { result ≡ record { id = 0; kind = 0; cppc = false; room = room_of table.now.length; limits = no_limits; reports = true } }
+    ensures { result ≡ record { id = 0; kind = 0; cppc = false; room = room_of table.now.length; limits = record { turnaround = table.now.turnaround; per_minute = table.now.rate }; reports = true } }
 {
     JournalHead {
         id: 0,
