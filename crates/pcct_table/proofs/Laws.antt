@@ -21,12 +21,12 @@ abbrev pub is_contiguous : ℕ → List Field → ℕ → Bool
 is_contiguous at [] end = eqb at end
 is_contiguous at (f ∷ fs) end = eqb f.at at && (leb (at + width f.kind) end && is_contiguous (at + width f.kind) fs end)
 
-record Begins (at : ℕ) (f : Field) (fs : List Field) (end : ℕ) : Type 0 where
-  here : f.at ≡ at
-  within : at + width f.kind ≤ end
-  rest : is_contiguous (at + width f.kind) fs end ≡ true
+pub record Begins (at : ℕ) (f : Field) (fs : List Field) (end : ℕ) : Type 0 where
+  pub here : f.at ≡ at
+  pub within : at + width f.kind ≤ end
+  pub rest : is_contiguous (at + width f.kind) fs end ≡ true
 
-begins : (at : ℕ) (f : Field) (fs : List Field) (end : ℕ) → is_contiguous at (f ∷ fs) end ≡ true → Begins at f fs end
+pub begins : (at : ℕ) (f : Field) (fs : List Field) (end : ℕ) → is_contiguous at (f ∷ fs) end ≡ true → Begins at f fs end
 begins at f fs end h =
     let p = and_parts (eqb f.at at) _ h in
     let q = and_parts (leb (at + width f.kind) end) _ p.1 in

@@ -1,23 +1,30 @@
-//! The Platform Communications Channel Table (PCCT, ACPI 6.5, 14.1) as a value, with its structures' bytes both ways. The fields of each
-//! structure stand in one table, by which its bytes are read and written.
+//! The Platform Communications Channel Table (PCCT, ACPI 6.5, 14.1) as a value, with its structures' bytes both ways and its text both ways.
+//! The fields of each structure stand in one table, by which its bytes and its words are read and written.
 #![tactic(auto)]
 
+mod build;
 mod extended;
 mod generic;
+mod header;
 mod hw_reduced;
 mod hw_register;
+mod line;
 pub mod pieces;
 pub mod places;
 mod rows;
+mod show;
 mod subspace;
 mod subspaces;
 mod table;
+mod words;
 
+pub use build::{BuildError, BuildKind, table_of_lines};
 pub use extended::Type34;
 pub use generic::Type0;
 pub use hw_reduced::{Type1, Type2};
 pub use hw_register::Type5;
 pub use rows::{Kind, Row, rows_of_kind};
+pub use show::show_lines;
 pub use subspace::{
     Subspace, one_spelling, one_subspace, put_subspace, size_of_kind, subspace_from,
 };
@@ -26,3 +33,5 @@ pub use table::Table;
 
 #[cfg(test)]
 mod tests;
+#[cfg(test)]
+mod text_tests;
