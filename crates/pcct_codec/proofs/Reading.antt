@@ -1,6 +1,6 @@
 -- Bytes are read from a source, one read after another.
 use Rattle.std.proofs.Common.{◌≡◌, ◌≢◌, ℕ, ◌+◌, ◌<◌, ◌≤◌, true, List, [], ◌++◌, length, take, refl, sym, ap, ◌∙◌, subst, arith, Result, Ok, Err}
-use Rattle.std.specs.Prelude.{Option, Some, None, IfOk, IfErr, IsErrAnd, MatchResult}
+use Rattle.std.specs.Prelude.{Option, Some, None, IfOk, IfErr, MatchResult}
 use Rattle.std.proofs.lemmas.List.{append_assoc, append-nil, length-append, take_at}
 use Rattle.std.specs.Io.KnownBytes.{Consumes, IsAtEnd, Keeps}
 use Rattle.std.proofs.KnownBytes.{Consumes-nil, Consumes-trans, Consumes-kept}
@@ -164,8 +164,3 @@ all_read old mid new before header after len none f g long told enough =
     let within : length after ≤ len = g.within in
     let same : len ≡ length after = omega arith in
     (both_read old mid new before header after 48 len none f g, both_told mid new header after len long told g ∙ ap Ok same)
-
--- an error that is passed on as it is
-pub err_from : {T : Type 0} (P : TableFault → Type 0) (r : Result T TableFault) (f : TableFault) → IsErrAnd r (λ e. e ≡ f) → P f → IfErr r P
-err_from P (Ok v) f h p = tt
-err_from P (Err e) f h p = subst P (sym h) p

@@ -68,10 +68,7 @@ fn take_table<S: Source>(alloc: Global, source: &mut S) -> Result<Vec<u8>, Table
             at: bytes.len() as u32,
         });
     }
-    let len = match told_length(&bytes) {
-        Err(fault) => return Err(fault),
-        Ok(len) => len,
-    };
+    let len = told_length(&bytes)?;
     fill(source, &mut bytes, len)?;
     if bytes.len() < len {
         return Err(TableFault::Short {
@@ -89,10 +86,7 @@ fn table_in(alloc: Global, bytes: &[u8]) -> Result<Table, TableFault>
         (λ f. FaultIs f (table_decision bytes.now)) }
     ensures fit { IsBytes bytes.now }
 {
-    let subspaces = match structures_from(alloc, bytes) {
-        Err(fault) => return Err(fault),
-        Ok(subspaces) => subspaces,
-    };
+    let subspaces = structures_from(alloc, bytes)?;
     let sum = byte_sum(bytes) % 256;
     if sum != 0 {
         return Err(TableFault::Checksum { sum: sum as u8 });

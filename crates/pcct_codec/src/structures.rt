@@ -73,13 +73,9 @@ pub(crate) fn structures_from(alloc: Global, bytes: &[u8]) -> Result<Subspaces, 
         if subspaces.len() >= MOST {
             return Err(TableFault::TooMany { at: at as u32 });
         }
-        match structure_at(at as u32, behind(bytes, at)) {
-            Err(fault) => return Err(fault),
-            Ok((subspace, size)) => {
-                subspaces.push(subspace)?;
-                at += size;
-            }
-        }
+        let (subspace, size) = structure_at(at as u32, behind(bytes, at))?;
+        subspaces.push(subspace)?;
+        at += size;
     }
     Ok(subspaces)
 }
