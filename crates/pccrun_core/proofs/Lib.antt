@@ -3,4 +3,5 @@ pub mod Replies
 pub mod Calls
 pub mod Steps
 pub mod Actions
+pub mod Refused
 pub mod Tops

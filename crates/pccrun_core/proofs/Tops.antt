@@ -1,22 +1,28 @@
 -- What the words and the bytes read lead to.
 use Rattle.std.proofs.Common.{◌≡◌, ◌≢◌, ℕ, ◌+◌, ◌≤◌, true, false, List, [], ◌∷◌, ◌++◌, length, get_or, map, refl, sym, ap, ◌∙◌, subst, arith}
-use Rattle.std.specs.Prelude.{Option, Some, None, codes, bytes_eq}
+use Rattle.std.specs.Prelude.{Option, Some, None, MatchOption, codes, bytes_eq, slice_get}
 use Rattle.std.specs.Io.KnownBytes.{Consumes, IsAtEnd}
+use Rattle.std.specs.List.{flat_map}
 use Rattle.std.proofs.lemmas.List.{append-nil, length-append, length-map}
 use Rattle.std.proofs.lemmas.Slice.Eq.{bytes_eq-Decides}
-use Rattle.pccrun_core.specs.declared.command.Command.{Command}
-use Rattle.pccrun_core.specs.declared.command.Command.TheVariants.{Step}
-use Rattle.pccrun_core.specs.declared.refusal.Refusal.TheVariants.{Long, Unbuilt}
-use Rattle.pcct_codec.specs.FirstTables.{body_of}
-use Rattle.pcc_script.specs.Text.{script_text}
 use Rattle.pcc_script.specs.declared.scenario.OpenLine.{OpenLine}
 use Rattle.pcc_script.specs.declared.scenario.Scenario.{Scenario}
-use Rattle.pccrun_core.specs.Answers.{Answers, AsksFor, IsServedInput, IsStep, IsUnbuilt, NotBuilt, Stepped, TooLong, Usage, input_limit, refused_line, usage_line}
+use Rattle.pcct_table.specs.declared.subspace.Subspace.{Subspace}
+use Rattle.pcct_table.specs.declared.table.Table.{Table}
+use Rattle.pcct_codec.specs.Tables.{TableBytes}
+use Rattle.pcct_codec.proofs.Texts.{has_text}
+use Rattle.pccrun_core.specs.declared.command.Command.{Command}
+use Rattle.pccrun_core.specs.declared.command.Command.TheVariants as command
+use Rattle.pccrun_core.specs.declared.refusal.Refusal.{Refusal}
+use Rattle.pccrun_core.specs.declared.refusal.Refusal.TheVariants as refusal
+use Rattle.pccrun_core.specs.Answers.{Answers, AsksFor, IsMade, IsServedInput, Made, Makes, Refused, TooLong, Usage, input_limit, usage_line, word_of}
 use Rattle.pccrun_core.specs.BankChannels.{bank_start}
 use Rattle.pccrun_core.specs.Histories.{AreHistories}
-use Rattle.pccrun_core.specs.SetUp.{IsServedScript, clock_of, head_of, opened, run_of, step_text}
-use Rattle.pccrun_core.specs.StepRun.{step_run}
+use Rattle.pccrun_core.specs.Refusals.{IsScript, Refuses, WrongLine, refused_line}
+use Rattle.pccrun_core.specs.SetUp.{IsPromptScript, IsServed, channels_of, clock_of, head_of, run_of, set_up_of, step_text}
+use Rattle.pccrun_core.specs.StepRun.{Channel, fresh, step_run}
 use Rattle.pccrun_core.proofs.Histories.{run_histories}
+use Rattle.pccrun_core.proofs.Refused.{script_kept, table_kept}
 
 one : {X : Type 0} (f : X → List ℕ) (xs : List X) (x : X) → length xs ≡ 1 → x ≡ get_or xs 0 x → map f xs ≡ f x ∷ []
 one {X = X} f [] x l e = absurd (omega arith)
@@ -26,52 +32,68 @@ one {X = X} f (y ∷ z ∷ zs) x l e = absurd (omega arith)
 same_head : (x y : List ℕ) → x ∷ [] ≡ y ∷ [] → x ≡ y
 same_head x y h = cc
 
--- one word asks for a command by its text
-pub asks_one : {X : Type 0} (f : X → List ℕ) (xs : List X) (x : X) → length xs ≡ 1 → x ≡ get_or xs 0 x → bytes_eq (f x) (codes "step") ≡ true → AsksFor (map f xs) Step
-asks_one f xs x l e h = one f xs x l e ∙ ap (λ (v : List ℕ). v ∷ []) ((bytes_eq-Decides (f x) (codes "step")).0 h)
+-- a word asks for a command by its text
+pub asks : (w : List ℕ) (c : Command) → bytes_eq w (word_of c) ≡ true → AsksFor (w ∷ []) c
+asks w c h = ap (λ (v : List ℕ). v ∷ []) ((bytes_eq-Decides w (word_of c)).0 h)
 
--- another word asks for nothing
-pub asks_other : {X : Type 0} (f : X → List ℕ) (xs : List X) (x : X) → length xs ≡ 1 → x ≡ get_or xs 0 x → bytes_eq (f x) (codes "step") ≡ false → (c : Command) → AsksFor (map f xs) c → ⊥
-asks_other f xs x l e h Step asked =
-    let yes_ : bytes_eq (f x) (codes "step") ≡ true = (bytes_eq-Decides (f x) (codes "step")).1 (same_head (f x) (codes "step") (sym (one f xs x l e) ∙ asked)) in
-    let both : true ≡ false = sym yes_ ∙ h in cc
+-- and a word that is none of the commands' for nothing
+pub asks_nothing : (w : List ℕ) → bytes_eq w (codes "step") ≡ false → bytes_eq w (codes "show") ≡ false → bytes_eq w (codes "build") ≡ false → (c : Command) → AsksFor (w ∷ []) c → ⊥
+asks_nothing w a b d c h = other c (same_head w (word_of c) h)
+  where
+    differs : (u : List ℕ) → bytes_eq w u ≡ false → w ≡ u → ⊥
+    differs u unlike same = let yes_ : bytes_eq w u ≡ true = (bytes_eq-Decides w u).1 same in let both : true ≡ false = sym yes_ ∙ unlike in cc
 
--- nor do other numbers of words
+    other : (c : Command) → w ≡ word_of c → ⊥
+    other command.Step = differs (codes "step") a
+    other command.Show = differs (codes "show") b
+    other command.Build = differs (codes "build") d
+
+-- the same of a list of one word
+pub asks_one : {X : Type 0} (f : X → List ℕ) (xs : List X) (x : X) (o : Option Command) → length xs ≡ 1 → x ≡ get_or xs 0 x → MatchOption o ((c : Command) → AsksFor (f x ∷ []) c → ⊥) (AsksFor (f x ∷ [])) → MatchOption o ((c : Command) → AsksFor (map f xs) c → ⊥) (AsksFor (map f xs))
+asks_one f xs x o l e h =
+    let P : List (List ℕ) → Type 0 = λ ws. MatchOption o ((c : Command) → AsksFor ws c → ⊥) (AsksFor ws) in
+    subst P (sym (one f xs x l e)) h
+
+-- other numbers of words ask for nothing
 pub asks_none : {X : Type 0} (f : X → List ℕ) (xs : List X) → length xs ≢ 1 → (c : Command) → AsksFor (map f xs) c → ⊥
-asks_none f xs l Step h = l (sym (length-map xs f) ∙ ap length h)
+asks_none f xs l c h = l (sym (length-map xs f) ∙ ap length h)
 
--- `step` is the one command that is built
-pub only_step : (words : List (List ℕ)) (c : Command) → AsksFor words c → AsksFor words Step
-only_step words Step asked = asked
+-- ---- what an input leads to
 
--- ---- what a text leads to
+-- the one channel that a served script opens
+one_channel : (s : Scenario) (t : Table) (u : Subspace) → IsPromptScript s → slice_get t.subspaces 0 ≡ Some u → set_up_of s t ≡ record { start = bank_start (head_of 0 u) (clock_of s); now = fresh (bank_start (head_of 0 u) (clock_of s)) } ∷ []
+one_channel s t u h first =
+    ap (flat_map (λ (o : OpenLine). channels_of (clock_of s) o.id (slice_get t.subspaces o.id))) h.opens
+    ∙ ap (λ (o : Option Subspace). channels_of (clock_of s) 0 o ++ []) first
 
 -- the one journal of a served script is a history
-pub served_histories : (s : Scenario) → IsServedScript s → AreHistories s.actions (run_of s)
-served_histories s h =
-    let P : List OpenLine → Type 0 = λ opens. AreHistories s.actions (step_run s.actions (map (opened s) opens)) in
-    subst P (sym h.opens) (run_histories (bank_start (head_of (body_of s.table) 0) (clock_of s)) s.actions)
+pub served_histories : (s : Scenario) (t : Table) (u : Subspace) → IsPromptScript s → slice_get t.subspaces 0 ≡ Some u → AreHistories s.actions (run_of s t)
+served_histories s t u h first =
+    let P : List Channel → Type 0 = λ cs. AreHistories s.actions (step_run s.actions cs) in
+    subst P (sym (one_channel s t u h first)) (run_histories (bank_start (head_of 0 u) (clock_of s)) s.actions)
 
-pub stepped : (words : List (List ℕ)) (left left' : Option (List ℕ)) (bytes text : List ℕ) → AsksFor words Step → Consumes left left' bytes → IsAtEnd left'
-    → (s : Scenario) × IsStep bytes s × (text ≡ step_text s) → Answers words left left' 0 text
-stepped words left left' bytes text asked read end found =
-    let P : List ℕ → Type 0 = Answers words left left' 0 in
-    subst P (sym found.2) (Stepped asked bytes (record { read = read; end = end }) found.0 found.1)
+-- what is made of a served script
+pub stepped : (input : List ℕ) (s : Scenario) (t : Table) (u : Subspace) (bytes text : List ℕ) → IsScript input s → bytes ≡ s.table → TableBytes bytes t → slice_get t.subspaces 0 ≡ Some u → IsServed u → text ≡ step_text s t → Makes command.Step input text
+stepped input s t u bytes text h same spelled first served e =
+    let P : List ℕ → Type 0 = λ v. TableBytes v t in
+    (s, t, record { script = h; table = subst P same spelled; served = (u, first, served) }, served_histories s t u h.prompt first, e)
+
+pub made_of : (words : List (List ℕ)) (left left' : Option (List ℕ)) (input text : List ℕ) (c : Command) → AsksFor words c → Consumes left left' input → IsAtEnd left' → Makes c input text → Answers words left left' 0 text
+made_of words left left' input text c asked read end made = Made c asked input (record { read = read; end = end }) text made
+
+pub refused_for : (words : List (List ℕ)) (left left' : Option (List ℕ)) (input text : List ℕ) (c : Command) (r : Refusal) → AsksFor words c → Consumes left left' input → IsAtEnd left' → Refuses c input r → text ≡ refused_line r → Answers words left left' 3 text
+refused_for words left left' input text c r asked read end cause e =
+    let P : List ℕ → Type 0 = Answers words left left' 3 in
+    subst P (sym e) (Refused c asked input (record { read = read; end = end }) r cause)
 
 pub usage : (words : List (List ℕ)) (left left' : Option (List ℕ)) (text : List ℕ) → ((c : Command) → AsksFor words c → ⊥) → text ≡ usage_line → Answers words left left' 2 text
 usage words left left' text unasked e = let P : List ℕ → Type 0 = Answers words left left' 2 in subst P (sym e) (Usage unasked)
 
 pub too_long : (words : List (List ℕ)) (left left' : Option (List ℕ)) (text : List ℕ) (c : Command) → AsksFor words c → (bytes : List ℕ) × Consumes left left' bytes × (length bytes ≡ input_limit + 1)
-    → text ≡ refused_line Long → Answers words left left' 3 text
+    → text ≡ refused_line refusal.Long → Answers words left left' 3 text
 too_long words left left' text c asked found e =
     let P : List ℕ → Type 0 = Answers words left left' 3 in
     subst P (sym e) (TooLong c asked (record { text = found.0; read = found.1; more = found.2 }))
-
-pub not_built : (words : List (List ℕ)) (left left' : Option (List ℕ)) (bytes text : List ℕ) → AsksFor words Step → Consumes left left' bytes → IsAtEnd left' → IsUnbuilt bytes
-    → text ≡ refused_line Unbuilt → Answers words left left' 3 text
-not_built words left left' bytes text asked read end none e =
-    let P : List ℕ → Type 0 = Answers words left left' 3 in
-    subst P (sym e) (NotBuilt asked bytes (record { read = read; end = end }) none)
 
 -- ---- completeness
 
@@ -79,20 +101,66 @@ all_consumed : (xs bytes : List ℕ) (left' : Option (List ℕ)) → Consumes (S
 all_consumed xs bytes None h = absurd h
 all_consumed xs bytes (Some ys) h = (ys, refl, h)
 
--- the input of a served script leads to its run alone
+all_read : (left left' : Option (List ℕ)) (xs bytes : List ℕ) → left ≡ Some xs → Consumes left left' bytes → IsAtEnd left' → bytes ≡ xs
+all_read left left' xs bytes told read end =
+    let P : Option (List ℕ) → Type 0 = λ o. Consumes o left' bytes in
+    let found = all_consumed xs bytes left' (subst P told read) in
+    let empty : found.0 ≡ [] = subst IsAtEnd found.1 end in
+    sym (found.2 ∙ ap (λ (v : List ℕ). bytes ++ v) empty ∙ append-nil bytes)
+
+-- the second letter tells the command
+abbrev second : List ℕ → ℕ
+second (x ∷ y ∷ ys) = y
+second _ = 0
+
+abbrev letter_of : Command → ℕ
+letter_of command.Step = 116
+letter_of command.Show = 104
+letter_of command.Build = 117
+
+second_of : (c : Command) → second (word_of c) ≡ letter_of c
+second_of command.Step = refl
+second_of command.Show = refl
+second_of command.Build = refl
+
+one_letter : (c d : Command) → letter_of c ≡ letter_of d → c ≡ d
+one_letter command.Step command.Step e = refl
+one_letter command.Show command.Show e = refl
+one_letter command.Build command.Build e = refl
+one_letter command.Step command.Show e = absurd (omega arith)
+one_letter command.Step command.Build e = absurd (omega arith)
+one_letter command.Show command.Step e = absurd (omega arith)
+one_letter command.Show command.Build e = absurd (omega arith)
+one_letter command.Build command.Step e = absurd (omega arith)
+one_letter command.Build command.Show e = absurd (omega arith)
+
+-- words ask for one command
+one_command : (c d : Command) → word_of c ≡ word_of d → c ≡ d
+one_command c d e = one_letter c d (sym (second_of c) ∙ ap second e ∙ second_of d)
+
+same_command : (words : List (List ℕ)) (c d : Command) → AsksFor words c → AsksFor words d → c ≡ d
+same_command words c d a b = one_command c d (same_head (word_of c) (word_of d) (sym a ∙ b))
+
+-- what is made is not refused
+kept : (c : Command) (input : List ℕ) (r : Refusal) → IsMade c input → Refuses c input r → ⊥
+kept command.Step input r h k = script_kept input h.0 h.1 r h.2.script h.2.table h.2.served k
+kept command.Show input r h k = table_kept input h.0 r h.1 k
+kept command.Build input r h (WrongLine none line wrong fault) = none h.0 (has_text h.0 h.1.value) h.1.text_is
+
+-- a served input leads to what is made of it alone
 pub served_input_runs : (words : List (List ℕ)) (left left' : Option (List ℕ)) (status : ℕ) (text : List ℕ) → Answers words left left' status text → IsServedInput words left → status ≡ 0
-served_input_runs words left left' status text (Stepped asked bytes read s is) h = refl
-served_input_runs words left left' status text (Usage unasked) h = absurd (unasked Step h.asked)
+served_input_runs words left left' status text (Made c asked input read made is) h = refl
+served_input_runs words left left' status text (Usage unasked) h = absurd (unasked h.command h.asked)
 served_input_runs words left left' status text (TooLong c asked more) h =
     let P : Option (List ℕ) → Type 0 = λ o. Consumes o left' more.text in
-    let found = all_consumed (script_text h.script) more.text left' (subst P h.told more.read) in
-    let len : length (script_text h.script) ≡ length more.text + length found.0 = ap length found.2 ∙ length-append more.text found.0 in
+    let found = all_consumed h.input more.text left' (subst P h.told more.read) in
+    let len : length h.input ≡ length more.text + length found.0 = ap length found.2 ∙ length-append more.text found.0 in
     let exceeds : length more.text ≡ input_limit + 1 = more.more in
-    let short : length (script_text h.script) ≤ input_limit = h.short in
+    let short : length h.input ≤ input_limit = h.short in
     absurd (omega arith)
-served_input_runs words left left' status text (NotBuilt asked bytes read none) h =
-    let P : Option (List ℕ) → Type 0 = λ o. Consumes o left' bytes in
-    let found = all_consumed (script_text h.script) bytes left' (subst P h.told read.read) in
-    let empty : found.0 ≡ [] = subst IsAtEnd found.1 read.end in
-    let same : bytes ≡ script_text h.script = sym (found.2 ∙ ap (λ (v : List ℕ). bytes ++ v) empty ∙ append-nil bytes) in
-    absurd (none h.script h.scenario same h.served)
+served_input_runs words left left' status text (Refused c asked input read r cause) h =
+    let same : input ≡ h.input = all_read left left' h.input input h.told read.read read.end in
+    let one : c ≡ h.command = same_command words c h.command asked h.asked in
+    let P : Command → Type 0 = λ d. Refuses d input r in
+    let Q : List ℕ → Type 0 = λ v. Refuses h.command v r in
+    absurd (kept h.command h.input r h.made (subst Q same (subst P one cause)))

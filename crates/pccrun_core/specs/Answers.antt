@@ -1,28 +1,33 @@
 -- What the program writes, and its status, by its words and by the bytes that it read.
 use Rattle.std.specs.Prelude.{◌≡◌, ◌≤◌, ℕ, ◌+◌, List, [], ◌∷◌, length, codes, Option, Some}
 use Rattle.std.specs.Io.KnownBytes.{Consumes, IsAtEnd}
-use Rattle.pcc_script.specs.Text.{IsScenario, script_text}
+use Rattle.pcc_bytes.specs.Bytes.{IsBytes}
 use Rattle.pcc_script.specs.declared.scenario.Scenario.{Scenario}
+use Rattle.pcct_table.specs.declared.table.Table.{Table}
+use Rattle.pcct_table.specs.ShowText.{show_text}
+use Rattle.pcct_codec.specs.Tables.{IsTableValue, TableBytes}
 use Rattle.pccrun_core.specs.declared.command.Command.{Command}
 use Rattle.pccrun_core.specs.declared.command.Command.TheVariants as command
 use Rattle.pccrun_core.specs.declared.refusal.Refusal.{Refusal}
 use Rattle.pccrun_core.specs.declared.refusal.Refusal.TheVariants as refusal
 use Rattle.pccrun_core.specs.Histories.{AreHistories}
-use Rattle.pccrun_core.specs.SetUp.{IsServedScript, run_of, step_text}
+use Rattle.pccrun_core.specs.Refusals.{IsScript, Refuses, refused_line}
+use Rattle.pccrun_core.specs.SetUp.{IsServedTable, run_of, step_text}
 
--- ---- texts
+-- ---- words
+
+-- the word of a command
+abbrev pub word_of : Command → List ℕ
+word_of command.Step = codes "step"
+word_of command.Show = codes "show"
+word_of command.Build = codes "build"
 
 -- the words ask for a command that is built
 abbrev pub AsksFor : List (List ℕ) → Command → Type 0
-AsksFor words command.Step = words ≡ codes "step" ∷ []
+AsksFor words c = words ≡ word_of c ∷ []
 
 abbrev pub usage_line : List ℕ
 usage_line = codes "usage: pccrun show|build|cpc|step|weave|threads|audit|make N\n"
-
--- the line of a refused input
-abbrev pub refused_line : Refusal → List ℕ
-refused_line refusal.Long = codes "refused long\n"
-refused_line refusal.Unbuilt = codes "refused unbuilt\n"
 
 -- ---- what was read
 
@@ -41,31 +46,47 @@ pub record ReadMore (left left' : Option (List ℕ)) : Type 0 where
   pub read : Consumes left left' text
   pub more : length text ≡ input_limit + 1
 
--- no script that is served so far has this text
-abbrev pub IsUnbuilt : List ℕ → Type 0
-IsUnbuilt text = (s : Scenario) → IsScenario s → text ≡ script_text s → IsServedScript s → ⊥
+-- ---- what is made of it
 
--- a text that spells a served script, whose journals are histories
-pub record IsStep (text : List ℕ) (s : Scenario) : Type 0 where
-  pub spelled : text ≡ script_text s
-  pub scenario : IsScenario s
-  pub served : IsServedScript s
-  pub histories : AreHistories s.actions (run_of s)
+-- a script and its table, which are served
+pub record IsServedScript (input : List ℕ) (s : Scenario) (t : Table) : Type 0 where
+  pub script : IsScript input s
+  pub table : TableBytes s.table t
+  pub served : IsServedTable t
+
+-- a text is that of a table
+pub record IsTextOf (t : Table) (text : List ℕ) : Type 0 where
+  pub value : IsTableValue t
+  pub text_is : text ≡ show_text t
+
+-- What a command makes of its whole input: of a served script its run, whose journals are histories; of the bytes of a table its
+-- text; of the text of a table its bytes.
+abbrev pub Makes : Command → List ℕ → List ℕ → Type 0
+Makes command.Step input text = (s : Scenario) × (t : Table) × IsServedScript input s t × AreHistories s.actions (run_of s t) × (text ≡ step_text s t)
+Makes command.Show input text = (t : Table) × TableBytes input t × (text ≡ show_text t)
+Makes command.Build input bytes = (t : Table) × (input ≡ show_text t) × IsBytes bytes × TableBytes bytes t
+
+-- a command makes something of this input
+abbrev pub IsMade : Command → List ℕ → Type 0
+IsMade command.Step input = (s : Scenario) × (t : Table) × IsServedScript input s t
+IsMade command.Show input = (t : Table) × TableBytes input t
+IsMade command.Build input = (t : Table) × IsTextOf t input
 
 -- ---- what is written
 
--- The status, and the text that is to be written. 0: the run of a served script. 2: the words ask for no command that is built. 3: the input is refused.
+-- The status, and the text that is to be written. 0: what the command makes of its input. 2: the words ask for no command that is
+-- built. 3: the input is refused.
 pub data Answers (words : List (List ℕ)) (left left' : Option (List ℕ)) : ℕ → List ℕ → Type 0 where
-  Stepped : AsksFor words command.Step → (text : List ℕ) → ReadWhole left left' text → (s : Scenario) → IsStep text s → Answers words left left' 0 (step_text s)
+  Made : (c : Command) → AsksFor words c → (input : List ℕ) → ReadWhole left left' input → (text : List ℕ) → Makes c input text → Answers words left left' 0 text
   Usage : ((c : Command) → AsksFor words c → ⊥) → Answers words left left' 2 usage_line
   TooLong : (c : Command) → AsksFor words c → ReadMore left left' → Answers words left left' 3 (refused_line refusal.Long)
-  NotBuilt : AsksFor words command.Step → (text : List ℕ) → ReadWhole left left' text → IsUnbuilt text → Answers words left left' 3 (refused_line refusal.Unbuilt)
+  Refused : (c : Command) → AsksFor words c → (input : List ℕ) → ReadWhole left left' input → (r : Refusal) → Refuses c input r → Answers words left left' 3 (refused_line r)
 
--- words that ask for `step`, and the whole text of a served script that isn't too long
+-- words that ask for a command, and an input of its grammar that is served and isn't too long
 pub record IsServedInput (words : List (List ℕ)) (left : Option (List ℕ)) : Type 0 where
-  pub asked : AsksFor words command.Step
-  pub script : Scenario
-  pub scenario : IsScenario script
-  pub served : IsServedScript script
-  pub told : left ≡ Some (script_text script)
-  pub short : length (script_text script) ≤ input_limit
+  pub command : Command
+  pub asked : AsksFor words command
+  pub input : List ℕ
+  pub told : left ≡ Some input
+  pub short : length input ≤ input_limit
+  pub made : IsMade command input

@@ -4,6 +4,7 @@ pub mod Histories
 pub mod ReplyText
 pub mod BankChannels
 pub mod SetUp
+pub mod Refusals
 pub mod Answers
 pub mod Statuses
 pub mod WorkedRuns

@@ -1,14 +1,15 @@
 -- What a script opens, and what `step` prints for it.
-use Rattle.std.specs.Prelude.{◌≡◌, ℕ, ◌+◌, ◌-◌, ◌*◌, ◌/◌, min, true, false, List, [], ◌∷◌, ◌++◌, length, map, None, codes}
+use Rattle.std.specs.Prelude.{◌≡◌, ◌≤◌, ◌⊎◌, ℕ, ◌+◌, ◌-◌, ◌*◌, ◌/◌, min, true, false, List, [], ◌∷◌, ◌++◌, length, Option, Some, None, slice_get}
 use Rattle.std.specs.List.{AllByRecursion, flat_map}
-use Rattle.pcct_table.specs.Rows.{generic_fields, head_fields, number_in}
-use Rattle.pcct_codec.specs.FirstTables.{IsFirstTable, body_of}
+use Rattle.pcc_gas.specs.declared.address.Gas.{Gas}
+use Rattle.pcct_table.specs.declared.subspace.Subspace.{Subspace}
+use Rattle.pcct_table.specs.declared.table.Table.{Table}
+use Rattle.pcct_table.specs.Subspaces.{doorbell_of, kind_of, memory_len_of, rate_of, turnaround_of}
 use Rattle.pcc_journal.specs.declared.text.JournalHead.{JournalHead}
 use Rattle.pcc_journal.specs.JournalText.{journal_text}
 use Rattle.pcc_script.specs.declared.scenario.Device.TheVariants.{Bank}
 use Rattle.pcc_script.specs.declared.scenario.Line.{Line}
 use Rattle.pcc_script.specs.declared.scenario.Line.TheVariants as line
-use Rattle.pcc_script.specs.declared.scenario.OpenLine.{OpenLine}
 use Rattle.pcc_script.specs.declared.scenario.Scenario.{Scenario}
 use Rattle.pccrun_core.specs.BankChannels.{bank_start}
 use Rattle.pccrun_core.specs.ReplyText.{replies_text}
@@ -24,26 +25,28 @@ room_limit = 4096
 abbrev pub room_of : ℕ → ℕ
 room_of len = min room_limit ((len - 8) / 8 * 8)
 
--- the head of the journal of a structure of type 0
-abbrev pub head_of : List ℕ → ℕ → JournalHead
-head_of structure id = record {
+-- the head of the journal of a structure with this ID, of the types 0 to 2
+abbrev pub head_of : ℕ → Subspace → JournalHead
+head_of id s = record {
   id = id;
-  kind = number_in head_fields (codes "type") structure;
+  kind = kind_of s;
   cppc = false;
-  room = room_of (number_in generic_fields (codes "length") structure);
-  limits = record { turnaround = number_in generic_fields (codes "turnaround") structure; per_minute = number_in generic_fields (codes "rate") structure };
+  room = room_of (memory_len_of s);
+  limits = record { turnaround = turnaround_of s; per_minute = rate_of s };
   reports = true;
 }
 
 abbrev pub clock_of : Scenario → ScriptClock
 clock_of s = record { start = s.start; step = s.step }
 
-abbrev pub opened : Scenario → OpenLine → Channel
-opened s o = let start = bank_start (head_of (body_of s.table) o.id) (clock_of s) in record { start = start; now = fresh start }
+-- the channel of a structure, which nothing was asked yet; none where there is no structure
+abbrev pub channels_of : ScriptClock → ℕ → Option Subspace → List Channel
+channels_of clock id None = []
+channels_of clock id (Some s) = let start = bank_start (head_of id s) clock in record { start = start; now = fresh start } ∷ []
 
--- one channel for each `open` line, in their order
-abbrev pub set_up_of : Scenario → List Channel
-set_up_of s = map (opened s) s.opens
+-- one channel for each `open` line, in their order; the ID is the place of the structure
+abbrev pub set_up_of : Scenario → Table → List Channel
+set_up_of s t = flat_map (λ o. channels_of (clock_of s) o.id (slice_get t.subspaces o.id)) s.opens
 
 -- ---- the text of `step`
 
@@ -51,8 +54,8 @@ set_up_of s = map (opened s) s.opens
 abbrev pub first_action : Scenario → ℕ
 first_action s = 3 + length s.opens + length s.cpus + length s.caps
 
-abbrev pub run_of : Scenario → Run
-run_of s = step_run s.actions (set_up_of s)
+abbrev pub run_of : Scenario → Table → Run
+run_of s t = step_run s.actions (set_up_of s t)
 
 abbrev pub channel_journal : Channel → List ℕ
 channel_journal c = journal_text c.start.head c.now.records (pending_of c.now.in_flight)
@@ -61,8 +64,8 @@ channel_journal c = journal_text c.start.head c.now.records (pending_of c.now.in
 abbrev pub run_text : ℕ → Run → List ℕ
 run_text first r = replies_text first r.replies ++ flat_map channel_journal r.channels
 
-unfoldable pub step_text : Scenario → List ℕ
-step_text s = run_text (first_action s) (run_of s)
+unfoldable pub step_text : Scenario → Table → List ℕ
+step_text s t = run_text (first_action s) (run_of s t)
 
 -- ---- what is served so far
 
@@ -71,13 +74,32 @@ abbrev pub IsPromptCall : Line → Type 0
 IsPromptCall (line.Call worker subspace code bytes polls hold) = (subspace ≡ 0) × (hold ≡ 0)
 IsPromptCall _ = ⊥
 
--- one Bank on subspace 0 of a table with one generic subspace that has neither a rate nor a turnaround, and calls that are not held
-pub record IsServedScript (s : Scenario) : Type 0 where
+-- one Bank on subspace 0, and calls that are not held
+pub record IsPromptScript (s : Scenario) : Type 0 where
   pub opens : s.opens ≡ record { id = 0; device = Bank } ∷ []
   pub cpus : s.cpus ≡ []
   pub caps : s.caps ≡ []
   pub actions : AllByRecursion IsPromptCall s.actions
   pub picks : s.picks ≡ None
-  pub table : IsFirstTable s.table
-  pub rate : number_in generic_fields (codes "rate") (body_of s.table) ≡ 0
-  pub turnaround : number_in generic_fields (codes "turnaround") (body_of s.table) ≡ 0
+
+-- the shared memory has room for its header of 8 bytes and for one word of 8 (14.2)
+abbrev pub least_memory : ℕ
+least_memory = 16
+
+-- a register in memory or I/O that begins at bit 0 and is 8, 16, 32 or 64 bits wide (5.2.3.2)
+pub record IsDoorbell (gas : Gas) : Type 0 where
+  pub reachable : (gas.space ≡ 0) ⊎ (gas.space ≡ 1)
+  pub whole : (gas.width ≡ 8) ⊎ (gas.width ≡ 16) ⊎ (gas.width ≡ 32) ⊎ (gas.width ≡ 64)
+  pub from_start : gas.offset ≡ 0
+
+-- a structure of type 0 with such a memory and such a doorbell, and without limits
+pub record IsServed (s : Subspace) : Type 0 where
+  pub generic : kind_of s ≡ 0
+  pub room : least_memory ≤ memory_len_of s
+  pub doorbell : IsDoorbell (doorbell_of s)
+  pub rate : rate_of s ≡ 0
+  pub turnaround : turnaround_of s ≡ 0
+
+-- the first structure of a table is served
+abbrev pub IsServedTable : Table → Type 0
+IsServedTable t = (s : Subspace) × (slice_get t.subspaces 0 ≡ Some s) × IsServed s

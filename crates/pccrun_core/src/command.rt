@@ -1,5 +1,5 @@
 //! The commands, as the words after the program's name ask for them.
-ghost use Rattle.std.specs.Prelude.{◌≡◌, MatchOption, map};
+ghost use Rattle.std.specs.Prelude.{◌≡◌, ◌∷◌, [], MatchOption, map};
 ghost use Rattle.std.specs.String.{string_bytes};
 ghost use Rattle.pccrun_core.specs.Answers.{AsksFor, usage_line};
 ghost use Rattle.pccrun_core.specs.declared.command.Command.{Command};
@@ -11,15 +11,33 @@ use pcc_text::is_text;
 pub enum Command {
     /// Runs a script in one thread.
     Step,
+    /// Prints the text of a table.
+    Show,
+    /// Makes the bytes of a table from its text.
+    Build,
+}
+
+/// The command whose word this is.
+fn command_named(word: &[u8]) -> Option<Command>
+    ensures { MatchOption result ((c : Command) → AsksFor (word.now ∷ []) c → ⊥) (AsksFor (word.now ∷ [])) }
+{
+    if is_text(word, b"step") {
+        Some(Command::Step)
+    } else if is_text(word, b"show") {
+        Some(Command::Show)
+    } else if is_text(word, b"build") {
+        Some(Command::Build)
+    } else {
+        None
+    }
 }
 
 /// The command that these words ask for.
-#[tactic(auto, using(crate::proofs::Tops::asks_one, crate::proofs::Tops::asks_other, crate::proofs::Tops::asks_none))]
 pub fn command_of(words: &[String]) -> Option<Command>
     ensures { let texts = map (λ w. string_bytes w) words.now in MatchOption result ((c : Command) → AsksFor texts c → ⊥) (AsksFor texts) }
 {
     match words {
-        [word] if is_text(word.as_bytes(), b"step") => Some(Command::Step),
+        [word] => command_named(word.as_bytes()),
         _ => None,
     }
 }

@@ -7,6 +7,7 @@ mod refusal;
 mod reply;
 mod served;
 mod step;
+mod tables;
 mod top;
 mod worked;
 

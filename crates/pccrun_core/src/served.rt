@@ -1,11 +1,14 @@
-//! Whether a script is one that the program serves so far.
-ghost use Rattle.std.specs.Prelude.{◌≡◌, ◌↔◌, ◌∷◌, [], IsTrue, MatchOption, IfSome, codes};
+//! Whether a script and the structure that it opens are ones that the program serves so far.
+ghost use Rattle.std.specs.Prelude.{◌≡◌, ◌↔◌, ◌∷◌, [], IsTrue, MatchOption, Some, slice_get};
 ghost use Rattle.std.specs.List.{AllByRecursion};
-ghost use Rattle.pcct_codec.specs.FirstTables.{told_by};
-ghost use Rattle.pccrun_core.specs.SetUp.{IsPromptCall, IsServedScript};
+ghost use Rattle.pccrun_core.specs.SetUp.{IsDoorbell, IsPromptCall, IsPromptScript, IsServed, IsServedTable};
 
+use pcc_gas::Gas;
 use pcc_script::{Actions, Device, Line, Opens, Scenario};
-use pcct_codec::{FirstTable, first_table};
+use pcct_table::{Subspace, Table};
+
+/// The least shared memory, in bytes: its header and one word.
+const LEAST_MEMORY: u64 = 16;
 
 // Whether one Bank is opened, on subspace 0.
 fn opens_one_bank(opens: &Opens) -> bool
@@ -36,23 +39,40 @@ fn are_prompt_calls(actions: &Actions) -> bool
     true
 }
 
-/// What the table of a served script says, or None where the script isn't served.
-pub fn served_table(scenario: &Scenario) -> Option<FirstTable>
-    ensures served { MatchOption result (IsServedScript scenario.now → ⊥) (λ _. IsServedScript scenario.now) }
-    ensures table { IfSome result (λ t. t ≡ told_by scenario.now.table) }
+/// Whether a script opens one Bank on subspace 0, and calls it with commands that are not held.
+pub fn is_prompt_script(scenario: &Scenario) -> bool
+    ensures { IsTrue result ↔ IsPromptScript scenario.now }
 {
-    if !opens_one_bank(&scenario.opens) || scenario.picks.is_some() {
+    opens_one_bank(&scenario.opens)
+        && scenario.picks.is_none()
+        && scenario.cpus.len() == 0
+        && scenario.caps.len() == 0
+        && are_prompt_calls(&scenario.actions)
+}
+
+fn is_doorbell(gas: Gas) -> bool
+    ensures { IsTrue result ↔ IsDoorbell gas }
+{
+    matches!(gas.space, 0 | 1) && matches!(gas.width, 8 | 16 | 32 | 64) && gas.offset == 0
+}
+
+fn is_served(subspace: &Subspace) -> bool
+    ensures { IsTrue result ↔ IsServed subspace.now }
+{
+    subspace.kind() == 0
+        && subspace.memory_len() >= LEAST_MEMORY
+        && is_doorbell(subspace.doorbell())
+        && subspace.rate() == 0
+        && subspace.turnaround() == 0
+}
+
+/// The first structure of a table, where it is served.
+pub fn served_subspace(table: &Table) -> Option<Subspace>
+    ensures { MatchOption result (IsServedTable table.now → ⊥) (λ s. (slice_get table.now.subspaces 0 ≡ Some s) × IsServed s) }
+{
+    if table.subspaces.len() == 0 {
         return None;
     }
-    if scenario.cpus.len() != 0 || scenario.caps.len() != 0 {
-        return None;
-    }
-    if !are_prompt_calls(&scenario.actions) {
-        return None;
-    }
-    let table = first_table(scenario.table.as_slice())?;
-    if table.rate != 0 || table.turnaround != 0 {
-        return None;
-    }
-    Some(table)
+    let first = *table.subspaces.at(0);
+    if is_served(&first) { Some(first) } else { None }
 }

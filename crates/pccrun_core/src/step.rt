@@ -1,19 +1,25 @@
 //! The command `step`: the lines of a script are run in one thread, and their replies and the journals are printed.
-ghost use Rattle.std.specs.Prelude.{◌≡◌, ◌≤◌, ◌<◌, ◌++◌, ◌+◌, ◌^◌, [], ◌∷◌, true, false, length, IfOk, OnOk};
+ghost use Rattle.std.specs.Prelude.{◌≡◌, ◌≤◌, ◌<◌, ◌++◌, ◌+◌, ◌^◌, [], ◌∷◌, Some, length, slice_get, IfOk, MatchResult, OnOk};
 ghost use Rattle.std.specs.List.{AllByRecursion};
 ghost use Rattle.pcc_script.specs.Limits.{IsAction, IsWithin};
-ghost use Rattle.pcct_codec.specs.FirstTables.{told_by};
+ghost use Rattle.pcct_table.specs.declared.table.Table.{Table};
+ghost use Rattle.pccrun_core.specs.Answers.{Makes, input_limit};
 ghost use Rattle.pccrun_core.specs.BankChannels.{channel_of};
 ghost use Rattle.pccrun_core.specs.ReplyText.{replies_text};
 ghost use Rattle.pccrun_core.specs.StepRun.{step_run, turn_of};
-ghost use Rattle.pccrun_core.specs.SetUp.{IsPromptCall, IsServedScript, room_limit, room_of, step_text};
+ghost use Rattle.pccrun_core.specs.Refusals.{IsRefusedFor, IsScript, Refuses, ScriptRefused};
+ghost use Rattle.pccrun_core.specs.SetUp.{IsPromptCall, IsPromptScript, IsServed, head_of, room_limit, room_of, step_text};
 
 use crate::channel::BankChannel;
+use crate::command::Command;
+use crate::refusal::{CommandError, Refusal};
 use crate::reply::put_reply;
+use crate::served::{is_prompt_script, served_subspace};
+use crate::tables::whole_table;
 use pcc_io::NoMemory;
 use pcc_journal::{JournalHead, put_journal};
-use pcc_script::{Actions, Line, Scenario};
-use pcct_codec::FirstTable;
+use pcc_script::{Actions, Line, Scenario, ScriptError, scenario_from, within_limits};
+use pcct_table::Subspace;
 use rate_limit::Limits;
 use std::alloc::Global;
 
@@ -93,39 +99,67 @@ fn room_for(len: u64) -> u32
     }
 }
 
-// The head of the journal of a served script.
-fn head_for(table: &FirstTable) -> JournalHead
-    ensures { result ≡ record { id = 0; kind = 0; cppc = false; room = room_of table.now.length; limits = record { turnaround = table.now.turnaround; per_minute = table.now.rate }; reports = true } }
+// The head of the journal of the subspace that a served script opens.
+fn head_for(subspace: &Subspace) -> JournalHead
+    ensures { result ≡ head_of 0 subspace.now }
 {
     JournalHead {
         id: 0,
-        kind: 0,
+        kind: subspace.kind(),
         cppc: false,
-        room: room_for(table.length),
+        room: room_for(subspace.memory_len()),
         limits: Limits {
-            turnaround: u32::from(table.turnaround),
-            per_minute: table.rate,
+            turnaround: subspace.turnaround(),
+            per_minute: subspace.rate(),
         },
         reports: true,
     }
 }
 
-/// The text of `step` for a served script.
+// The text of `step` for a script and the first structure of its table, which are served.
 #[tactic(auto, unfolding(crate::specs::SetUp::step_text))]
-pub fn step_answer(
-    alloc: Global,
-    scenario: &Scenario,
-    table: &FirstTable,
-) -> Result<Vec<u8>, NoMemory>
+fn run_text(alloc: Global, scenario: &Scenario, subspace: &Subspace) -> Result<Vec<u8>, NoMemory>
     requires within { IsWithin scenario.now }
-    requires served { IsServedScript scenario.now }
-    requires table { table.now ≡ told_by scenario.now.table }
-    ensures { IfOk result (λ v. v.items ≡ step_text scenario.now) }
+    requires prompt { IsPromptScript scenario.now }
+    requires served { IsServed subspace.now }
+    ensures { IfOk result (λ v. (t : Table) → slice_get t.subspaces 0 ≡ Some subspace.now → v.items ≡ step_text scenario.now t) }
 {
-    let head = head_for(table);
+    let head = head_for(subspace);
     let mut out = Vec::new(alloc);
     let mut bank = BankChannel::new(alloc, head, scenario.start, scenario.step)?;
     run_lines(alloc, &mut out, &mut bank, FIRST_ACTION, &scenario.actions)?;
     put_journal(&mut out, &head, bank.records(), None)?;
     Ok(out)
+}
+
+// The scenario that a text spells, where it is served as far as its table allows.
+fn script_of(alloc: Global, text: &[u8]) -> Result<Scenario, CommandError>
+    requires { length text.now ≤ input_limit }
+    ensures { MatchResult result (λ s. IsScript text.now s × IsWithin s) (IsRefusedFor (ScriptRefused text.now)) }
+{
+    within_limits();
+    match scenario_from(alloc, text) {
+        Ok(scenario) => {
+            if is_prompt_script(&scenario) {
+                Ok(scenario)
+            } else {
+                Err(CommandError::Refused(Refusal::Unbuilt))
+            }
+        }
+        Err(ScriptError::NoMemory) => Err(CommandError::NoMemory),
+        Err(ScriptError::Fault { .. }) => Err(CommandError::Refused(Refusal::Unbuilt)),
+    }
+}
+
+/// The replies and the journal of the script that a text spells.
+pub fn step(alloc: Global, text: &[u8]) -> Result<Vec<u8>, CommandError>
+    requires { length text.now ≤ input_limit }
+    ensures { MatchResult result (λ v. Makes Command.Step text.now v.items) (IsRefusedFor (Refuses Command.Step text.now)) }
+{
+    let scenario = script_of(alloc, text)?;
+    let table = whole_table(alloc, scenario.table.as_slice())?;
+    match served_subspace(&table) {
+        Some(subspace) => Ok(run_text(alloc, &scenario, &subspace)?),
+        None => Err(CommandError::Refused(Refusal::Unbuilt)),
+    }
 }

@@ -1,5 +1,6 @@
 use crate::run;
 use pcc_io::{MemSink, MemSource, NoMemory};
+use pcct_codec::{NO_SUBSPACES, ONE_GENERIC_SUBSPACE};
 use std::alloc::Global;
 use std::test::Fail;
 
@@ -67,6 +68,113 @@ fn texts_of_scripts(rt: HostRuntime) -> Result<(), Fail> {
         assert_eq!(rt; finished.status, status);
         assert_eq!(rt; sink.bytes_held(), text);
         assert_eq!(rt; source.bytes_left(), b"".as_slice());
+    }
+    Ok(())
+}
+
+const NO_SUBSPACES_TEXT: &[u8] =
+    b"pcct revision=2 oem_id=50434352554e oem_table=4558414d504c4531 oem_revision=1 \
+creator=54455354 creator_revision=1 flags=0 reserved=0000000000000000\n";
+
+const ONE_SUBSPACE_TEXT: &[u8] =
+    b"pcct revision=2 oem_id=50434352554e oem_table=4558414d504c4531 oem_revision=1 \
+creator=54455354 creator_revision=1 flags=0 reserved=0000000000000000\n\
+subspace 0 type 0 reserved=000000000000 base=2147483648 length=24 doorbell=0:32:0:3:4275044352 preserve=4294967294 \
+write=1 latency=1000 rate=0 turnaround=0\n";
+
+// The bytes with some of them changed.
+fn changed(alloc: Global, bytes: &[u8], changes: &[(usize, u8)]) -> Result<Vec<u8>, NoMemory> {
+    let mut bytes = Vec::from_slice(alloc, bytes)?;
+    for (place, value) in changes {
+        if let Some(byte) = bytes.get_mut(*place) {
+            *byte = *value;
+        }
+    }
+    Ok(bytes)
+}
+
+// The status of a command on an input, where it writes this text and reads all.
+fn ended(alloc: Global, word: &str, input: &[u8], text: &[u8]) -> Result<Option<u8>, NoMemory> {
+    let words = words_of(alloc, word)?;
+    let mut source = MemSource::new(alloc, input, 100, &[])?;
+    let mut sink = MemSink::new(alloc, 2000, 100, &[])?;
+    let finished = run(alloc, &words, &mut source, &mut sink);
+    let whole = sink.bytes_held() == text && source.bytes_left().is_empty();
+    Ok(if whole { Some(finished.status) } else { None })
+}
+
+#[test]
+fn tables_are_shown_and_built(rt: HostRuntime) -> Result<(), Fail> {
+    let alloc = rt.alloc();
+    let rows: [(&[u8], &[u8]); 2] = [
+        (&NO_SUBSPACES, NO_SUBSPACES_TEXT),
+        (&ONE_GENERIC_SUBSPACE, ONE_SUBSPACE_TEXT),
+    ];
+    for (bytes, text) in rows {
+        assert_eq!(rt; ended(alloc, "show", bytes, text)?, Some(0));
+        assert_eq!(rt; ended(alloc, "build", text, bytes)?, Some(0));
+    }
+    Ok(())
+}
+
+#[test]
+fn wrong_tables_are_refused(rt: HostRuntime) -> Result<(), Fail> {
+    let alloc = rt.alloc();
+    let rows: [(&[(usize, u8)], &[u8]); 9] = [
+        (&[(0, 0x51)], b"refused table signature\n"),
+        (&[(4, 47)], b"refused table length 47\n"),
+        (&[(8, 3), (9, 0x6d)], b"refused table revision 3\n"),
+        (&[(4, 0x6f)], b"refused table short 110\n"),
+        (&[(48, 2), (9, 0x6c)], b"refused table size 48 2 62\n"),
+        (&[(48, 6)], b"refused table type 48 6\n"),
+        (&[(4, 109)], b"refused table overrun 48\n"),
+        (&[(50, 7)], b"refused table checksum 7\n"),
+        (&[(4, 48), (9, 0x5a)], b"refused table trailing 48\n"),
+    ];
+    for (changes, text) in rows {
+        let table = changed(alloc, &ONE_GENERIC_SUBSPACE, changes)?;
+        assert_eq!(rt; ended(alloc, "show", &table, text)?, Some(3));
+    }
+    let part = &ONE_GENERIC_SUBSPACE[..47];
+    assert_eq!(rt;
+        ended(alloc, "show", part, b"refused table short 47\n")?,
+        Some(3)
+    );
+    Ok(())
+}
+
+#[test]
+fn wrong_texts_of_tables_are_refused(rt: HostRuntime) -> Result<(), Fail> {
+    let alloc = rt.alloc();
+    let rows: [(&[u8], &[u8]); 3] = [
+        (b"", b"refused line 1 text\n"),
+        (b"pcct revision=3\n", b"refused line 1 text\n"),
+        (&ONE_SUBSPACE_TEXT[..300], b"refused line 2 text\n"),
+    ];
+    for (input, text) in rows {
+        assert_eq!(rt; ended(alloc, "build", input, text)?, Some(3));
+    }
+    Ok(())
+}
+
+#[test]
+fn the_table_of_a_script_is_tested_behind_its_lines(rt: HostRuntime) -> Result<(), Fail> {
+    let alloc = rt.alloc();
+    let rows: [(&[u8], &[u8]); 3] = [
+        (
+            b"table 50\nclock 0 10\nopen 0 bank\n",
+            b"refused table short 1\n",
+        ),
+        (b"table 50\nclock 0 10\nopen 1 bank\n", UNBUILT),
+        (
+            b"table 50434354300000000\
+            25a50434352554e4558414d504c45310100000054455354010000000000000000000000000000\
+            00\nclock 0 10\nopen 0 bank\n",
+            UNBUILT,
+        ),
+    ];
+    for (input, text) in rows {
+        assert_eq!(rt; ended(alloc, "step", input, text)?, Some(3));
     }
     Ok(())
 }

@@ -1,22 +1,19 @@
 //! The top call of every command that needs no threads.
-ghost use Rattle.std.specs.Prelude.{◌≡◌, ◌≢◌, ◌≤◌, ◌<◌, List, ℕ, IfOk, IfErr, IsErrOf, MatchOption, length, map};
+ghost use Rattle.std.specs.Prelude.{◌≡◌, ◌≢◌, ◌≤◌, ◌<◌, List, ℕ, IfOk, IfErr, IsErrOf, MatchResult, length, map};
 ghost use Rattle.std.specs.String.{string_bytes};
 ghost use Rattle.std.specs.Io.KnownBytes.{Appends, Keeps};
 ghost use Rattle.pcc_causes.specs.Causes.{AppendsPrefix, Rose};
-ghost use Rattle.pcc_script.specs.Text.{IsScenario, script_text};
-ghost use Rattle.pcc_script.specs.declared.scenario.Scenario.{Scenario};
-ghost use Rattle.pccrun_core.specs.Answers.{Answers, AsksFor, IsServedInput, IsStep, IsUnbuilt, input_limit, refused_line};
-ghost use Rattle.pccrun_core.specs.SetUp.{IsServedScript, step_text};
+ghost use Rattle.pccrun_core.specs.Answers.{Answers, AsksFor, IsServedInput, Makes, input_limit};
+ghost use Rattle.pccrun_core.specs.Refusals.{HasLine, IsRefusedFor, Refuses, refused_line};
 ghost use Rattle.pccrun_core.specs.Statuses.{code_of};
 ghost use Rattle.pccrun_core.specs.declared.command.Command.{Command};
 ghost use Rattle.pccrun_core.specs.declared.top.Stop.TheVariants.{NoMemory as OutOfMemory};
 
 use crate::command::{Command, command_of, usage};
-use crate::refusal::Refusal;
-use crate::served::served_table;
-use crate::step::step_answer;
+use crate::refusal::{CommandError, Refusal, refused_line};
+use crate::step::step;
+use crate::tables::{build, show};
 use pcc_io::{NoMemory, ReadEnd, Sink, Source, WriteFault, read_to_end, write_whole};
-use pcc_script::{ScriptError, scenario_from, within_limits};
 use std::alloc::Global;
 
 /// How many bytes of input are read at most.
@@ -69,26 +66,20 @@ fn copy_of(alloc: Global, text: &[u8]) -> Result<Vec<u8>, NoMemory>
     Ok(Vec::from_slice(alloc, text)?)
 }
 
-// The text of `step`, or None where the text spells no script that is served.
-#[tactic(auto, using(crate::proofs::Tops::served_histories))]
-fn step_of(alloc: Global, text: &[u8]) -> Result<Option<Vec<u8>>, NoMemory>
-    requires { length text.now ≤ input_limit }
-    ensures { IfOk result (λ o. MatchOption o (IsUnbuilt text.now) (λ v. (s : Scenario) × IsStep text.now s × (v.items ≡ step_text s))) }
+// What a command makes of its whole input.
+fn made(alloc: Global, command: Command, input: &[u8]) -> Result<Vec<u8>, CommandError>
+    requires { length input.now ≤ input_limit }
+    ensures { MatchResult result (λ v. Makes command input.now v.items) (IsRefusedFor (Refuses command input.now)) }
 {
-    within_limits();
-    let scenario = match scenario_from(alloc, text) {
-        Ok(scenario) => scenario,
-        Err(ScriptError::NoMemory) => return Err(NoMemory),
-        Err(ScriptError::Fault { .. }) => return Ok(None),
-    };
-    match served_table(&scenario) {
-        None => Ok(None),
-        Some(table) => Ok(Some(step_answer(alloc, &scenario, &table)?)),
+    match command {
+        Command::Step => step(alloc, input),
+        Command::Show => show(alloc, input),
+        Command::Build => build(alloc, input),
     }
 }
 
 // What the words and the bytes of the source lead to.
-#[tactic(auto, using(crate::proofs::Tops::usage, crate::proofs::Tops::stepped, crate::proofs::Tops::not_built, crate::proofs::Tops::too_long))]
+#[tactic(auto, using(crate::proofs::Tops::usage, crate::proofs::Tops::made_of, crate::proofs::Tops::refused_for, crate::proofs::Tops::too_long))]
 fn answer_to<S: Source>(alloc: Global, words: &[String], source: &mut S) -> Result<Answer, Stop>
     ensures answer { IfOk result (λ a. Answers (map (λ w. string_bytes w) words.now) (S.left source.old) (S.left source.new) (code_of a.status) a.text.items) }
     ensures read_fault { IsErrOf result Stop.ReadFault → ((c : Command) × AsksFor (map (λ w. string_bytes w) words.now) c) × Rose (S.faults source.old) (S.faults source.new) }
@@ -107,23 +98,22 @@ fn answer_to<S: Source>(alloc: Global, words: &[String], source: &mut S) -> Resu
         Err(ReadEnd::NoMemory) => return Err(Stop::NoMemory),
         Err(ReadEnd::TooLong { .. }) => return refused(alloc, Refusal::Long),
     };
-    let text = match command {
-        Command::Step => step_of(alloc, &bytes)?,
-    };
-    match text {
-        Some(text) => Ok(Answer {
+    match made(alloc, command, &bytes) {
+        Ok(text) => Ok(Answer {
             status: Status::Done,
             text,
         }),
-        None => refused(alloc, Refusal::Unbuilt),
+        Err(CommandError::Refused(refusal)) => refused(alloc, refusal),
+        Err(CommandError::NoMemory) => Err(Stop::NoMemory),
     }
 }
 
 fn refused(alloc: Global, refusal: Refusal) -> Result<Answer, Stop>
+    requires { HasLine refusal }
     ensures line { IfOk result (λ a. (a.status ≡ Status.Refused) × (a.text.items ≡ refused_line refusal)) }
     ensures memory { IfErr result (λ e. e ≡ Stop.NoMemory) }
 {
-    let text = copy_of(alloc, refusal.line())?;
+    let text = refused_line(alloc, refusal)?;
     Ok(Answer {
         status: Status::Refused,
         text,
@@ -156,7 +146,7 @@ pub fn run<S: Source, W: Sink>(
         × AppendsPrefix (W.held sink.old) (W.held sink.new) text) }
     ensures memory { result.status ≡ 6 → Keeps (W.held sink.old) (W.held sink.new) }
 
-    // A served script is run, where neither source nor sink fails and memory doesn't run out.
+    // A served input is run, where neither source nor sink fails and memory doesn't run out.
     ensures complete { IsServedInput (map (λ w. string_bytes w) words.now) (S.left source.old)
         → (Rose (S.faults source.old) (S.faults source.new) → ⊥) → (Rose (W.faults sink.old) (W.faults sink.new) → ⊥)
         → result.status ≢ 6 → result.status ≡ 0 }

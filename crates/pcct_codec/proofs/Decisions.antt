@@ -18,7 +18,8 @@ pub short_header : (b : List ℕ) → length b < 48 → decision true b ≡ Faul
 unfolding decision
 short_header b lt = rw (lt-ltb _ _ lt) refl
 
-behind : (ended : Bool) (b : List ℕ) → 48 ≤ length b → decision ended b ≡ behind_header ended b (told_length b)
+-- a header and more
+pub behind : (ended : Bool) (b : List ℕ) → 48 ≤ length b → decision ended b ≡ behind_header ended b (told_length b)
 unfolding decision
 behind ended b le = rw (le-ltb _ _ le) refl
 

@@ -28,6 +28,7 @@ pub table_spelled : (b : List ℕ) (t : Table) → IsBytes b → TableBytes b t 
 table_spelled b t fits h =
     sym (fields_back header_fields 0 48 b refl h.least fits) ∙ ap (λ (v : List ℕ). v ++ drop 48 b) (ap (fields_bytes header_fields) h.header)
 
+-- the parts of a table's bytes around the one for the sum
 regroup : (size revision check back body : List ℕ) → (size ++ (revision ++ (check ++ back))) ++ body ≡ (size ++ revision) ++ (check ++ (back ++ body))
 regroup size revision check back body = simp append_assoc
 
@@ -70,6 +71,16 @@ one_check f r x y below small right wrong =
     let a = sum_around f r x in
     let b = sum_around f r 0 in
     omega arith
+
+-- some byte makes the sum right
+pub some_check : (len : ℕ) (t : Table) (body : List ℕ) → (x : ℕ) × (x < 256) × (sum (header_bytes len x t ++ body) % 256 ≡ 0)
+some_check len t body =
+    let f = front len t in
+    let r = back t body in
+    let x : ℕ = 255 - (sum f + sum r + 255) % 256 in
+    let small : x < 256 = omega arith in
+    let right : sum (f ++ x ∷ r) % 256 ≡ 0 = let s = sum_around f r x in omega arith in
+    (x, small, ap (λ (v : List ℕ). sum v % 256) (cut len x t body small) ∙ right)
 
 byte_small : (b : List ℕ) → IsBytes b → check_in b < 256
 unfolding number_at

@@ -4,8 +4,7 @@ use Rattle.std.specs.Str.{bytes_eq}
 use Rattle.std.specs.Io.KnownBytes.{Consumes, IsAtEnd}
 use Rattle.pcct_table.specs.declared.table.Table.{Table}
 use Rattle.pcct_table.specs.Rows.{header_fields, header_size, number_in, bytes_in, size_of_kind}
-use Rattle.pcct_codec.specs.TableBytes.{most_structures, most_bytes}
-use Rattle.pcct_codec.specs.Tables.{length_in}
+use Rattle.pcct_codec.specs.Tables.{length_in, most_bytes, most_structures}
 use Rattle.pcct_codec.specs.declared.fault.TableFault.{TableFault}
 use Rattle.pcct_codec.specs.declared.fault.TableFault.TheVariants.{Short, Signature, LengthOutside, Revision, TooMany, Overrun, SubspaceType, SubspaceLength, Checksum, ReadFault, NoMemory}
 

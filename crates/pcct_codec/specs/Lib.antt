@@ -1,5 +1,3 @@
-pub mod TableBytes
 pub mod Tables
 pub mod Faults
 pub mod Worked
-pub mod FirstTables

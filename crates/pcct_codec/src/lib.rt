@@ -2,7 +2,6 @@
 #![tactic(auto)]
 
 mod fault;
-mod first;
 mod header;
 mod read;
 mod structures;
@@ -11,10 +10,9 @@ mod worked;
 mod write;
 
 pub use fault::{TableFault, TableWriteFault};
-pub use first::{FirstTable, first_table};
-pub use read::table_from;
-pub use worked::{NO_SUBSPACES, ONE_GENERIC_SUBSPACE, one_generic_subspace, worked_tables};
-pub use write::{table_laws, table_to};
+pub use read::{decision_laws, table_from, table_of_bytes};
+pub use worked::{NO_SUBSPACES, ONE_GENERIC_SUBSPACE, worked_tables};
+pub use write::{table_bytes, table_laws, table_to, texts_of_tables};
 
 #[cfg(test)]
 mod tests;

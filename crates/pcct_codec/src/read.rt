@@ -1,9 +1,10 @@
-//! Tables from a source of bytes.
-ghost use Rattle.std.specs.Prelude.{◌≡◌, ◌++◌, ◌<◌, ◌≤◌, ◌^◌, List, ℕ, Some, Ok, vec_len, length, true, IfOk, IfErr, IsErrOf, MatchResult, OnOk};
+//! Tables from bytes, and from a source of them.
+ghost use Rattle.std.specs.Prelude.{◌≡◌, ◌++◌, ◌<◌, ◌≤◌, ◌^◌, Bool, List, ℕ, Some, Ok, vec_len, length, take, true, false, IfOk, IfErr, IsErrOf, MatchResult, OnOk};
 ghost use Rattle.std.specs.Io.KnownBytes.{Consumes};
 ghost use Rattle.pcc_bytes.specs.Bytes.{IsBytes};
 ghost use Rattle.pcc_causes.specs.Causes.{Rose};
 ghost use Rattle.pcct_table.specs.declared.table.Table.{Table};
+ghost use Rattle.pcct_codec.specs.declared.fault.TableFault.TheVariants.{NoMemory};
 ghost use Rattle.pcct_codec.specs.Tables.{IsTableValue, TableBytes};
 ghost use Rattle.pcct_codec.specs.Faults.{
   AnswerIs,
@@ -14,6 +15,7 @@ ghost use Rattle.pcct_codec.specs.Faults.{
   ReaderFaultIs,
   Right,
   Taken,
+  Undecided,
   decision,
   table_decision,
   told_length,
@@ -93,6 +95,42 @@ fn table_in(alloc: Global, bytes: &[u8]) -> Result<Table, TableFault>
     }
     Ok(table_with(bytes, subspaces))
 }
+
+/// The table with which the bytes begin, and how many bytes it has. What follows them is not looked at.
+///
+/// The faults are those of `table_from` but `ReadFault`. At `Short` there are fewer bytes than a header's 48 or than the header tells.
+pub fn table_of_bytes(alloc: Global, bytes: &[u8]) -> Result<(Table, usize), TableFault>
+    // A table is one that the first bytes spell.
+    ensures found { IfOk result (λ x. (x.1 ≤ length bytes.now) × TableBytes (take x.1 bytes.now) x.0) }
+    ensures fit { IsBytes bytes.now }
+    ensures value { IfOk result (λ x. IsTableValue x.0) }
+    // What the bytes begin with is read, unless memory runs out.
+    ensures only { (front rest : List ℕ) (t : Table) → TableBytes front t → bytes.now ≡ front ++ rest
+        → MatchResult result (λ x. (x.0 ≡ t) × (x.1 ≡ length front)) (λ f. f ≡ NoMemory) }
+    // A fault is that of the first check that fails on the bytes.
+    ensures exact { MatchResult result (λ _. decision true bytes.now ≡ Right) (λ f. FaultIs f (decision true bytes.now)) }
+    ensures in_memory { IsErrOf result TableFault.ReadFault → ⊥ }
+{
+    if bytes.len() < HEADER {
+        return Err(TableFault::Short {
+            at: bytes.len() as u32,
+        });
+    }
+    let len = told_length(bytes)?;
+    let Some(front) = bytes.get(..len) else {
+        return Err(TableFault::Short {
+            at: bytes.len() as u32,
+        });
+    };
+    let table = table_in(alloc, front)?;
+    Ok((table, len))
+}
+
+/// What some bytes decide stays, whatever follows them, where they are enough to decide. It does nothing.
+pub fn decision_laws()
+    ensures settled { (ended : Bool) (bytes more : List ℕ) → (decision false bytes ≡ Undecided → ⊥)
+        → decision ended (bytes ++ more) ≡ decision false bytes }
+{}
 
 /// The table with whose bytes the source begins, which are then gone. The header's 48 bytes are taken first, then as many as it tells.
 /// Behind a fault of the header 48 bytes are gone, behind one of the structures or of the sum all of the table's, and at `Short` the

@@ -154,6 +154,28 @@ fn bytes_behind_a_table_are_left(rt: HostRuntime) -> Result<(), Fail> {
 }
 
 #[test]
+fn bytes_are_a_table_or_none(rt: HostRuntime) -> Result<(), Fail> {
+    let alloc = rt.alloc();
+    let mut bytes = Vec::from_slice(alloc, &ONE_GENERIC_SUBSPACE)?;
+    bytes.push(0)?;
+    let (table, len) = table_of_bytes(alloc, &bytes).ok().ok_or("refused")?;
+    assert_eq!(rt; len, 110);
+    assert_eq!(rt; table.subspaces.len(), 1);
+    let written = table_bytes(alloc, &table).ok().ok_or("no memory")?;
+    assert!(rt; written.as_slice() == ONE_GENERIC_SUBSPACE.as_slice());
+
+    let short = |at| Some(TableFault::Short { at });
+    assert_eq!(rt; table_of_bytes(alloc, &bytes[..47]).err(), short(47));
+    assert_eq!(rt; table_of_bytes(alloc, &bytes[..109]).err(), short(109));
+    bytes[50] = 7;
+    assert_eq!(rt;
+        table_of_bytes(alloc, &bytes).err(),
+        Some(TableFault::Checksum { sum: 7 })
+    );
+    Ok(())
+}
+
+#[test]
 fn a_source_or_a_sink_that_fails_is_told(rt: HostRuntime) -> Result<(), Fail> {
     let alloc = rt.alloc();
     let mut failing = MemSource::new(alloc, &ONE_GENERIC_SUBSPACE, 20, &[2])?;

@@ -1,6 +1,5 @@
 //! Worked tables, on which the definitions are evaluated.
 ghost use Rattle.std.specs.Prelude.{◌≡◌, [], ◌∷◌, take, true, false, Err};
-ghost use Rattle.pcct_codec.specs.FirstTables.{IsFirstTable};
 ghost use Rattle.pcct_codec.specs.Tables.{TableBytes};
 ghost use Rattle.pcct_codec.specs.Faults.{Faulty, Right, Undecided, decision, structure_size};
 ghost use Rattle.pcct_codec.specs.Worked.{no_subspaces, one_generic};
@@ -13,11 +12,6 @@ pub const ONE_GENERIC_SUBSPACE: [u8; 110] =
     \0\0\0\0\0\0\0\0\0\0\0\0\
     \0\x3e\0\0\0\0\0\0\0\0\0\x80\0\0\0\0\x18\0\0\0\0\0\0\0\0\x20\0\x03\0\0\xd0\xfe\0\0\0\0\
     \xfe\xff\xff\xff\0\0\0\0\x01\0\0\0\0\0\0\0\xe8\x03\0\0\0\0\0\0\0\0";
-
-/// It is a table that is served.
-pub fn one_generic_subspace()
-    ensures { IsFirstTable ONE_GENERIC_SUBSPACE }
-{}
 
 /// A table without a subspace.
 pub const NO_SUBSPACES: [u8; 48] = *b"PCCT\x30\0\0\0\x02\x5aPCCRUNEXAMPLE1\x01\0\0\0TEST\x01\0\0\0\

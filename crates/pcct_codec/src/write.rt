@@ -1,9 +1,10 @@
-//! Tables into a sink of bytes.
-ghost use Rattle.std.specs.Prelude.{◌≡◌, ◌≤◌, List, ℕ, IfOk, IsErrOf, OnOk};
+//! Tables into bytes, and into a sink of them.
+ghost use Rattle.std.specs.Prelude.{◌≡◌, ◌≤◌, ◌↔◌, List, ℕ, IfOk, IsErrOf, OnOk};
 ghost use Rattle.std.specs.Io.KnownBytes.{Appends};
 ghost use Rattle.pcc_bytes.specs.Bytes.{IsBytes};
 ghost use Rattle.pcc_causes.specs.Causes.{AppendsPrefix, Rose};
 ghost use Rattle.pcct_table.specs.declared.table.Table.{Table};
+ghost use Rattle.pcct_table.specs.ShowText.{HasText};
 ghost use Rattle.pcct_codec.specs.Tables.{IsTableValue, TableBytes};
 
 use crate::fault::TableWriteFault;
@@ -18,9 +19,9 @@ use std::alloc::Global;
 const CHECKSUM: usize = 9;
 
 /// The bytes that spell the table.
-fn table_bytes(alloc: Global, table: &Table) -> Result<Vec<u8>, NoMemory>
+pub fn table_bytes(alloc: Global, table: &Table) -> Result<Vec<u8>, NoMemory>
     requires { IsTableValue table.now }
-    ensures { IfOk result (λ v. (bytes : List ℕ) → IsBytes bytes → TableBytes bytes table.now → v.items ≡ bytes) }
+    ensures { IfOk result (λ v. IsBytes v.items × TableBytes v.items table.now) }
 {
     let mut body = Vec::new(alloc);
     put_structures(&mut body, table.subspaces.as_slice())?;
@@ -33,6 +34,7 @@ fn table_bytes(alloc: Global, table: &Table) -> Result<Vec<u8>, NoMemory>
 }
 
 /// Writes the bytes that spell the table.
+#[tactic(auto, using(crate::proofs::Writing::one_table_spelling))]
 pub fn table_to<W: Sink>(alloc: Global, table: &Table, sink: &mut W) -> Result<(), TableWriteFault>
     requires { IsTableValue table.now }
     ensures ok { (bytes : List ℕ) → IsBytes bytes → TableBytes bytes table.now → OnOk result (Appends (W.held sink.old) (W.held sink.new) bytes) }
@@ -48,6 +50,11 @@ pub fn table_to<W: Sink>(alloc: Global, table: &Table, sink: &mut W) -> Result<(
     write_whole(sink, &bytes)?;
     Ok(())
 }
+
+/// The tables that have a text are those that some bytes spell. It does nothing.
+pub fn texts_of_tables()
+    ensures { (t : Table) → HasText t ↔ IsTableValue t }
+{}
 
 /// A table has one spelling, and bytes spell one table at most. It does nothing.
 pub fn table_laws()
