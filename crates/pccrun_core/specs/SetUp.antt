@@ -92,13 +92,11 @@ pub record IsDoorbell (gas : Gas) : Type 0 where
   pub whole : (gas.width ≡ 8) ⊎ (gas.width ≡ 16) ⊎ (gas.width ≡ 32) ⊎ (gas.width ≡ 64)
   pub from_start : gas.offset ≡ 0
 
--- a structure of type 0 with such a memory and such a doorbell, and without limits
+-- a structure of type 0 with such a memory and such a doorbell
 pub record IsServed (s : Subspace) : Type 0 where
   pub generic : kind_of s ≡ 0
   pub room : least_memory ≤ memory_len_of s
   pub doorbell : IsDoorbell (doorbell_of s)
-  pub rate : rate_of s ≡ 0
-  pub turnaround : turnaround_of s ≡ 0
 
 -- the first structure of a table is served
 abbrev pub IsServedTable : Table → Type 0

@@ -5,6 +5,7 @@ use Rattle.pcc_causes.specs.Clock.{line_reading}
 use Rattle.pcc_history.specs.Devices.{Device}
 use Rattle.pcc_history.specs.Channel.{Exchange, Object, exchange_of, object_after, over}
 use Rattle.rate_limit.specs.RateLimits.{earliest_of}
+use Rattle.pcc_journal.specs.declared.reserved.TheConstants.{MAX_ITEMS}
 use Rattle.pcc_journal.specs.declared.record.Record.{Record}
 use Rattle.pcc_journal.specs.declared.record.Pending.{Pending}
 use Rattle.pcc_journal.specs.declared.text.JournalHead.{JournalHead}
@@ -64,7 +65,7 @@ next_reading start now = line_reading start.clock.start start.clock.step now.add
 
 -- a journal has so many records at most
 abbrev pub journal_limit : ℕ
-journal_limit = 4096
+journal_limit = MAX_ITEMS
 
 abbrev pub count_in_flight : Option InFlight → ℕ
 count_in_flight None = 0

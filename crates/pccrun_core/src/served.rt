@@ -62,8 +62,6 @@ fn is_served(subspace: &Subspace) -> bool
     subspace.kind() == 0
         && subspace.memory_len() >= LEAST_MEMORY
         && is_doorbell(subspace.doorbell())
-        && subspace.rate() == 0
-        && subspace.turnaround() == 0
 }
 
 /// The first structure of a table, where it is served.

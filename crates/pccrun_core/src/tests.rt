@@ -1,5 +1,6 @@
 use crate::run;
 use pcc_io::{MemSink, MemSource, NoMemory};
+use pcc_text::put_hex;
 use pcct_codec::{NO_SUBSPACES, ONE_GENERIC_SUBSPACE};
 use std::alloc::Global;
 use std::test::Fail;
@@ -28,6 +29,13 @@ const REFUSED: &[u8] = b"4 bad code 256\n5 too long 17 16\n\
 6 error 01000000000000000000000000000000\n\
 journal 0 type 0 bank room 16 turnaround 0 rate 0 errors yes\n\
 record 0 caller 3 code 18 error post 0 done 10 timely in 01000000000000000000000000000000 out 01000000000000000000000000000000\n\
+end 0\n";
+
+const SOON: &[u8] = b"clock 1000 10\nopen 0 bank\ncall 0 0 17 - 1 0\ncall 0 0 17 - 1 0\n";
+
+const TOO_SOON: &[u8] = b"4 ok 00000000000000000000000000000000\n5 too soon 1020 1510\n\
+journal 0 type 0 bank room 16 turnaround 500 rate 0 errors yes\n\
+record 0 caller 0 code 17 ok post 1000 done 1010 timely in 00000000000000000000000000000000 out 00000000000000000000000000000000\n\
 end 0\n";
 
 const UNBUILT: &[u8] = b"refused unbuilt\n";
@@ -176,6 +184,23 @@ fn the_table_of_a_script_is_tested_behind_its_lines(rt: HostRuntime) -> Result<(
     for (input, text) in rows {
         assert_eq!(rt; ended(alloc, "step", input, text)?, Some(3));
     }
+    Ok(())
+}
+
+// A turnaround of 500 microseconds.
+#[test]
+fn a_post_below_its_earliest_reading(rt: HostRuntime) -> Result<(), Fail> {
+    let alloc = rt.alloc();
+    let table = changed(
+        alloc,
+        &ONE_GENERIC_SUBSPACE,
+        &[(108, 0xf4), (109, 0x01), (9, 0x79)],
+    )?;
+    let mut text = Vec::from_slice(alloc, b"table ")?;
+    put_hex(&mut text, &table)?;
+    text.push(b'\n')?;
+    text.extend_from_slice(SOON)?;
+    assert_eq!(rt; ended(alloc, "step", &text, TOO_SOON)?, Some(0));
     Ok(())
 }
 
