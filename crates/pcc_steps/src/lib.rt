@@ -1,10 +1,6 @@
-//! Devices behind a channel, and a whole call on one.
+//! A whole call on a device: what a command does to the device and to its space, in one step.
 #![tactic(auto)]
 
-mod bank;
-mod executor;
 mod whole;
 
-pub use bank::Bank;
-pub use executor::{ExecStatus, Executor};
 pub use whole::whole_call;

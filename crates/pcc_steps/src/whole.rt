@@ -1,9 +1,9 @@
 //! A whole call in one thread: one step of the channel object.
 ghost use Rattle.std.specs.Prelude.{◌≡◌, ◌≤◌, length};
 ghost use Rattle.pcc_history.specs.Channel.{over, object_after};
-ghost use Rattle.pcc_steps.specs.Execution.{is_bad};
+ghost use Rattle.pcc_exec.specs.Execution.{is_bad};
 
-use crate::{ExecStatus, Executor};
+use pcc_exec::{ExecStatus, Executor};
 
 /// Lays the bytes over the front of the space and executes the command. Takes no memory.
 pub fn whole_call<E: Executor>(
@@ -28,7 +28,7 @@ pub fn whole_call<E: Executor>(
 #[cfg(test)]
 mod tests {
     use super::*;
-    use crate::Bank;
+    use pcc_exec::Bank;
 
     #[test]
     fn bytes_are_laid_over_the_front_and_come_back(rt: HostRuntime) {

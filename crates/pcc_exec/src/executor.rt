@@ -1,7 +1,7 @@
 //! Devices that execute commands on the communication space of a channel (ACPI 6.5, chapter 14).
 ghost use Rattle.std.specs.Prelude.{◌≡◌, List, ℕ, length};
 ghost use Rattle.pcc_history.specs.Devices.{Device};
-ghost use Rattle.pcc_steps.specs.Execution.{Executes};
+ghost use Rattle.pcc_exec.specs.Execution.{Executes};
 
 /// What a device makes of a command.
 #[derive(Clone, Copy, Debug, PartialEq, Eq)]

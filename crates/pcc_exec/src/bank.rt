@@ -43,7 +43,7 @@ impl Bank {
 
 impl Executor for Bank {
     ghost use Rattle.pcc_history.specs.Devices.{bank_exec};
-    ghost use Rattle.pcc_steps.specs.Execution.{bank_room};
+    ghost use Rattle.pcc_exec.specs.Execution.{bank_room};
 
     ghost state = { λ b. b };
 

@@ -1,8 +1,8 @@
 -- What an execution leaves, by the meaning of its device.
 use Rattle.std.specs.Prelude.{◌≡◌, ℕ, ◌-◌, Bool, true, false, List, length}
 use Rattle.pcc_history.specs.Devices.{Device}
-use Rattle.pcc_steps.specs.declared.executor.ExecStatus.{ExecStatus}
-use Rattle.pcc_steps.specs.declared.executor.ExecStatus.TheVariants.{Good, Bad}
+use Rattle.pcc_exec.specs.declared.executor.ExecStatus.{ExecStatus}
+use Rattle.pcc_exec.specs.declared.executor.ExecStatus.TheVariants.{Good, Bad}
 
 abbrev pub is_bad : ExecStatus → Bool
 is_bad Good = false
