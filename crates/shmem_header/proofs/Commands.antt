@@ -1,13 +1,15 @@
 -- The bits of a command's header, and of a word with another status.
-use Rattle.std.proofs.Common.{◌≡◌, ℕ, ◌+◌, ◌-◌, ◌*◌, ◌/◌, ◌%◌, ◌^◌, ◌<◌, Bool, true, false, eqb, refl, sym, ap, ◌∙◌, arith}
+use Rattle.std.proofs.Common.{◌≡◌, ℕ, ◌+◌, ◌-◌, ◌*◌, ◌/◌, ◌%◌, ◌^◌, ◌<◌, Bool, true, false, eqb, slice_index, refl, sym, ap, ◌∙◌, arith}
 use Rattle.std.specs.Int.{bit_at}
 use Rattle.std.specs.Int.Bits.{bit_or, and_shifted, or_zero_r}
 use Rattle.std.proofs.lemmas.Nat.{or_disjoint, or_comm}
 use Rattle.std.proofs.lemmas.Nat.Bits.{bit_at_cat_low, bit_at_cat_high}
 use Rattle.shmem_header.specs.declared.header.Generic.{Generic}
-use Rattle.shmem_header.specs.Bits.{IsCommand, code_in, header_of, header_word, is_set, notify_part, with_status}
-use Rattle.shmem_header.specs.Layout.{IsGeneric, generic_in, signature_of}
-use Rattle.shmem_header.specs.Packing.{generic_word}
+use Rattle.shmem_header.specs.declared.header.Extended.{Extended}
+use Rattle.shmem_header.specs.declared.header.Reduced.{Reduced}
+use Rattle.shmem_header.specs.HeaderBits.{IsCommand, code_in, command_in, header_of, header_word, is_set, notify_part, with_status}
+use Rattle.shmem_header.specs.Layout.{IsExtended, IsGeneric, IsReduced, generic_in, signature_of}
+use Rattle.shmem_header.specs.Packing.{extended_words, generic_word, reduced_word}
 use Rattle.shmem_header.specs.Spelling.{word_bytes}
 use Rattle.shmem_header.proofs.Fields.{generic_in-word}
 
@@ -83,6 +85,17 @@ is_set-generic_word_complete h fits = let e : bit_at (generic_word h) 48 ≡ bit
 
 pub is_set-generic_word_error : (h : Generic) → IsGeneric h → is_set (generic_word h) 50 ≡ is_set h.status 2
 is_set-generic_word_error h fits = let e : bit_at (generic_word h) 50 ≡ bit_at h.status 2 = omega arith in ap (λ (n : ℕ). eqb n 1) e
+
+pub is_set-extended_words_notify : (h : Extended) → IsExtended h → is_set (slice_index (extended_words h) 0) 32 ≡ is_set h.flags 0
+is_set-extended_words_notify h fits =
+    let e : bit_at (h.signature + h.flags * 2 ^ 32) 32 ≡ bit_at h.flags 0 = omega arith in
+    ap (λ (n : ℕ). eqb n 1) e
+
+pub command_in-extended_words : (h : Extended) → IsExtended h → command_in (slice_index (extended_words h) 1) ≡ h.command
+command_in-extended_words h fits = let e : (h.length + h.command * 2 ^ 32) / 2 ^ 32 ≡ h.command = omega arith in e
+
+pub command_in-reduced_word : (h : Reduced) → IsReduced h → command_in (reduced_word h) ≡ h.command
+command_in-reduced_word h fits = omega arith
 
 -- ---- another status
 

@@ -1,4 +1,4 @@
 pub mod Spelling
 pub mod Layout
 pub mod Packing
-pub mod Bits
+pub mod HeaderBits

@@ -1,7 +1,7 @@
 //! The bits of header words by name, and a command's header as a word.
 
 ghost use Rattle.std.specs.Prelude.{◌≡◌, ◌<◌, ◌+◌, ◌%◌, ◌^◌, ℕ, Bool, slice_index};
-ghost use Rattle.shmem_header.specs.Bits.{IsCommand, code_in, command_in, header_word, is_set, notify_part, with_status};
+ghost use Rattle.shmem_header.specs.HeaderBits.{IsCommand, code_in, command_in, header_word, is_set, notify_part, with_status};
 ghost use Rattle.shmem_header.specs.Layout.{IsExtended, IsGeneric, IsReduced};
 ghost use Rattle.shmem_header.specs.Packing.{extended_words, generic_word, reduced_word};
 
@@ -77,6 +77,12 @@ pub fn bit_laws()
     ensures complete { (h : Generic) → IsGeneric h → is_set (generic_word h) COMPLETE_BIT ≡ is_set h.status 0 }
     ensures error { (h : Generic) → IsGeneric h → is_set (generic_word h) ERROR_BIT ≡ is_set h.status 2 }
     ensures status { (h : Generic) (status : ℕ) → IsGeneric h → with_status (generic_word h) status ≡ generic_word (record h { status = status }) }
+
+    // The same bits in the fields, as masks.
+    ensures notify_mask { Generic.NOTIFY ≡ 2 ^ 15 }
+    ensures complete_mask { Generic.COMPLETE ≡ 2 ^ 0 }
+    ensures error_mask { Generic.ERROR ≡ 2 ^ 2 }
+    ensures extended_notify_mask { Extended.NOTIFY ≡ 2 ^ 0 }
 
     // The first word of an extended header has its flags, and the second one its command.
     ensures extended_notify { (h : Extended) → IsExtended h → is_set (slice_index (extended_words h) 0) EXTENDED_NOTIFY_BIT ≡ is_set h.flags 0 }

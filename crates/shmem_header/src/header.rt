@@ -130,7 +130,8 @@ fn pair_from(word: u64) -> (u32, u32)
     ((word & 0xffff_ffff) as u32, (word >> 32) as u32)
 }
 
-/// The mark of a subspace, by its number in the table: "PCC" below it, in the three upper bytes (ACPI 6.5, 14.2).
+/// The mark of a subspace: the letters "PCC" in the three upper bytes, and its number in the table in the lowest one
+/// (ACPI 6.5, 14.2).
 pub fn signature_of(id: u8) -> u32
     ensures { result ≡ signature_of id }
 {

@@ -1,7 +1,7 @@
 //! The definitions on worked cases.
 
 ghost use Rattle.std.specs.Prelude.{◌≡◌, [], ◌∷◌, true};
-ghost use Rattle.shmem_header.specs.Bits.{header_word};
+ghost use Rattle.shmem_header.specs.HeaderBits.{header_word};
 ghost use Rattle.shmem_header.specs.Layout.{extended_in, generic_in, signature_of};
 ghost use Rattle.shmem_header.specs.Packing.{extended_words};
 ghost use Rattle.shmem_header.specs.Spelling.{bytes_of, words_of};
@@ -9,29 +9,29 @@ ghost use Rattle.shmem_header.specs.Spelling.{bytes_of, words_of};
 use crate::{Extended, Generic};
 
 /// The header of subspace 3 with the command 0x10, which asks to notify and has not completed.
-pub const POSTED: Generic = Generic {
+const POSTED: Generic = Generic {
     signature: 0x5043_4303,
     command: 0x8010,
     status: 0,
 };
 
-pub const POSTED_BYTES: [u8; 8] = [3, 0x43, 0x43, 0x50, 0x10, 0x80, 0, 0];
+const POSTED_BYTES: [u8; 8] = [3, 0x43, 0x43, 0x50, 0x10, 0x80, 0, 0];
 
 /// The same when the command has completed.
-pub const COMPLETED_BYTES: [u8; 8] = [3, 0x43, 0x43, 0x50, 0x10, 0x80, 1, 0];
+const COMPLETED_BYTES: [u8; 8] = [3, 0x43, 0x43, 0x50, 0x10, 0x80, 1, 0];
 
 /// The header of subspace 2 with the command 0x11 and eight bytes of payload, which asks to notify.
-pub const EXTENDED: Extended = Extended {
+const EXTENDED: Extended = Extended {
     signature: 0x5043_4302,
     flags: 1,
     length: 12,
     command: 0x11,
 };
 
-pub const EXTENDED_BYTES: [u8; 16] = [2, 0x43, 0x43, 0x50, 1, 0, 0, 0, 12, 0, 0, 0, 0x11, 0, 0, 0];
+const EXTENDED_BYTES: [u8; 16] = [2, 0x43, 0x43, 0x50, 1, 0, 0, 0, 12, 0, 0, 0, 0x11, 0, 0, 0];
 
 /// Headers as bytes. It does nothing.
-#[tactic(auto, unfolding(crate::specs::Layout::generic_in, crate::specs::Layout::extended_in, crate::specs::Bits::header_word, crate::specs::Spelling::word_of, crate::specs::Spelling::word_bytes, pcc_bytes::specs::Bytes::number_at))]
+#[tactic(auto, unfolding(crate::specs::Layout::generic_in, crate::specs::Layout::extended_in, crate::specs::HeaderBits::header_word, crate::specs::Spelling::word_of, crate::specs::Spelling::word_bytes, pcc_bytes::specs::Bytes::number_at))]
 pub fn worked_headers()
     ensures posted { generic_in POSTED_BYTES ≡ POSTED }
     ensures posted_word { bytes_of (header_word 0x10 true 0 3 ∷ []) ≡ POSTED_BYTES }
