@@ -3,7 +3,7 @@ ghost use Rattle.std.specs.Prelude.{◌≡◌, ◌≤◌, ◌<◌, ◌+◌, ◌^
 ghost use Rattle.pcc_history.specs.Devices.{bank_exec};
 ghost use Rattle.pcc_history.specs.Channel.{object_after, over};
 ghost use Rattle.rate_limit.specs.RateLimits.{earliest_of};
-ghost use Rattle.pcc_steps.specs.Execution.{is_bad};
+ghost use Rattle.pcc_exec.specs.Execution.{is_bad};
 ghost use Rattle.pccrun_core.specs.ReplyText.{IsPlaced};
 ghost use Rattle.pccrun_core.specs.StepRun.{has_byte_codes};
 ghost use Rattle.pccrun_core.specs.BankChannels.{IsAnswered, new_bank};
@@ -11,7 +11,8 @@ ghost use Rattle.pccrun_core.specs.BankChannels.{IsAnswered, new_bank};
 use crate::reply::Outcome;
 use pcc_io::{Bytes, Clock, LineClock, NoMemory};
 use pcc_journal::{Journal, JournalHead, Record, ReserveRefusal};
-use pcc_steps::{Bank, ExecStatus, whole_call};
+use pcc_exec::{Bank, ExecStatus};
+use pcc_steps::whole_call;
 use rate_limit::{Limits, Times, earliest};
 use std::alloc::Global;
 use std::marker::Model;
