@@ -28,7 +28,6 @@ pub table_spelled : (b : List ℕ) (t : Table) → IsBytes b → TableBytes b t 
 table_spelled b t fits h =
     sym (fields_back header_fields 0 48 b refl h.least fits) ∙ ap (λ (v : List ℕ). v ++ drop 48 b) (ap (fields_bytes header_fields) h.header)
 
--- the parts of a table's bytes around the one for the sum
 regroup : (size revision check back body : List ℕ) → (size ++ (revision ++ (check ++ back))) ++ body ≡ (size ++ revision) ++ (check ++ (back ++ body))
 regroup size revision check back body = simp append_assoc
 

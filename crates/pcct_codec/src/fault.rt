@@ -9,10 +9,10 @@ ghost use Rattle.pcct_codec.specs.declared.fault.TableWriteFault.TheVariants.{
 use pcc_io::{NoMemory, WriteFault};
 use std::alloc::AllocError;
 
-/// The first check that fails on the bytes of a source, in this order, with its place from the table's first byte.
+/// The first check that fails on bytes or on those of a source, in this order, with its place from the table's first byte.
 #[derive(Clone, Copy, Debug, PartialEq, Eq)]
 pub enum TableFault {
-    /// The source ended after so many bytes, fewer than a header's 48 or than the header tells.
+    /// The bytes or the source end after so many, fewer than a header's 48 or than the header tells.
     Short { at: u32 },
     /// The first four bytes aren't `PCCT`.
     Signature,

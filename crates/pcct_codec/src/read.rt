@@ -96,9 +96,9 @@ fn table_in(alloc: Global, bytes: &[u8]) -> Result<Table, TableFault>
     Ok(table_with(bytes, subspaces))
 }
 
-/// The table with which the bytes begin, and how many bytes it has. What follows them is not looked at.
+/// The table with which the bytes begin (ACPI 6.5, 14.1), and how many bytes it has. The bytes behind it are not looked at.
 ///
-/// The faults are those of `table_from` but `ReadFault`. At `Short` there are fewer bytes than a header's 48 or than the header tells.
+/// The faults are those of `table_from`, without `ReadFault`.
 pub fn table_of_bytes(alloc: Global, bytes: &[u8]) -> Result<(Table, usize), TableFault>
     // A table is one that the first bytes spell.
     ensures found { IfOk result (λ x. (x.1 ≤ length bytes.now) × TableBytes (take x.1 bytes.now) x.0) }
@@ -126,12 +126,6 @@ pub fn table_of_bytes(alloc: Global, bytes: &[u8]) -> Result<(Table, usize), Tab
     Ok((table, len))
 }
 
-/// What some bytes decide stays, whatever follows them, where they are enough to decide. It does nothing.
-pub fn decision_laws()
-    ensures settled { (ended : Bool) (bytes more : List ℕ) → (decision false bytes ≡ Undecided → ⊥)
-        → decision ended (bytes ++ more) ≡ decision false bytes }
-{}
-
 /// The table with whose bytes the source begins, which are then gone. The header's 48 bytes are taken first, then as many as it tells.
 /// Behind a fault of the header 48 bytes are gone, behind one of the structures or of the sum all of the table's, and at `Short` the
 /// source is at its end.
@@ -154,3 +148,9 @@ pub fn table_from<S: Source>(alloc: Global, source: &mut S) -> Result<Table, Tab
         Ok(bytes) => table_in(alloc, &bytes),
     }
 }
+
+/// What some bytes decide stays, whatever follows, where they are enough to decide. It does nothing.
+pub fn decision_laws()
+    ensures settled { (ended : Bool) (bytes more : List ℕ) → (decision false bytes ≡ Undecided → ⊥)
+        → decision ended (bytes ++ more) ≡ decision false bytes }
+{}
