@@ -1,5 +1,6 @@
 pub mod DigitTable
 pub mod Splitting
+pub mod Cuts
 pub mod Numerals
 pub mod Appending
 pub mod Laws

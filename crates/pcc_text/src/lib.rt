@@ -2,10 +2,12 @@
 //! Every text of the program stands on it: scripts, tables shown as text, replies, journals and traces.
 #![tactic(auto)]
 
+mod cutting;
 mod digits;
 mod reading;
 mod writing;
 
+pub use cutting::cut;
 pub use reading::{bytes_of, is_text, number, part, split};
 pub use writing::{Piece, put, put_hex, put_number, put_pieces};
 

@@ -1,16 +1,20 @@
 -- Structures that are read line by line.
 use Rattle.std.proofs.Common.{◌≡◌, ◌≢◌, ℕ, suc, ◌+◌, ◌^◌, ◌<◌, ◌≤◌, List, [], ◌∷◌, ◌++◌, length, take, drop, get_or, refl, sym, ap, ◌∙◌, subst, arith}
-use Rattle.std.specs.Prelude.{Option, Some, None}
+use Rattle.std.specs.Prelude.{Option, Some, None, Ok, Err}
 use Rattle.std.specs.List.{AllByRecursion}
 use Rattle.std.proofs.lemmas.List.{append-nil, drop_more, length-append, take_all, take_more, take-append-drop}
 use Rattle.pcc_bytes.specs.Fields.{split_at}
+use Rattle.pcct_table.specs.declared.build.BuildError.{BuildError}
+use Rattle.pcct_table.specs.declared.build.BuildError.TheVariants as error
+use Rattle.pcct_table.specs.declared.build.BuildKind.{BuildKind}
 use Rattle.pcct_table.specs.declared.build.BuildKind.TheVariants as kind
 use Rattle.pcct_table.specs.declared.subspace.Subspace.{Subspace}
 use Rattle.pcct_table.specs.Subspaces.{IsSubspace, subspace_bytes}
 use Rattle.pcct_table.specs.ShowText.{show_line, structure_lines}
 use Rattle.pcct_table.specs.ShowFaults.{IsRightAt}
-use Rattle.pcct_table.specs.ShowReading.{AreFew, ReadsStructure, StopsBehind, OneLineMore, Unended, Wrong, read_line}
+use Rattle.pcct_table.specs.ShowReading.{AreFew, ReadsStructure, StopsBehind, TellsStructures, OneLineMore, Unended, Wrong, read_line}
 use Rattle.pcct_table.proofs.ShowLine.{line_is, line_read, line_spelled}
+use Rattle.pcct_table.proofs.Lines.{IsRest, last_in, lines_of, next_line, no_line}
 
 -- the structures of the lines before a place are read
 pub record Building (lines : List (List ℕ)) (place : ℕ) (ss : List Subspace) : Type 0 where
@@ -121,8 +125,58 @@ building_unended lines last place line ss le some e b =
       number = omega arith;
     }
 
-pub building_end : (lines : List (List ℕ)) (place : ℕ) (ss : List Subspace) → length lines ≤ place → Building lines place ss → lines ≡ structure_lines 0 ss
-building_end lines place ss le b = all_read lines place ss le b
+-- ---- a text whose lines are cut one after another
 
-pub building_few : (lines : List (List ℕ)) (place : ℕ) (ss : List Subspace) → Building lines place ss → AreFew ss
-building_few lines place ss b = b.right
+-- structures are read of the lines before the rest
+pub record Reading (text : List ℕ) (ss : List Subspace) (rest : List ℕ) : Type 0 where
+  pub left : IsRest text (length ss) rest
+  pub done : Building (lines_of text) (length ss) ss
+
+pub reading_start : (text : List ℕ) (ss : List Subspace) → ss ≡ [] → Reading text ss text
+reading_start text ss e =
+    let R : List Subspace → Type 0 = λ us. Reading text us text in
+    subst R (sym e) (record { left = refl; done = building_start (lines_of text) [] refl })
+
+pub reading_more : (text rest line behind : List ℕ) (ss next : List Subspace) (s : Subspace) → split_at 10 rest ≡ line ∷ split_at 10 behind → ReadsStructure (read_line (length ss) (split_at 32 line)) (Some s) → length ss ≢ 256 → next ≡ ss ++ s ∷ [] → Reading text ss rest → Reading text next behind
+reading_more text rest line behind ss next s cut h few e r =
+    let n = next_line text rest line behind (length ss) r.left cut in
+    let P : List ℕ → Type 0 = λ l. ReadsStructure (read_line (length ss) (split_at 32 l)) (Some s) in
+    let len : length next ≡ length ss + 1 = ap length e ∙ length-append ss (s ∷ []) in
+    let L : ℕ → Type 0 = λ k. IsRest text k behind in
+    let D : ℕ → Type 0 = λ k. Building (lines_of text) k next in
+    record {
+      left = subst L (sym len) n.more;
+      done = subst D (sym len) (building_more (lines_of text) (length ss) ss next s n.within (subst P (sym n.is) h) few e r.done);
+    }
+
+told : (lines : List (List ℕ)) (last : List ℕ) (e : BuildError) (n : ℕ) (k : BuildKind) → e ≡ error.Fault n k → StopsBehind lines last n k → TellsStructures (Err e) lines last
+told lines last e n k is h = let P : BuildError → Type 0 = λ d. TellsStructures (Err d) lines last in subst P (sym is) h
+
+pub reading_wrong : (text rest line behind : List ℕ) (ss : List Subspace) (e : BuildError) → split_at 10 rest ≡ line ∷ split_at 10 behind → ReadsStructure (read_line (length ss) (split_at 32 line)) None → e ≡ error.Fault (length ss + 2) kind.Text → Reading text ss rest → TellsStructures (Err e) (lines_of text) (last_in text)
+reading_wrong text rest line behind ss e cut h is r =
+    let n = next_line text rest line behind (length ss) r.left cut in
+    let P : List ℕ → Type 0 = λ l. ReadsStructure (read_line (length ss) (split_at 32 l)) None in
+    told (lines_of text) (last_in text) e (length ss + 2) kind.Text is (building_wrong (lines_of text) (last_in text) (length ss) (length ss + 2) ss n.within (subst P (sym n.is) h) refl r.done)
+
+pub reading_many : (text rest line behind : List ℕ) (ss : List Subspace) (s : Subspace) (e : BuildError) → split_at 10 rest ≡ line ∷ split_at 10 behind → ReadsStructure (read_line (length ss) (split_at 32 line)) (Some s) → length ss ≡ 256 → e ≡ error.Fault (length ss + 2) kind.Many → Reading text ss rest → TellsStructures (Err e) (lines_of text) (last_in text)
+reading_many text rest line behind ss s e cut h full is r =
+    let n = next_line text rest line behind (length ss) r.left cut in
+    let P : List ℕ → Type 0 = λ l. ReadsStructure (read_line (length ss) (split_at 32 l)) (Some s) in
+    told (lines_of text) (last_in text) e (length ss + 2) kind.Many is (building_many (lines_of text) (last_in text) (length ss) (length ss + 2) ss s n.within (subst P (sym n.is) h) full refl r.done)
+
+pub reading_unended : (text rest : List ℕ) (ss : List Subspace) (e : BuildError) → split_at 10 rest ≡ rest ∷ [] → length rest ≢ 0 → e ≡ error.Fault (length ss + 2) kind.Text → Reading text ss rest → TellsStructures (Err e) (lines_of text) (last_in text)
+reading_unended text rest ss e uncut some is r =
+    let l = no_line text rest (length ss) r.left uncut in
+    let all : length (lines_of text) ≡ length ss = l.all in
+    let P : List ℕ → Type 0 = λ bs. length bs ≢ 0 in
+    told (lines_of text) (last_in text) e (length ss + 2) kind.Text is (building_unended (lines_of text) (last_in text) (length ss) (length ss + 2) ss (omega arith) (subst P (sym l.is) some) (omega arith) r.done)
+
+pub reading_end : (text rest : List ℕ) (ss : List Subspace) → split_at 10 rest ≡ rest ∷ [] → length rest ≡ 0 → Reading text ss rest → TellsStructures (Ok ss) (lines_of text) (last_in text)
+reading_end text rest ss uncut none r =
+    let l = no_line text rest (length ss) r.left uncut in
+    let all : length (lines_of text) ≡ length ss = l.all in
+    (all_read (lines_of text) (length ss) ss (omega arith) r.done, r.done.right, l.is ∙ empty rest none)
+  where
+    empty : (bs : List ℕ) → length bs ≡ 0 → bs ≡ []
+    empty [] h = refl
+    empty (b ∷ bs) h = absurd (omega arith)

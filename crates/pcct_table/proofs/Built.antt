@@ -1,12 +1,10 @@
 -- What a caller is told of a text.
-use Rattle.std.proofs.Common.{◌≡◌, ◌⊎◌, inl, inr, ℕ, zero, suc, ◌+◌, ◌^◌, ◌<◌, ◌≤◌, eqb, cond, Bool, true, false, List, [], ◌∷◌, ◌++◌, length, map, drop, get_or, refl, sym, ap, ◌∙◌, subst, arith}
+use Rattle.std.proofs.Common.{◌≡◌, ◌⊎◌, inl, inr, ℕ, zero, suc, ◌+◌, ◌^◌, ◌<◌, ◌≤◌, eqb, cond, Bool, true, false, List, [], ◌∷◌, ◌++◌, length, refl, sym, ap, ◌∙◌, subst, arith}
 use Rattle.std.specs.Prelude.{Some, None, Result, Ok, Err, IfOk}
-use Rattle.std.specs.Borrow.{Bor}
-use Rattle.std.specs.List.{AllByRecursion, count_by, flat_map, join_with_byte, onto_first}
+use Rattle.std.specs.List.{AllByRecursion, flat_map, join_with_byte, onto_first}
 use Rattle.std.proofs.lemmas.Grind.{flat_map-append}
-use Rattle.std.proofs.lemmas.List.{append-nil, append_assoc, length-map}
-use Rattle.std.proofs.lemmas.List.Splits.{length-slice_split, slice_split_at, slice_split_none}
-use Rattle.std.proofs.lemmas.List.Sums.{count_by-le-length}
+use Rattle.std.proofs.lemmas.List.{append-nil, append_assoc}
+use Rattle.std.proofs.lemmas.List.Splits.{slice_split_at, slice_split_none}
 use Rattle.pcc_bytes.specs.Fields.{line_text, split_at}
 use Rattle.pcc_text.proofs.Laws.{All-from_lacks, EachLacks, lacks, text_of_parts}
 use Rattle.pcct_table.specs.declared.build.BuildError.{BuildError}
@@ -23,6 +21,7 @@ use Rattle.pcct_table.specs.ShowFaults.{AreRightFrom, IfFault, IsReadAs, IsRefus
 use Rattle.pcct_table.specs.ShowReading.{Nothing, OneLineMore, Stops, StopsAt, StopsBehind, TellsStructures, TellsTable, TellsText, Unended, Wrong, front_of, last_of, read_header, shown_bytes}
 use Rattle.pcct_table.proofs.ShowHeader.{header_fit, header_is, header_known, header_len, header_one, header_read, same_header}
 use Rattle.pcct_table.proofs.ShowLine.{line_one, same_structure}
+use Rattle.pcct_table.proofs.Lines.{front_push, last_push, parts_are, split_some}
 
 -- ---- parts
 
@@ -37,36 +36,6 @@ split_case c x false ps e h = lacks_onto c x ps e h
 split_lacks : (c : ℕ) (bs : List ℕ) → EachLacks c (split_at c bs)
 split_lacks c [] = (refl, tt)
 split_lacks c (x ∷ xs) = split_case c x (eqb x c) (split_at c xs) refl (split_lacks c xs)
-
-split_some : (c : ℕ) (bs : List ℕ) → 1 ≤ length (split_at c bs)
-split_some c bs = omega (arith, length-slice_split (λ b. eqb b c) bs)
-
-parts_are : (ps : List (List ℕ)) → 1 ≤ length ps → ps ≡ front_of ps ++ last_of ps ∷ []
-parts_are [] h = absurd (omega arith)
-parts_are (x ∷ []) h = refl
-parts_are (x ∷ y ∷ ys) h = ap (λ (v : List (List ℕ)). x ∷ v) (parts_are (y ∷ ys) (omega arith))
-
-pub front_push : (ls : List (List ℕ)) (x : List ℕ) → front_of (ls ++ x ∷ []) ≡ ls
-front_push [] x = refl
-front_push (l ∷ []) x = refl
-front_push (l ∷ m ∷ ms) x = ap (λ (v : List (List ℕ)). l ∷ v) (front_push (m ∷ ms) x)
-
-pub last_push : (ls : List (List ℕ)) (x : List ℕ) → last_of (ls ++ x ∷ []) ≡ x
-last_push [] x = refl
-last_push (l ∷ []) x = refl
-last_push (l ∷ m ∷ ms) x = last_push (m ∷ ms) x
-
-pub some_parts : (c : ℕ) (text : List ℕ) → split_at c text ≡ [] → ⊥
-some_parts c text e = let n : 1 ≤ length (split_at c text) = split_some c text in let z : length (split_at c text) ≡ 0 = ap length e in absurd (omega arith)
-
--- there are hardly more parts than bytes
-pub parts_fit : (text : List ℕ) (parts : List (Bor (List ℕ))) → map (λ x. x.now) parts ≡ split_at 10 text → length parts ≤ length text + 1
-parts_fit text parts e =
-    let n : length (split_at 10 text) ≡ count_by (λ b. eqb b 10) text + 1 = length-slice_split (λ b. eqb b 10) text in
-    let m : count_by (λ b. eqb b 10) text ≤ length text = count_by-le-length (λ b. eqb b 10) text in
-    let l : length (map (λ (x : Bor (List ℕ)). x.now) parts) ≡ length parts = length-map parts (λ (x : Bor (List ℕ)). x.now) in
-    let s : length (map (λ (x : Bor (List ℕ)). x.now) parts) ≡ length (split_at 10 text) = ap length e in
-    omega arith
 
 each_front : (c : ℕ) (ls : List (List ℕ)) (x : List ℕ) (ms : List (List ℕ)) → EachLacks c (ls ++ x ∷ ms) → lacks c x ≡ true
 each_front c [] x ms h = h.0
@@ -145,21 +114,32 @@ same_table t u h k e =
 
 -- ---- what the lines behind a header's tell of all lines
 
-pub no_lines : (lines : List (List ℕ)) (last : List ℕ) → length lines ≡ 0 → StopsAt lines last 1 kind.Text
-no_lines [] last e = record { before = []; more = []; cut = refl; right = tt; few = omega arith; stops = Nothing last refl; number = refl }
-no_lines (l ∷ ls) last e = absurd (omega arith)
+-- there is no line
+pub no_lines : (text : List ℕ) → split_at 10 text ≡ text ∷ [] → TellsText (Err (error.Fault 1 kind.Text)) text
+no_lines text e = record { before = []; more = []; cut = ap front_of e; right = tt; few = omega arith; stops = Nothing (last_of (split_at 10 text)) refl; number = refl }
 
-pub no_header : (lines : List (List ℕ)) (last : List ℕ) → 0 < length lines → read_header (split_at 32 (get_or lines 0 [])) ≡ None → StopsAt lines last 1 kind.Text
-no_header [] last lt e = absurd (omega arith)
-no_header (line ∷ rest) last lt e = record {
+-- the parts of a text with a line
+behind_line : (text line rest : List ℕ) (r : Result Table BuildError) → split_at 10 text ≡ line ∷ split_at 10 rest → TellsTable r (line ∷ front_of (split_at 10 rest)) (last_of (split_at 10 rest)) → TellsText r text
+behind_line text line rest r e h =
+    let ps = split_at 10 rest in
+    let whole : split_at 10 text ≡ (line ∷ front_of ps) ++ last_of ps ∷ [] = e ∙ ap (λ (v : List (List ℕ)). line ∷ v) (parts_are ps (split_some 10 rest)) in
+    let front : front_of (split_at 10 text) ≡ line ∷ front_of ps = ap front_of whole ∙ front_push (line ∷ front_of ps) (last_of ps) in
+    let last : last_of (split_at 10 text) ≡ last_of ps = ap last_of whole ∙ last_push (line ∷ front_of ps) (last_of ps) in
+    let P : List (List ℕ) → Type 0 = λ ls. TellsTable r ls (last_of (split_at 10 text)) in
+    let Q : List ℕ → Type 0 = λ bs. TellsTable r (line ∷ front_of ps) bs in
+    subst P (sym front) (subst Q (sym last) h)
+
+-- the first line is no header's
+pub no_header : (text line rest : List ℕ) → split_at 10 text ≡ line ∷ split_at 10 rest → read_header (split_at 32 line) ≡ None → TellsText (Err (error.Fault 1 kind.Text)) text
+no_header text line rest cut e = behind_line text line rest (Err (error.Fault 1 kind.Text)) cut (record {
   before = [];
-  more = line ∷ rest;
+  more = line ∷ front_of (split_at 10 rest);
   cut = refl;
   right = tt;
   few = omega arith;
-  stops = Wrong line rest last (λ r. let some = header_read line r.0 r.1 r.2 in let both : Some (shown_bytes r.0) ≡ None = sym some ∙ e in cc);
+  stops = Wrong line (front_of (split_at 10 rest)) (last_of (split_at 10 rest)) (λ r. let some = header_read line r.0 r.1 r.2 in let both : Some (shown_bytes r.0) ≡ None = sym some ∙ e in cc);
   number = refl;
-}
+})
 
 -- a header's line with a table of no structures
 pub header_right : (line b : List ℕ) (t : Table) → read_header (split_at 32 line) ≡ Some b → values_in b shown_fields ≡ shown_values t → AllByRecursion IsSubspace t.subspaces → length t.subspaces ≤ 256 → HasText t
@@ -207,19 +187,19 @@ behind_header line b lines last n k e s =
       number = omega arith;
     }
 
-pub table_err : (lines : List (List ℕ)) (last b : List ℕ) (e : BuildError) → 0 < length lines → read_header (split_at 32 (get_or lines 0 [])) ≡ Some b → TellsStructures (Err e) (drop 1 lines) last → TellsTable (Err e) lines last
-table_err [] last b e lt is h = absurd (omega arith)
-table_err (line ∷ rest) last b error.NoMemory lt is h = tt
-table_err (line ∷ rest) last b (error.Fault n k) lt is h = behind_header line b rest last n k is h
+pub table_err : (text line rest b : List ℕ) (e : BuildError) → split_at 10 text ≡ line ∷ split_at 10 rest → read_header (split_at 32 line) ≡ Some b → TellsStructures (Err e) (front_of (split_at 10 rest)) (last_of (split_at 10 rest)) → TellsText (Err e) text
+table_err text line rest b error.NoMemory cut is h = tt
+table_err text line rest b (error.Fault n k) cut is h =
+    behind_line text line rest (Err (error.Fault n k)) cut (behind_header line b (front_of (split_at 10 rest)) (last_of (split_at 10 rest)) n k is h)
 
-pub table_ok : (lines : List (List ℕ)) (last b : List ℕ) (ss : List Subspace) (t : Table) → 0 < length lines → read_header (split_at 32 (get_or lines 0 [])) ≡ Some b → TellsStructures (Ok ss) (drop 1 lines) last → values_in b shown_fields ≡ shown_values t → t.subspaces ≡ ss → TellsTable (Ok t) lines last
-table_ok [] last b ss t lt e h values same = absurd (omega arith)
-table_ok (line ∷ rest) last b ss t lt e h values same =
+pub table_ok : (text line rest b : List ℕ) (ss : List Subspace) (t : Table) → split_at 10 text ≡ line ∷ split_at 10 rest → read_header (split_at 32 line) ≡ Some b → TellsStructures (Ok ss) (front_of (split_at 10 rest)) (last_of (split_at 10 rest)) → values_in b shown_fields ≡ shown_values t → t.subspaces ≡ ss → TellsText (Ok t) text
+table_ok text line rest b ss t cut e h values same =
     let P : List Subspace → Type 0 = λ us. AllByRecursion IsSubspace us in
     let Q : List Subspace → Type 0 = λ us. length us ≤ 256 in
     let first : line ≡ header_line t = header_is line b t e values in
-    let others : rest ≡ structure_lines 0 t.subspaces = h.0 ∙ ap (structure_lines 0) (sym same) in
-    (header_right line b t e values (subst P (sym same) h.1.spelled) (subst Q (sym same) h.1.few), ap (λ (l : List ℕ). l ∷ rest) first ∙ ap (λ (ls : List (List ℕ)). header_line t ∷ ls) others, h.2)
+    let others : front_of (split_at 10 rest) ≡ structure_lines 0 t.subspaces = h.0 ∙ ap (structure_lines 0) (sym same) in
+    behind_line text line rest (Ok t) cut
+    (header_right line b t e values (subst P (sym same) h.1.spelled) (subst Q (sym same) h.1.few), ap (λ (l : List ℕ). l ∷ front_of (split_at 10 rest)) first ∙ ap (λ (ls : List (List ℕ)). header_line t ∷ ls) others, h.2)
 
 -- ---- where reading stops
 

@@ -48,10 +48,6 @@ header_fields =
 abbrev pub header_size : ℕ
 header_size = 48
 
--- what every structure begins with (14.1.2)
-abbrev pub head_fields : List Field
-head_fields = field (codes "type") 0 Byte ∷ field (codes "size") 1 Byte ∷ []
-
 -- the fields that types 0 to 2 share: their memory, their doorbell and their times
 abbrev pub memory_fields : List Field
 memory_fields =
@@ -151,16 +147,6 @@ size_of_kind kind =
     else (if kind == 5 then Some 96
     else None)))))
 
--- the parts of a generic address (5.2.3.2)
-abbrev pub address_fields : List Field
-address_fields =
-    field (codes "space") 0 Byte
-    ∷ field (codes "width") 1 Byte
-    ∷ field (codes "offset") 2 Byte
-    ∷ field (codes "access") 3 Byte
-    ∷ field (codes "address") 4 Qword
-    ∷ []
-
 -- the first field of a name
 abbrev pub field_named : List Field → List ℕ → Option Field
 field_named [] name = None
@@ -178,8 +164,3 @@ number_in fields name bytes = at_field 0 (λ n at. number_at n at bytes) (field_
 -- the bytes of the field of a name
 abbrev pub bytes_in : List Field → List ℕ → List ℕ → List ℕ
 bytes_in fields name bytes = at_field [] (λ n at. take n (drop at bytes)) (field_named fields name)
-
--- the number in a part of the generic address in the field of a name
-abbrev pub part_in : List Field → List ℕ → List ℕ → List ℕ → ℕ
-part_in fields name part bytes =
-    at_field 0 (λ n at. at_field 0 (λ n' at'. number_at n' (at + at') bytes) (field_named address_fields part)) (field_named fields name)

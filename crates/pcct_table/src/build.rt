@@ -1,17 +1,19 @@
 //! A table from its text.
-ghost use Rattle.std.specs.Prelude.{◌≡◌, ◌<◌, ◌^◌, ◌+◌, ◌-◌, ℕ, IfOk, length, map};
+ghost use Rattle.std.specs.Prelude.{◌≡◌, ◌≤◌, ◌+◌, ℕ, IfOk};
+ghost use Rattle.pcc_bytes.specs.Fields.{split_at};
+ghost use Rattle.pcct_table.specs.declared.build.BuildError.TheVariants as error;
 ghost use Rattle.pcct_table.specs.declared.table.Table.{Table};
 ghost use Rattle.pcct_table.specs.declared.build.BuildKind.{BuildKind};
 ghost use Rattle.pcct_table.specs.ShowText.{HasText, show_text};
 ghost use Rattle.pcct_table.specs.ShowFaults.{IfFault, IsReadAs, IsRefusedAt, TextWrong};
-ghost use Rattle.pcct_table.specs.ShowReading.{TellsStructures, TellsTable, TellsText};
+ghost use Rattle.pcct_table.specs.ShowReading.{TellsStructures, TellsText, front_of, last_of};
 
 use crate::header::table_with;
-use crate::line::{behind, header_of_line, subspace_of_line};
+use crate::line::{header_of_line, subspace_of_line};
 use crate::subspaces::Subspaces;
 use crate::table::Table;
 use pcc_io::NoMemory;
-use pcc_text::{part, split};
+use pcc_text::cut;
 use std::alloc::Global;
 
 /// What is wrong with a line of a table's text.
@@ -45,70 +47,59 @@ impl From<NoMemory> for BuildError {
 /// A table's structures at most.
 const MOST: usize = 256;
 
-/// The structures of the lines behind the header's, with `last` behind their last line feed.
-#[tactic(auto, using(crate::proofs::Building::building_start, crate::proofs::Building::building_end, crate::proofs::Building::building_few))]
-fn subspaces_of(alloc: Global, lines: &[&[u8]], last: &[u8]) -> Result<Subspaces, BuildError>
-    requires { length lines.now + 2 < 2 ^ 32 }
-    ensures { TellsStructures result (map (λ line. line.now) lines.now) last.now }
+/// What is wrong with the line of a structure with this place.
+fn wrong_line(place: usize, kind: BuildKind) -> BuildError
+    requires { place ≤ 256 }
+    ensures { result ≡ error.Fault (place + 2) kind }
+{
+    BuildError::Fault {
+        line: place as u32 + 2,
+        kind,
+    }
+}
+
+/// The structures of the lines of a text behind the header's.
+#[tactic(auto, using(crate::proofs::Building::reading_start, crate::proofs::Building::reading_more, crate::proofs::Building::reading_wrong, crate::proofs::Building::reading_many, crate::proofs::Building::reading_unended, crate::proofs::Building::reading_end))]
+fn subspaces_of(alloc: Global, text: &[u8]) -> Result<Subspaces, BuildError>
+    ensures { TellsStructures result (front_of (split_at 10 text.now)) (last_of (split_at 10 text.now)) }
 {
     let mut subspaces = Subspaces::new(alloc);
-    for place in 0..lines.len() {
-        let line = place as u32 + 2;
-        let Some(subspace) = subspace_of_line(alloc, place as u32, part(lines, place))? else {
-            return Err(BuildError::Fault {
-                line,
-                kind: BuildKind::Text,
-            });
+    let mut rest = text;
+    while let Some((line, behind)) = cut(rest, b'\n') {
+        let place = subspaces.len();
+        let Some(subspace) = subspace_of_line(alloc, place as u32, line)? else {
+            return Err(wrong_line(place, BuildKind::Text));
         };
         if place == MOST {
-            return Err(BuildError::Fault {
-                line,
-                kind: BuildKind::Many,
-            });
+            return Err(wrong_line(place, BuildKind::Many));
         }
         subspaces.push(subspace)?;
+        rest = behind;
     }
-    if !last.is_empty() {
-        return Err(BuildError::Fault {
-            line: lines.len() as u32 + 2,
-            kind: BuildKind::Text,
-        });
+    if !rest.is_empty() {
+        return Err(wrong_line(subspaces.len(), BuildKind::Text));
     }
     Ok(subspaces)
 }
 
-/// The table of these lines, with `last` behind their last line feed.
-#[tactic(auto, using(crate::proofs::ShowHeader::header_len))]
-fn table_of(alloc: Global, lines: &[&[u8]], last: &[u8]) -> Result<Table, BuildError>
-    requires { length lines.now < 2 ^ 32 - 1 }
-    ensures { TellsTable result (map (λ line. line.now) lines.now) last.now }
+/// The table that a text spells, or its first fault, as reading finds them.
+#[tactic(auto, using(crate::proofs::Built::no_lines, crate::proofs::Built::no_header, crate::proofs::Built::table_err, crate::proofs::Built::table_ok, crate::proofs::ShowHeader::header_len))]
+fn read(alloc: Global, text: &[u8]) -> Result<Table, BuildError>
+    ensures { TellsText result text.now }
 {
     let wrong = BuildError::Fault {
         line: 1,
         kind: BuildKind::Text,
     };
-    if lines.is_empty() {
-        return Err(wrong);
-    }
-    let Some(header) = header_of_line(alloc, part(lines, 0))? else {
+    let Some((line, rest)) = cut(text, b'\n') else {
         return Err(wrong);
     };
-    match subspaces_of(alloc, behind(lines, 1), last) {
+    let Some(header) = header_of_line(alloc, line)? else {
+        return Err(wrong);
+    };
+    match subspaces_of(alloc, rest) {
         Ok(subspaces) => Ok(table_with(&header, subspaces)),
         Err(error) => Err(error),
-    }
-}
-
-/// The table that a text spells, or its first fault, as reading finds them.
-#[tactic(auto, using(crate::proofs::Built::front_push, crate::proofs::Built::last_push, std::proofs::lemmas::List::map_push, crate::proofs::Built::some_parts))]
-fn read(alloc: Global, text: &[u8]) -> Result<Table, BuildError>
-    requires { length text.now < 2 ^ 32 - 1 }
-    ensures { TellsText result text.now }
-{
-    let mut lines = split(alloc, text, b'\n')?;
-    match lines.pop() {
-        Some(last) => table_of(alloc, &lines, last),
-        None => unreachable!(),
     }
 }
 
@@ -118,7 +109,6 @@ fn read(alloc: Global, text: &[u8]) -> Result<Table, BuildError>
 /// `Text`. The right line of a 257th structure is `Many`.
 #[tactic(auto, using(crate::proofs::Built::is_found, crate::proofs::Built::is_only, crate::proofs::Built::is_wrong, crate::proofs::Built::is_first))]
 pub fn table_of_lines(alloc: Global, text: &[u8]) -> Result<Table, BuildError>
-    requires { length text.now < 2 ^ 32 - 1 }
     // The text is that of what is read.
     ensures found { IfOk result (λ t. HasText t × (text.now ≡ show_text t)) }
     // A table whose text this is is read, unless memory runs out.
