@@ -9,7 +9,7 @@ use crate::{Failed, NoMemory};
 use std::alloc::{AllocError, Global};
 
 /// How many bytes one read asks for at most.
-const CHUNK: usize = 1024;
+const CHUNK: usize = 16_384;
 
 /// A stream of bytes that counts its faults.
 pub trait Source {

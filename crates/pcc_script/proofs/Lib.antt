@@ -4,6 +4,7 @@ pub mod Lines
 pub mod Counting
 pub mod Sequence
 pub mod Growing
+pub mod Parts
 pub mod Going
 pub mod Completing
 pub mod Script

@@ -1,13 +1,11 @@
 -- A text is read to the lines of which it is the text, or to its first fault.
 use Rattle.std.proofs.Common.{◌≡◌, ℕ, suc, ◌+◌, ◌≤◌, eqb, leb, Bool, true, false, cond, List, [], ◌∷◌, ◌++◌, length, map, refl, sym, ap, ◌∙◌, subst, arith}
 use Rattle.std.specs.Prelude.{Option, Some, None}
-use Rattle.std.specs.Borrow.{Bor}
-use Rattle.std.specs.List.{flat_map, onto_first, join_with_byte, count_by}
+use Rattle.std.specs.List.{flat_map, onto_first, join_with_byte}
 use Rattle.std.proofs.lemmas.Bool.Decides.{nat_tests}
 use Rattle.std.proofs.lemmas.Bool.{and_parts, leb-true}
-use Rattle.std.proofs.lemmas.List.{append_assoc, append-nil, length-map}
-use Rattle.std.proofs.lemmas.List.Splits.{slice_split_none, slice_split_at, length-slice_split}
-use Rattle.std.proofs.lemmas.List.Sums.{count_by-le-length}
+use Rattle.std.proofs.lemmas.List.{append_assoc, append-nil}
+use Rattle.std.proofs.lemmas.List.Splits.{slice_split_none, slice_split_at}
 use Rattle.std.proofs.lemmas.Grind.{flat_map-append}
 use Rattle.pcc_bytes.specs.Fields.{split_at, line_text}
 use Rattle.pcc_text.proofs.Laws.{lacks, EachLacks, text_of_parts, All-from_lacks}
@@ -18,6 +16,7 @@ use Rattle.pcc_script.specs.Faults.{TextWrong, AtLine, NoEnd, NotWhole}
 use Rattle.pcc_script.specs.Reading.{Lines, with_front, read_lines, start, front_of, last_of, is_whole, end_fault, ended_by, ended, read_text}
 use Rattle.pcc_script.proofs.Sequence.{sees_start, statement_one, EndsSo, lines_read, lines_again, lines_fail}
 use Rattle.pcc_script.proofs.Going.{Met}
+use Rattle.pcc_script.proofs.Parts.{front_push, last_push, parts_are, split_some}
 
 -- ---- parts
 
@@ -32,25 +31,6 @@ split_case c x false ps e h = lacks_onto c x ps e h
 split_lacks : (c : ℕ) (bs : List ℕ) → EachLacks c (split_at c bs)
 split_lacks c [] = (refl, tt)
 split_lacks c (x ∷ xs) = split_case c x (eqb x c) (split_at c xs) refl (split_lacks c xs)
-
--- parts are never none, so that they are those before the last, and the last
-split_some : (c : ℕ) (bs : List ℕ) → 1 ≤ length (split_at c bs)
-split_some c bs = omega (arith, length-slice_split (λ b. eqb b c) bs)
-
-parts_are : (ps : List (List ℕ)) → 1 ≤ length ps → ps ≡ front_of ps ++ last_of ps ∷ []
-parts_are [] h = absurd (omega arith)
-parts_are (x ∷ []) h = refl
-parts_are (x ∷ y ∷ ys) h = ap (λ (v : List (List ℕ)). x ∷ v) (parts_are (y ∷ ys) (omega arith))
-
-pub front_push : (ls : List (List ℕ)) (x : List ℕ) → front_of (ls ++ x ∷ []) ≡ ls
-front_push [] x = refl
-front_push (l ∷ []) x = refl
-front_push (l ∷ m ∷ ms) x = ap (λ (v : List (List ℕ)). l ∷ v) (front_push (m ∷ ms) x)
-
-pub last_push : (ls : List (List ℕ)) (x : List ℕ) → last_of (ls ++ x ∷ []) ≡ x
-last_push [] x = refl
-last_push (l ∷ []) x = refl
-last_push (l ∷ m ∷ ms) x = last_push (m ∷ ms) x
 
 each_front : (c : ℕ) (ls : List (List ℕ)) (x : List ℕ) (ms : List (List ℕ)) → EachLacks c (ls ++ x ∷ ms) → lacks c x ≡ true
 each_front c [] x ms h = h.0
@@ -195,15 +175,3 @@ reads_fails text n k (NotWhole before h never e) =
     let all : read_text text ≡ record { right = before; fault = end_fault before [] } = read_cut text (map line_of before) [] cut ∙ ap (λ (ls : Lines). ended ls []) (read_right before h) in
     let M : Lines → Type 0 = λ ls. Met ls (suc (length before)) kind.Missing in
     subst M (sym all) (record { fault = rw half refl; line = refl })
-
-pub some_parts : (c : ℕ) (text : List ℕ) → split_at c text ≡ [] → ⊥
-some_parts c text e = let n : 1 ≤ length (split_at c text) = split_some c text in let z : length (split_at c text) ≡ 0 = ap length e in absurd (omega arith)
-
--- there are hardly more parts than bytes
-pub parts_fit : (text : List ℕ) (parts : List (Bor (List ℕ))) → map (λ x. x.now) parts ≡ split_at 10 text → length parts ≤ length text + 1
-parts_fit text parts e =
-    let n : length (split_at 10 text) ≡ count_by (λ b. eqb b 10) text + 1 = length-slice_split (λ b. eqb b 10) text in
-    let m : count_by (λ b. eqb b 10) text ≤ length text = count_by-le-length (λ b. eqb b 10) text in
-    let l : length (map (λ (x : Bor (List ℕ)). x.now) parts) ≡ length parts = length-map parts (λ (x : Bor (List ℕ)). x.now) in
-    let s : length (map (λ (x : Bor (List ℕ)). x.now) parts) ≡ length (split_at 10 text) = ap length e in
-    omega arith

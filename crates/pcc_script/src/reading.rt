@@ -1,11 +1,11 @@
 //! A text is read line by line, to the scenario that it spells or to its first fault.
-ghost use Rattle.std.specs.Prelude.{◌≡◌, ◌↔◌, ◌<◌, ◌≤◌, ◌^◌, ◌-◌, ℕ, IfOk, length, map};
+ghost use Rattle.std.specs.Prelude.{◌≡◌, ◌↔◌, ◌<◌, ◌≤◌, ◌^◌, ◌-◌, ℕ, suc, None, IfOk, length};
 ghost use Rattle.pcc_bytes.specs.Fields.{split_at};
 ghost use Rattle.pcc_script.specs.Rows.{most, place};
 ghost use Rattle.pcc_script.specs.Text.{IsScenario, script_text, statements_of};
 ghost use Rattle.pcc_script.specs.Faults.{IfFault, IsReadAs, IsRefusedAt, TextWrong};
 ghost use Rattle.pcc_script.specs.Limits.{IsWithin};
-ghost use Rattle.pcc_script.specs.Reading.{count_for, ended, entry_statement, Gives, read_lines, read_statement, read_text, so_far, start, Tells};
+ghost use Rattle.pcc_script.specs.Reading.{count_for, ended, entry_statement, Gives, read_statement, read_text, so_far, Tells};
 ghost use Rattle.pcc_script.specs.declared.fault.ScriptKind.{ScriptKind};
 ghost use Rattle.pcc_script.specs.declared.scenario.Scenario.{Scenario};
 
@@ -16,7 +16,7 @@ use crate::order::Seen;
 use crate::partial::{Partial, complete};
 use crate::scenario::Scenario;
 use crate::word::word_of;
-use pcc_text::{part, split};
+use pcc_text::{cut, split};
 use std::alloc::Global;
 
 /// What the next line gives.
@@ -32,58 +32,41 @@ fn next_entry(alloc: Global, seen: &Seen, line: &[u8]) -> Result<Entry, Stop>
     entry_of(alloc, word, &fields)
 }
 
-/// What lines give, or the first that is wrong.
-#[tactic(auto, using(crate::proofs::Going::going_start, crate::proofs::Going::going_empty, crate::proofs::Going::going_more, crate::proofs::Going::going_fault, crate::proofs::Going::going_end, crate::proofs::Going::going_count))]
-fn read_all(alloc: Global, lines: &[&[u8]]) -> Result<Partial, ScriptError>
-    requires { length lines.now < 2 ^ 32 - 1 }
-    ensures told { Tells so_far result (read_lines start (map (λ line. line.now) lines.now)) }
-    ensures count { IfOk result (λ partial. length (so_far partial) ≡ length lines.now) }
+/// The scenario of what was read, with `last` behind the last line feed. The line behind the last has this number.
+fn finish(partial: Partial, last: &[u8], line: u32) -> Result<Scenario, ScriptError>
+    requires { suc (length (so_far partial)) ≡ line }
+    ensures { Tells statements_of result (ended (record { right = so_far partial; fault = None }) last.now) }
+{
+    match complete(partial, last) {
+        Ok(scenario) => Ok(scenario),
+        Err(kind) => Err(ScriptError::Fault { line, kind }),
+    }
+}
+
+/// The scenario that a text spells, or its first fault, as reading finds them.
+#[tactic(auto, using(crate::proofs::Going::going_start, crate::proofs::Going::going_empty, crate::proofs::Going::going_more, crate::proofs::Going::going_fault, crate::proofs::Going::going_count, crate::proofs::Going::going_end))]
+fn read(alloc: Global, text: &[u8]) -> Result<Scenario, ScriptError>
+    requires { length text.now < 2 ^ 32 - 1 }
+    ensures { Tells statements_of result (read_text text.now) }
 {
     let mut partial = Partial::new(alloc);
     let mut seen = Seen::start();
-    for i in 0..lines.len() {
-        match next_entry(alloc, &seen, part(lines, i)) {
+    let mut rest = text;
+    let mut line = 1u32;
+    while let Some((fields, behind)) = cut(rest, b'\n') {
+        match next_entry(alloc, &seen, fields) {
             Ok(entry) => {
                 let word = entry.word();
                 partial.put(entry)?;
                 seen = seen.after(word);
             }
-            Err(Stop::Wrong(kind)) => {
-                let line = i as u32 + 1;
-                return Err(ScriptError::Fault { line, kind });
-            }
+            Err(Stop::Wrong(kind)) => return Err(ScriptError::Fault { line, kind }),
             Err(Stop::NoMemory) => return Err(ScriptError::NoMemory),
         }
+        line += 1;
+        rest = behind;
     }
-    Ok(partial)
-}
-
-/// The scenario of these lines, with `last` behind their last line feed.
-fn finish(alloc: Global, lines: &[&[u8]], last: &[u8]) -> Result<Scenario, ScriptError>
-    requires { length lines.now < 2 ^ 32 - 1 }
-    ensures { Tells statements_of result (ended (read_lines start (map (λ line. line.now) lines.now)) last.now) }
-{
-    let partial = read_all(alloc, lines)?;
-    match complete(partial, last) {
-        Ok(scenario) => Ok(scenario),
-        Err(kind) => {
-            let line = lines.len() as u32 + 1;
-            Err(ScriptError::Fault { line, kind })
-        }
-    }
-}
-
-/// The scenario that a text spells, or its first fault, as reading finds them.
-#[tactic(auto, unfolding(crate::specs::Reading::read_text), using(crate::proofs::Script::front_push, crate::proofs::Script::last_push, std::proofs::lemmas::List::map_push, crate::proofs::Script::some_parts))]
-fn read(alloc: Global, text: &[u8]) -> Result<Scenario, ScriptError>
-    requires { length text.now < 2 ^ 32 - 1 }
-    ensures { Tells statements_of result (read_text text.now) }
-{
-    let mut parts = split(alloc, text, b'\n')?;
-    match parts.pop() {
-        Some(last) => finish(alloc, &parts, last),
-        None => unreachable!(),
-    }
+    finish(partial, rest, line)
 }
 
 /// The scenario that a text spells. A text spells at most one, and each scenario within the limits has one text.
