@@ -9,23 +9,24 @@ ghost use Rattle.pcc_text.specs.Reading.{hex_of, is_numeral, number_of};
 
 use crate::digits::{are_bytes, read_hex};
 use crate::put_hex;
+use memchr::memchr_iter;
 use pcc_io::{Bytes, NoMemory};
 use std::alloc::Global;
 use std::str;
 
+// Room for the words of most lines, so that their list seldom grows.
+const USUAL_PARTS: usize = 32;
+
 /// The parts of a text between the bytes `at`. There is one part more than such bytes.
-#[tactic(auto, using(crate::proofs::Splitting::split_start, crate::proofs::Splitting::split_more, crate::proofs::Splitting::split_cut, crate::proofs::Splitting::split_end, std::proofs::lemmas::List::map_push))]
+#[tactic(auto, using(crate::proofs::Splitting::split_start, crate::proofs::Splitting::cut_from, crate::proofs::Splitting::cut_within, crate::proofs::Splitting::split_end, std::proofs::lemmas::List::map_push))]
 pub fn split<'a>(alloc: Global, text: &'a [u8], at: u8) -> Result<Vec<&'a [u8]>, NoMemory>
     ensures { IfOk result (λ v. map (λ x. x.now) v.items ≡ split_at at text.now) }
 {
-    let mut parts = Vec::new(alloc);
+    let mut parts = Vec::with_capacity(alloc, USUAL_PARTS)?;
     let mut start = 0;
-    for (i, b) in text.iter().enumerate() {
-        if *b != at {
-            continue;
-        }
-        parts.push(&text[start..i])?;
-        start = i + 1;
+    for cut in memchr_iter(at, text) {
+        parts.push(&text[start..cut])?;
+        start = cut + 1;
     }
     parts.push(&text[start..])?;
     Ok(parts)
