@@ -2,7 +2,7 @@
 use Rattle.std.specs.Prelude.{◌==◌, ◌&&◌, ℕ, nat_lt, nat_le, Bool, false, if◌then◌else◌, List, [], ◌∷◌, length, slice_index, Option, Some, None, Result, Ok, Err, bytes_eq}
 use Rattle.std.specs.List.{list_all}
 use Rattle.std.specs.Char.{is_ascii_digit}
-use Rattle.std.specs.Str.Parse.{digits_value}
+use Rattle.std.specs.Str.Parse.{digits_value, digits_value_after}
 use Rattle.hex.specs.Hex.{decode_of}
 use Rattle.hex.specs.declared.error.FromHexError.{FromHexError}
 use Rattle.pcc_bytes.specs.Fields.{hex_text}
@@ -18,6 +18,12 @@ is_numeral field =
 unfoldable pub number_of : ℕ → List ℕ → Option ℕ
 number_of limit field =
     if is_numeral field then (if nat_le (digits_value 10 field) limit then Some (digits_value 10 field) else None)
+    else None
+
+-- the number that digits write behind those of n, if it is at most a limit
+abbrev pub number_after : ℕ → ℕ → List ℕ → Option ℕ
+number_after limit n digits =
+    if list_all is_ascii_digit digits then (if nat_le (digits_value_after 10 n digits) limit then Some (digits_value_after 10 n digits) else None)
     else None
 
 -- decoded bytes, if the field is their text

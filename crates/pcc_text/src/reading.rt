@@ -5,14 +5,13 @@ ghost use Rattle.std.specs.Char.{is_ascii_digit};
 ghost use Rattle.hex.specs.Hex.{encode_lower};
 ghost use Rattle.pcc_bytes.specs.Bytes.{IsBytes};
 ghost use Rattle.pcc_bytes.specs.Fields.{hex_text, split_at};
-ghost use Rattle.pcc_text.specs.Reading.{hex_of, is_numeral, number_of};
+ghost use Rattle.pcc_text.specs.Reading.{hex_of, number_after, number_of};
 
 use crate::digits::{are_bytes, read_hex};
 use crate::put_hex;
 use memchr::memchr_iter;
 use pcc_io::{Bytes, NoMemory};
 use std::alloc::Global;
-use std::str;
 
 // Room for the words of most lines, so that their list seldom grows.
 const USUAL_PARTS: usize = 32;
@@ -47,34 +46,33 @@ pub fn is_text(field: &[u8], text: &[u8]) -> bool
     field == text
 }
 
-fn all_digits(field: &[u8]) -> bool
-    ensures { result ≡ list_all is_ascii_digit field.now }
+// The number that digits write, if it fits in 64 bits.
+#[tactic(auto, using(crate::proofs::Numerals::more, crate::proofs::Numerals::no_digit, crate::proofs::Numerals::over, crate::proofs::Numerals::done, std::proofs::lemmas::List::drop_more))]
+fn digits_number(digits: &[u8]) -> Option<u64>
+    ensures { result ≡ number_after (2 ^ 64 - 1) 0 digits.now }
 {
-    field.iter().all(|b| b.is_ascii_digit())
-}
-
-fn is_decimal(field: &[u8]) -> bool
-    ensures { result ≡ is_numeral field.now }
-{
-    if field.is_empty() {
-        return false;
+    let mut n = 0u64;
+    for digit in digits.iter() {
+        if !digit.is_ascii_digit() {
+            return None;
+        }
+        n = n.checked_mul(10)?.checked_add(u64::from(*digit - b'0'))?;
     }
-    if field.len() > 1 && field[0] == b'0' {
-        return false;
-    }
-    all_digits(field)
+    Some(n)
 }
 
 // The number that a field spells, if it fits in 64 bits.
-#[tactic(auto, using(crate::proofs::Numerals::no_numeral, crate::proofs::Numerals::is_utf8))]
+#[tactic(auto, using(crate::proofs::Numerals::empty, crate::proofs::Numerals::leading_zero, crate::proofs::Numerals::digits_alone))]
 fn any_number(field: &[u8]) -> Option<u64>
     ensures { result ≡ number_of (2 ^ 64 - 1) field.now }
 {
-    if !is_decimal(field) {
+    if field.is_empty() {
         return None;
     }
-    let text = str::from_utf8(field).ok()?;
-    text.parse::<u64>().ok()
+    if field.len() > 1 && field[0] == b'0' {
+        return None;
+    }
+    digits_number(field)
 }
 
 /// The number that a field spells in decimal, with no leading zero, if it is at most a limit.
