@@ -1,6 +1,12 @@
-//! A whole call on a device: what a command does to the device and to its space, in one step.
+//! Both ends of a channel, one word step at a time, and a whole call on a device in one step.
 #![tactic(auto)]
 
+mod answer;
+mod ask;
 mod whole;
+mod wiring;
 
+pub use answer::{AnswerOutcome, AnswerStage};
+pub use ask::{AskOutcome, AskStage};
 pub use whole::whole_call;
+pub use wiring::{Action, Style, Wiring};

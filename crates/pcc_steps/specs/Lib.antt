@@ -1,0 +1,5 @@
+pub mod Wires
+pub mod Words
+pub mod Runs
+pub mod Asking
+pub mod Answering
