@@ -280,6 +280,7 @@ pub record AskOk (a : Ask) : Type 0 where
   pub looks : LooksLeft a.stage a.looks a.budget
   pub posts : PostsLeft a.stage a.posts
   pub kept : a.kept < 2 ^ 64
+  pub mask : a.wiring.check_mask < 2 ^ 64
   pub code : CodeFits (style_of a.wiring) a.code
 
 abbrev pub IsAskRunning : Ask → Type 0

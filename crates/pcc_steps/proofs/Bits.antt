@@ -1,0 +1,132 @@
+-- What word 0 says, and what the stores of word 0 make of it.
+use Rattle.std.proofs.Common.{◌≡◌, ◌≢◌, ℕ, ◌+◌, ◌-◌, ◌*◌, ◌/◌, ◌%◌, ◌^◌, ◌<◌, ◌≤◌, ◌==◌, Bool, true, false, not, eqb, ltb, if◌then◌else◌, refl, sym, ap, ◌∙◌, arith, ne_eqb, w64, subst}
+use Rattle.std.specs.Int.RustNames.{bit_or}
+use borrow.Author.Tests.{eqb-true}
+use lib.Bits.{bit_and}
+use mathlib.Core.Logic.{dite}
+use native.Mathlib.Decide.{dec_le}
+use Rattle.std.proofs.lemmas.Nat.Bits.{bit_at_and, bit_at_or, bit_at_not, bit_at_above, bit_at-zero, bit_at-lt, same_from_bits}
+use Rattle.std.specs.Int.{bit_at}
+use Rattle.std.proofs.lemmas.Nat.{and_or_self}
+use Rattle.pcc_steps.specs.declared.wiring.Wiring.{Wiring}
+use Rattle.pcc_steps.specs.declared.wiring.Style.{Style}
+use Rattle.pcc_steps.specs.declared.wiring.Style.TheVariants.{Headed, Joined3, Separate3, Joined4, Separate4, Reduced5}
+use Rattle.pcc_steps.specs.Wires.{flag, signature_word, header_word, status_of, with_status, bit_is_set, meets, is_set, tells_by, header_error, without, masked_by, style_by, style_of, IsRight}
+use Rattle.pcc_steps.specs.Asking.{CodeFits}
+use Rattle.pcc_steps.specs.Agree.{opened, closed, finished, Marked, ShowsBy}
+
+-- ---- the header of types 0 to 2
+
+header_clear : (s code n : ℕ) → s < 2 ^ 32 → code < 256 → n ≤ 1 → (s + 2 ^ 32 * code + 2 ^ 47 * n + 2 ^ 48 * 0) / 2 ^ 48 % 2 ≡ 0
+header_clear s code n a b d = omega arith
+
+header_done : (s code n e : ℕ) → s < 2 ^ 32 → code < 256 → n ≤ 1 → (s + 2 ^ 32 * code + 2 ^ 47 * n + 2 ^ 48 * (1 + 4 * e)) / 2 ^ 48 % 2 ≡ 1
+header_done s code n e a b d = omega arith
+
+header_failed : (s code n : ℕ) → s < 2 ^ 32 → code < 256 → n ≤ 1 → (s + 2 ^ 32 * code + 2 ^ 47 * n + 2 ^ 48 * 5) / 2 ^ 50 % 2 ≡ 1
+header_failed s code n a b d = omega arith
+
+header_good : (s code n : ℕ) → s < 2 ^ 32 → code < 256 → n ≤ 1 → (s + 2 ^ 32 * code + 2 ^ 47 * n + 2 ^ 48 * 1) / 2 ^ 50 % 2 ≡ 0
+header_good s code n a b d = omega arith
+
+header_code : (s code n : ℕ) → s < 2 ^ 32 → code < 256 → n ≤ 1 → (s + 2 ^ 32 * code + 2 ^ 47 * n + 2 ^ 48 * 0) / 2 ^ 32 % 256 ≡ code
+header_code s code n a b d = omega arith
+
+header_status : (s code n t : ℕ) → s < 2 ^ 32 → code < 256 → n ≤ 1 → (s + 2 ^ 32 * code + 2 ^ 47 * n + 2 ^ 48 * 0) % 2 ^ 48 + 2 ^ 48 * t ≡ s + 2 ^ 32 * code + 2 ^ 47 * n + 2 ^ 48 * t
+header_status s code n t a b d = omega arith
+
+one_bit : (b : Bool) → flag b ≤ 1
+one_bit true = omega arith
+one_bit false = omega arith
+
+signed : (id : ℕ) → signature_word id < 2 ^ 32
+signed id = omega arith
+
+unset : (w : Wiring) (code : ℕ) → code < 256 → bit_is_set 48 (header_word w code 0) ≡ false
+unset w code h = ap (λ (n : ℕ). eqb n 1) (header_clear (signature_word w.id) code (flag w.notify) (signed w.id) h (one_bit w.notify))
+
+set_done : (w : Wiring) (code : ℕ) (e : Bool) → code < 256 → bit_is_set 48 (header_word w code (status_of e)) ≡ true
+set_done w code true h = ap (λ (n : ℕ). eqb n 1) (header_done (signature_word w.id) code (flag w.notify) 1 (signed w.id) h (one_bit w.notify))
+set_done w code false h = ap (λ (n : ℕ). eqb n 1) (header_done (signature_word w.id) code (flag w.notify) 0 (signed w.id) h (one_bit w.notify))
+
+told_error : (w : Wiring) (code : ℕ) (e : Bool) → code < 256 → bit_is_set 50 (header_word w code (status_of e)) ≡ e
+told_error w code true h = ap (λ (n : ℕ). eqb n 1) (header_failed (signature_word w.id) code (flag w.notify) (signed w.id) h (one_bit w.notify))
+told_error w code false h = ap (λ (n : ℕ). eqb n 1) (header_good (signature_word w.id) code (flag w.notify) (signed w.id) h (one_bit w.notify))
+
+-- the code that the header carries
+pub code_seen : (w : Wiring) (code word : ℕ) → code < 256 → word ≡ header_word w code 0 → word / 2 ^ 32 % 256 ≡ code
+code_seen w code word h is = ap (λ (n : ℕ). n / 2 ^ 32 % 256) is ∙ header_code (signature_word w.id) code (flag w.notify) (signed w.id) h (one_bit w.notify)
+
+-- the header with its status
+pub status_seen : (w : Wiring) (code word : ℕ) (e : Bool) → code < 256 → word ≡ header_word w code 0 → with_status word (status_of e) ≡ header_word w code (status_of e)
+status_seen w code word e h is = ap (λ (n : ℕ). with_status n (status_of e)) is ∙ header_status (signature_word w.id) code (flag w.notify) (status_of e) (signed w.id) h (one_bit w.notify)
+
+-- ---- word 0 of each style
+
+pub closed_unset : (s : Style) (w : Wiring) (code word : ℕ) → CodeFits s code → Marked s w code closed word → is_set s w.check_mask word ≡ false
+closed_unset Headed w code word h m = ap (bit_is_set 48) m ∙ unset w code h
+closed_unset _ w code word h m = m
+
+pub finished_set : (s : Style) (w : Wiring) (code word : ℕ) (e : Bool) → CodeFits s code → Marked s w code (finished e) word → is_set s w.check_mask word ≡ true
+finished_set Headed w code word e h m = ap (bit_is_set 48) m ∙ set_done w code e h
+finished_set _ w code word e h m = m
+
+pub set_opened : (s : Style) (w : Wiring) (code word : ℕ) → is_set s w.check_mask word ≡ true → Marked s w code opened word
+set_opened Headed w code word m = m
+set_opened _ w code word m = m
+
+pub opened_set : (s : Style) (w : Wiring) (code word : ℕ) → Marked s w code opened word → is_set s w.check_mask word ≡ true
+opened_set Headed w code word m = m
+opened_set _ w code word m = m
+
+pub reopened : (s : Style) (w : Wiring) (code code' word : ℕ) → Marked s w code opened word → Marked s w code' opened word
+reopened s w code code' word m = set_opened s w code' word (opened_set s w code word m)
+
+pub finished_opened : (s : Style) (w : Wiring) (code word : ℕ) (e : Bool) → CodeFits s code → Marked s w code (finished e) word → Marked s w code opened word
+finished_opened s w code word e h m = set_opened s w code word (finished_set s w code word e h m)
+
+-- the error that word 0 tells, where no register tells it
+pub error_seen : (s : Style) (reports : Bool) (w : Wiring) (code word found register : ℕ) (e : Bool) → CodeFits s code → tells_by s reports ≡ false → found ≡ word → Marked s w code (finished e) word → ShowsBy s reports w.error_mask register e → header_error s found ≡ e
+error_seen Headed reports w code word found register e h silent same m t = ap (bit_is_set 50) (same ∙ m) ∙ told_error w code e h
+error_seen _ true w code word found register e h silent same m t = cc
+error_seen _ false w code word found register e h silent same m t = sym t
+
+-- the error that the register tells
+pub error_shown : (s : Style) (reports : Bool) (mask word : ℕ) (e : Bool) → tells_by s reports ≡ true → ShowsBy s reports mask word e → meets word mask ≡ e
+error_shown Headed reports mask word e is t = cc
+error_shown _ true mask word e is t = t
+error_shown _ false mask word e is t = cc
+
+-- ---- the check register of types 3 to 5
+
+no_bits : (word mask : ℕ) → mask < 2 ^ 64 → bit_and (bit_and word (2 ^ 64 - 1 - mask)) mask ≡ 0
+no_bits word mask small = let r : ℕ = 2 ^ 64 - 1 - mask in same_from_bits (bit_and (bit_and word r) mask) 0 (λ i. let e = bit_at_and (bit_and word r) mask i in let f = bit_at_and word r i in let z = bit_at-zero i in let h = bit_at-lt mask i in dite (dec_le 64 i)
+    (λ far. let k = bit_at_above mask 64 i small far in omega (arith, e, k, z))
+    (λ near. let k = bit_at_not w64 mask i small (omega arith) in omega (arith, e, f, k, z, h)))
+
+zero_unmet : (word mask : ℕ) → bit_and word mask ≡ 0 → meets word mask ≡ false
+zero_unmet word mask e = ap (λ (n : ℕ). not (n == 0)) e
+
+-- a word without the bits of the mask
+pub clears_mark : (s : Style) (w : Wiring) (code kept : ℕ) → s ≢ Headed → w.check_mask < 2 ^ 64 → Marked s w code closed (without w.check_mask kept)
+clears_mark Headed w code kept other small = absurd (other refl)
+clears_mark _ w code kept other small = zero_unmet (without w.check_mask kept) w.check_mask (no_bits kept w.check_mask small)
+
+-- a masked write whose masks leave no bit of the check mask
+masked_off : (kept p t mask : ℕ) → bit_and (bit_or p t) mask ≡ 0 → bit_and (bit_or (bit_and kept p) t) mask ≡ 0
+masked_off kept p t mask e = same_from_bits (bit_and (bit_or (bit_and kept p) t) mask) 0 (λ i. let a = bit_at_and (bit_or (bit_and kept p) t) mask i in let b = bit_at_or (bit_and kept p) t i in let c = bit_at_and kept p i in
+    let f = bit_at_and (bit_or p t) mask i in let g = bit_at_or p t i in let z = bit_at-zero i in let q = ap (λ (n : ℕ). bit_at n i) e in grind (arith, a, b, c, f, g, z, q, bit_at-lt))
+
+joined_by : (low three four j : Bool) → (if low then Headed else if three then (if j then Joined3 else Separate3) else if four then (if j then Joined4 else Separate4) else Reduced5) ≡ Joined3 → (three ≡ true) × (j ≡ true)
+joined_by true three four j e = (cc, cc)
+joined_by false true four true e = (refl, refl)
+joined_by false true four false e = (refl, cc)
+joined_by false false true true e = (cc, refl)
+joined_by false false true false e = (cc, cc)
+joined_by false false false j e = (cc, cc)
+
+style_joined : (kind : ℕ) (joined : Bool) → style_by kind joined ≡ Joined3 → (kind ≡ 3) × (joined ≡ true)
+style_joined kind joined e = let p = joined_by (ltb kind 3) (kind == 3) (kind == 4) joined e in (eqb-true kind 3 p.0, p.1)
+
+pub clears_update : (w : Wiring) (code kept : ℕ) → style_of w ≡ Joined3 → IsRight w → Marked Joined3 w code closed (masked_by w.update kept)
+clears_update w code kept e right = let k = style_joined w.kind w.joined e in zero_unmet (masked_by w.update kept) w.check_mask (masked_off kept w.update.preserve w.update.set w.check_mask (right.clears k.0 k.1))
