@@ -26,7 +26,7 @@ module _ (exec : Device) (start : List ℕ) where
   Keeps st = (x : Asker) (y : Answerer) (ws : List ℕ) (v : ℕ) → Agree exec start ws (at st x) y → Finds (ask_next_at st x.m) ws v → v < 2 ^ 64 → Agree exec start (act (ask_next_at st x.m) ws) (asker_fed_at st (at st x) v) y
 
   -- what a step within a run changes, and what it has to show anew
-  moves : (x : Asker) (y : Answerer) (c d : Core) (st : AskStage) (kept : ℕ) (error : Bool) (loaded : List ℕ) (looks clears : ℕ) → let m : Ask = record x.m { stage = st; kept = kept; error = error; loaded = loaded; looks = looks } in
+  pub moves : (x : Asker) (y : Answerer) (c d : Core) (st : AskStage) (kept : ℕ) (error : Bool) (loaded : List ℕ) (looks clears : ℕ) → let m : Ask = record x.m { stage = st; kept = kept; error = error; loaded = loaded; looks = looks } in
       Agreed exec start x y c → AskOk m → d.irq < 2 → Fits (pose m) (turn y.m) (record { m = m; done = x.done; clears = clears }) y d → Agreed exec start (record { m = m; done = x.done; clears = clears }) y d
   moves x y c d st kept error loaded looks clears g ok low fits = record {
     ask_ok = ok;
@@ -45,7 +45,7 @@ module _ (exec : Device) (start : List ℕ) where
   }
 
   -- the machine's own facts, at another stage of its run
-  steps_on : (a : Ask) (st : AskStage) (kept : ℕ) → AskOk a → kept < 2 ^ 64 → AskPlace st a.wiring → Flies st a.in_flight → LooksLeft st a.looks a.budget → PostsLeft st a.posts → AskOk (record a { stage = st; kept = kept })
+  pub steps_on : (a : Ask) (st : AskStage) (kept : ℕ) → AskOk a → kept < 2 ^ 64 → AskPlace st a.wiring → Flies st a.in_flight → LooksLeft st a.looks a.budget → PostsLeft st a.posts → AskOk (record a { stage = st; kept = kept })
   steps_on a st kept ok small place flies looks posts = record { wired = ok.wired; sized = ok.sized; place = place; flies = flies; looks = looks; posts = posts; kept = small; mask = ok.mask; code = ok.code }
 
   -- ---- posting
@@ -79,7 +79,7 @@ module _ (exec : Device) (start : List ℕ) where
           (subst (λ (q : Pose). Fits q (turn y.m) (record x { m = a }) y d) (sym (pose_after s a refl))
               (g.fits.0, record { completion = fits.completion; line = fits.line; block = ap (λ (l : List ℕ). set l j (get_or x.m.sent j 0)) fits.block ∙ (mix_more j x.m.sent x.m.shown (omega arith) (omega arith) ∙ ap (λ (k : ℕ). mix k x.m.sent x.m.shown) all); done = fits.done }))
 
-  stores_block : (j : ℕ) → Keeps (PostBlock j)
+  pub stores_block : (j : ℕ) → Keeps (PostBlock j)
   stores_block j x y ws v g f small = let c = g.0 in let o = g.1.0 in let s : ℕ = get_or x.m.sent j 0 in (
     record c { block = set c.block j s },
     (o, ap (λ (l : List ℕ). set l (8 + j) s) g.1.1 ∙ set_block c o j s, stored (has_more j x.m.wiring) j x y c refl g.1.2),
@@ -89,7 +89,7 @@ module _ (exec : Device) (start : List ℕ) where
   written : (x : Asker) (y : Answerer) (c : Core) (st : AskStage) → AskOk (record x.m { stage = st }) → c.block ≡ mix (block_of x.m.wiring) x.m.sent x.m.shown → c.block ≡ x.m.sent
   written x y c st ok e = e ∙ mix_all (block_of x.m.wiring) x.m.sent x.m.shown ok.sized.sent ok.sized.shown
 
-  stores_header : Keeps PostHeader
+  pub stores_header : Keeps PostHeader
   stores_header x y ws v g f small = let c = g.0 in let h = g.1.2 in let ok = h.ask_ok in let fits = h.fits.1 in let w = x.m.wiring in let z : ℕ = header_word w x.m.code 0 in let d : Core = record c { completion = z } in let headed : style_of w ≡ Headed = ok.place in (
     d,
     (
@@ -101,11 +101,11 @@ module _ (exec : Device) (start : List ℕ) where
     ),
   )
 
-  loads_update : Keeps PostUpdateLoad
+  pub loads_update : Keeps PostUpdateLoad
   loads_update x y ws v g f small = let c = g.0 in let h = g.1.2 in let ok = h.ask_ok in
       (c, (g.1.0, g.1.1, moves (at PostUpdateLoad x) y c c PostUpdateStore v x.m.error x.m.loaded x.m.looks x.clears h (steps_on (at PostUpdateLoad x).m PostUpdateStore v ok small ok.place ok.flies ok.looks ok.posts) h.irq h.fits))
 
-  loads_mark : Keeps PostMarkLoad
+  pub loads_mark : Keeps PostMarkLoad
   loads_mark x y ws v g f small = let c = g.0 in let h = g.1.2 in let ok = h.ask_ok in
       (c, (g.1.0, g.1.1, moves (at PostMarkLoad x) y c c PostMarkStore v x.m.error x.m.loaded x.m.looks x.clears h (steps_on (at PostMarkLoad x).m PostMarkStore v ok small ok.place ok.flies ok.looks ok.posts) h.irq h.fits))
 
@@ -114,7 +114,7 @@ module _ (exec : Device) (start : List ℕ) where
   bell_still Reduced5 n t x y c st kept f = f
   bell_still _ n t x y c st kept f = f
 
-  loads_bell : Keeps PostBellLoad
+  pub loads_bell : Keeps PostBellLoad
   loads_bell x y ws v g f small = let c = g.0 in let h = g.1.2 in let ok = h.ask_ok in
       (c, (g.1.0, g.1.1, moves (at PostBellLoad x) y c c PostBellStore v x.m.error x.m.loaded x.m.looks x.clears h (steps_on (at PostBellLoad x).m PostBellStore v ok small tt ok.flies ok.looks ok.posts) h.irq (bell_still (style_of x.m.wiring) (block_of x.m.wiring) (turn y.m) (at PostBellLoad x) y c PostBellStore v h.fits)))
 
@@ -130,7 +130,7 @@ module _ (exec : Device) (start : List ℕ) where
   bell_ok Reduced5 a e ok = steps_on (record a { stage = PostBellStore }) PostMarkLoad a.kept ok ok.kept (subst AskClears (sym e) tt) ok.flies ok.looks ok.posts
   bell_ok _ a e ok = steps_on (record a { stage = PostBellStore }) PostLine a.kept ok ok.kept tt ok.flies ok.looks ok.posts
 
-  stores_bell : Keeps PostBellStore
+  pub stores_bell : Keeps PostBellStore
   stores_bell x y ws v g f small = let c = g.0 in let o = g.1.0 in let h = g.1.2 in let ok = h.ask_ok in let z : ℕ = masked_by x.m.wiring.bell x.m.kept in let s : Style = style_of x.m.wiring in (
     c,
     (
@@ -167,7 +167,7 @@ module _ (exec : Device) (start : List ℕ) where
   updated Separate4 x y ws e u g = absurd u
   updated Reduced5 x y ws e u g = absurd u
 
-  stores_update : Keeps PostUpdateStore
+  pub stores_update : Keeps PostUpdateStore
   stores_update x y ws v g f small = updated (style_of x.m.wiring) x y ws refl g.1.2.ask_ok.place g
 
   not_headed : (s : Style) → AskClears s → s ≢ Headed
@@ -190,7 +190,7 @@ module _ (exec : Device) (start : List ℕ) where
   mark_ok Separate3 a ok = steps_on (record a { stage = PostMarkStore }) PostBellLoad a.kept ok ok.kept tt ok.flies ok.looks ok.posts
   mark_ok _ a ok = steps_on (record a { stage = PostMarkStore }) PostLine a.kept ok ok.kept tt ok.flies ok.looks ok.posts
 
-  stores_mark : Keeps PostMarkStore
+  pub stores_mark : Keeps PostMarkStore
   stores_mark x y ws v g f small = let c = g.0 in let h = g.1.2 in let ok = h.ask_ok in let fits = h.fits.1 in let w = x.m.wiring in let s : Style = style_of w in let z : ℕ = without w.check_mask x.m.kept in let d : Core = record c { completion = z } in (
     d,
     (
@@ -201,7 +201,7 @@ module _ (exec : Device) (start : List ℕ) where
     ),
   )
 
-  raises_bell : Keeps PostLine
+  pub raises_bell : Keeps PostLine
   raises_bell x y ws v g f small = let c = g.0 in let o = g.1.0 in let h = g.1.2 in let ok = h.ask_ok in let fits = h.fits.1 in let d : Core = record c { line = 1 } in
       let below : x.m.posts < 4096 = ok.posts in let none : x.m.in_flight ≡ false = ok.flies in let count : x.m.posts ≡ length x.done + 0 = h.posts ∙ ap (λ (b : Bool). length x.done + flying b) none in (
         d,
