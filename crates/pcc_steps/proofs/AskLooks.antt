@@ -15,7 +15,7 @@ use Rattle.pcc_steps.specs.Asking.{Ask, AskOk, AskPlace, Flies, LooksLeft, Posts
 use Rattle.pcc_steps.specs.Agree.{Core, Others, listed, act, Finds, Asker, Answerer, done_after, clears_after, Pose, reading, resting, pose_at, pose, Turn, quiet, taken, replying, turn, closed, finished, Marked, Row, Flight, flight, answered, reply_block, ShowsBy, IsDone, Waits, Knows, IsReading, Fits, Spells, flying, Agreed, Agree}
 use Rattle.pcc_steps.proofs.Lists.{take_all, loads, get_block}
 use Rattle.pcc_steps.proofs.Bits.{closed_unset, finished_opened, error_seen, error_shown}
-use Rattle.pcc_steps.proofs.Spaces.{block_long, behind_front, space_again}
+use Rattle.pcc_steps.proofs.Spaces.{block_long, behind_front, space_again, some_words}
 use Rattle.pcc_steps.proofs.AskKeeps.{at, Keeps, moves, steps_on, stores_block, stores_header, loads_update, stores_update, loads_mark, stores_mark, loads_bell, stores_bell, raises_bell}
 
 -- the drained command joins the history
@@ -42,9 +42,6 @@ module _ (exec : Device) (start : List ℕ) where
   knows_look : (b : Bool) (e e' : Bool) → (b ≡ false → e' ≡ e) → Knows (after_look b) e e'
   knows_look true e e' h = tt
   knows_look false e e' h = h refl
-
-  pub some_words : (k room : ℕ) → 8 ≤ room → 0 < k + room / 8
-  some_words k room h = omega arith
 
   looked_at : (b : Bool) (v : ℕ) (x : Asker) (y : Answerer) (c : Core) → sees_done x.m.wiring v ≡ b → v ≡ c.completion → Agreed exec start (at LookWord x) y c
       → Agreed exec start (record { m = look_on b v (at LookWord x).m; done = done_after (look_told b) x.done (look_on b v (at LookWord x).m); clears = clears_after (look_told b) x.clears }) y c

@@ -1,7 +1,7 @@
 -- What word 0 says, and what the stores of word 0 make of it.
-use Rattle.std.proofs.Common.{◌≡◌, ◌≢◌, ℕ, ◌+◌, ◌-◌, ◌*◌, ◌/◌, ◌%◌, ◌^◌, ◌<◌, ◌≤◌, ◌==◌, Bool, true, false, not, eqb, ltb, if◌then◌else◌, refl, sym, ap, ◌∙◌, arith, ne_eqb, w64, subst}
+use Rattle.std.proofs.Common.{List, ◌≡◌, ◌≢◌, ℕ, ◌+◌, ◌-◌, ◌*◌, ◌/◌, ◌%◌, ◌^◌, ◌<◌, ◌≤◌, ◌==◌, Bool, true, false, not, eqb, ltb, if◌then◌else◌, refl, sym, ap, ◌∙◌, arith, ne_eqb, w64, subst}
 use Rattle.std.specs.Int.RustNames.{bit_or}
-use borrow.Author.Tests.{eqb-true}
+use borrow.Author.Tests.{eqb-true, ltb-true, ltb-false}
 use lib.Bits.{bit_and}
 use mathlib.Core.Logic.{dite}
 use native.Mathlib.Decide.{dec_le}
@@ -11,9 +11,13 @@ use Rattle.std.proofs.lemmas.Nat.{and_or_self}
 use Rattle.pcc_steps.specs.declared.wiring.Wiring.{Wiring}
 use Rattle.pcc_steps.specs.declared.wiring.Style.{Style}
 use Rattle.pcc_steps.specs.declared.wiring.Style.TheVariants.{Headed, Joined3, Separate3, Joined4, Separate4, Reduced5}
-use Rattle.pcc_steps.specs.Wires.{flag, signature_word, header_word, status_of, with_status, bit_is_set, meets, is_set, tells_by, header_error, without, masked_by, style_by, style_of, IsRight}
+use Rattle.pcc_steps.specs.Wires.{flag, signature_word, header_word, status_of, with_status, bit_is_set, meets, is_set, tells_by, header_error, without, masked_by, style_by, style_of, IsRight, code_by}
+use Rattle.pcc_steps.specs.Runs.{error_word}
+use Rattle.pcc_history.specs.Channel.{both}
+use Rattle.std.specs.Int.Bits.{and_self}
+use Rattle.pcc_steps.specs.declared.answer.AnswerStage.TheVariants.{TakeBlock}
 use Rattle.pcc_steps.specs.Asking.{CodeFits}
-use Rattle.pcc_steps.specs.Agree.{opened, closed, finished, Marked, ShowsBy}
+use Rattle.pcc_steps.specs.Agree.{opened, closed, finished, Marked, ShowsBy, HasHeader, Carries}
 
 -- ---- the header of types 0 to 2
 
@@ -130,3 +134,86 @@ style_joined kind joined e = let p = joined_by (ltb kind 3) (kind == 3) (kind ==
 
 pub clears_update : (w : Wiring) (code kept : ℕ) → style_of w ≡ Joined3 → IsRight w → Marked Joined3 w code closed (masked_by w.update kept)
 clears_update w code kept e right = let k = style_joined w.kind w.joined e in zero_unmet (masked_by w.update kept) w.check_mask (masked_off kept w.update.preserve w.update.set w.check_mask (right.clears k.0 k.1))
+
+-- ---- what the answering side stores
+
+headed_by : (low three four j : Bool) → (if low then Headed else if three then (if j then Joined3 else Separate3) else if four then (if j then Joined4 else Separate4) else Reduced5) ≡ Headed → low ≡ true
+headed_by true three four j e = refl
+headed_by false true four true e = cc
+headed_by false true four false e = cc
+headed_by false false true true e = cc
+headed_by false false true false e = cc
+headed_by false false false j e = cc
+
+unheaded_by : (low three four j : Bool) → (if low then Headed else if three then (if j then Joined3 else Separate3) else if four then (if j then Joined4 else Separate4) else Reduced5) ≢ Headed → low ≡ false
+unheaded_by true three four j other = absurd (other refl)
+unheaded_by false three four j other = refl
+
+joined4_by : (low three four j : Bool) → (if low then Headed else if three then (if j then Joined3 else Separate3) else if four then (if j then Joined4 else Separate4) else Reduced5) ≡ Joined4 → (four ≡ true) × (j ≡ true)
+joined4_by true three four j e = (cc, cc)
+joined4_by false true four true e = (cc, refl)
+joined4_by false true four false e = (cc, cc)
+joined4_by false false true true e = (refl, refl)
+joined4_by false false true false e = (refl, cc)
+joined4_by false false false j e = (cc, cc)
+
+low_kind : (w : Wiring) → style_of w ≡ Headed → w.kind ≤ 2
+low_kind w e = let h = ltb-true w.kind 3 (headed_by (ltb w.kind 3) (w.kind == 3) (w.kind == 4) w.joined e) in omega arith
+
+high_kind : (w : Wiring) → style_of w ≢ Headed → 3 ≤ w.kind
+high_kind w other = ltb-false w.kind 3 (unheaded_by (ltb w.kind 3) (w.kind == 3) (w.kind == 4) w.joined other)
+
+pub reports_headed : (w : Wiring) → style_of w ≡ Headed → IsRight w → w.reports ≡ true
+reports_headed w e right = right.reports (low_kind w e)
+
+-- the bits of the mask are in the word
+all_bits : (word mask : ℕ) → mask ≢ 0 → bit_and (bit_or word mask) mask ≢ 0
+all_bits word mask some z = let e = and_or_self mask word in some (omega arith)
+
+pub sets_mark : (s : Style) (w : Wiring) (code kept : ℕ) (e : Bool) → s ≢ Headed → style_of w ≡ s → IsRight w → Marked s w code (finished e) (bit_or kept w.check_mask)
+sets_mark Headed w code kept e other is right = absurd (other refl)
+sets_mark s w code kept e other is right = ap not (ne_eqb (bit_and (bit_or kept w.check_mask) w.check_mask) 0 (all_bits kept w.check_mask (right.check (high_kind w (λ headed. other (sym is ∙ headed))))))
+
+-- a bit that is set by the masks is in the word
+masked_on : (kept p t mask : ℕ) → bit_and (bit_or (bit_and kept p) t) mask ≡ 0 → bit_and t mask ≡ 0
+masked_on kept p t mask e = same_from_bits (bit_and t mask) 0 (λ i. let a = bit_at_and (bit_or (bit_and kept p) t) mask i in let b = bit_at_or (bit_and kept p) t i in
+    let f = bit_at_and t mask i in let z = bit_at-zero i in let q = ap (λ (n : ℕ). bit_at n i) e in grind (arith, a, b, f, z, q, bit_at-lt))
+
+pub sets_update : (w : Wiring) (code kept : ℕ) (e : Bool) → style_of w ≡ Joined4 → IsRight w → Marked Joined4 w code (finished e) (masked_by w.update kept)
+sets_update w code kept e is right = let p = joined4_by (ltb w.kind 3) (w.kind == 3) (w.kind == 4) w.joined is in let some = right.sets (eqb-true w.kind 4 p.0) p.1 in
+    ap not (ne_eqb (bit_and (masked_by w.update kept) w.check_mask) 0 (λ z. some (masked_on kept w.update.preserve w.update.set w.check_mask z)))
+
+-- the error register, once it is stored
+none_and : (mask : ℕ) → bit_and 0 mask ≡ 0
+none_and mask = same_from_bits (bit_and 0 mask) 0 (λ i. let a = bit_at_and 0 mask i in let z = bit_at-zero i in grind (arith, a, z))
+
+error_stored : (w : Wiring) (bad : Bool) → w.error_mask ≢ 0 → meets (error_word w bad) w.error_mask ≡ bad
+error_stored w true some = ap not (ne_eqb (bit_and w.error_mask w.error_mask) 0 (λ z. some (sym (and_self w.error_mask) ∙ z)))
+error_stored w false some = ap (λ (n : ℕ). not (n == 0)) (none_and w.error_mask)
+
+shows_by : (s : Style) (r : Bool) (w : Wiring) (bad : Bool) → tells_by s r ≡ true → (s ≢ Headed → r ≡ true → w.error_mask ≢ 0) → ShowsBy s r w.error_mask (error_word w bad) (both r bad)
+shows_by Headed r w bad is some = tt
+shows_by Joined3 true w bad is some = error_stored w bad (some (λ e. cc) refl)
+shows_by Separate3 true w bad is some = error_stored w bad (some (λ e. cc) refl)
+shows_by Joined4 true w bad is some = error_stored w bad (some (λ e. cc) refl)
+shows_by Separate4 true w bad is some = error_stored w bad (some (λ e. cc) refl)
+shows_by Reduced5 true w bad is some = error_stored w bad (some (λ e. cc) refl)
+shows_by s false w bad is some = cc
+
+pub shows_stored : (w : Wiring) (bad : Bool) → tells_by (style_of w) w.reports ≡ true → IsRight w → ShowsBy (style_of w) w.reports w.error_mask (error_word w bad) (both w.reports bad)
+shows_stored w bad is right = shows_by (style_of w) w.reports w bad is (λ other told. right.error (high_kind w other) told)
+
+-- where no register tells errors, none has to show one
+pub shows_none : (s : Style) (r : Bool) (mask word : ℕ) (bad : Bool) → tells_by s r ≡ false → ShowsBy s r mask word (both r bad)
+shows_none Headed r mask word bad is = tt
+shows_none _ true mask word bad is = cc
+shows_none _ false mask word bad is = refl
+
+-- the code that the answering side finds
+pub code_known : (s : Style) (w : Wiring) (code header : ℕ) (sent : List ℕ) → CodeFits s code → HasHeader (TakeBlock 0) s w code header → Carries s code sent → code_by s header sent ≡ code
+code_known Headed w code header sent fits has carries = code_seen w code header fits has
+code_known Joined3 w code header sent fits has carries = carries
+code_known Separate3 w code header sent fits has carries = carries
+code_known Joined4 w code header sent fits has carries = carries
+code_known Separate4 w code header sent fits has carries = carries
+code_known Reduced5 w code header sent fits has carries = carries

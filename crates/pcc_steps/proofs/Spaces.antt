@@ -1,6 +1,6 @@
 -- Blocks, and the spaces that their words spell.
 use Rattle.std.proofs.Common.{◌≡◌, ℕ, ◌+◌, ◌*◌, ◌/◌, ◌%◌, ◌<◌, ◌≤◌, List, ◌++◌, length, take, drop, refl, sym, ap, ◌∙◌, subst, arith, length-take, length-drop}
-use Rattle.std.proofs.lemmas.List.{length-append}
+use Rattle.std.proofs.lemmas.List.{length-append, take-append-drop}
 use Rattle.std.proofs.Math.Seq.{drop-append_seam, take-append_seam}
 use Rattle.pcc_bytes.specs.Bytes.{IsBytes}
 use Rattle.pcc_steps.specs.Words.{words_of, bytes_of}
@@ -31,3 +31,13 @@ block_long k room sent output e f = let l = length-append (take k sent) (words_o
 -- the space that such a block spells
 pub space_again : (k room : ℕ) (sent output : List ℕ) → length sent ≡ k + room / 8 → length output ≡ room → room % 8 ≡ 0 → IsBytes output → bytes_of (drop k (take k sent ++ words_of output)) ≡ output
 space_again k room sent output e f whole h = ap bytes_of (behind_front k sent (words_of output) (omega arith)) ∙ bytes_again output h (ap (λ (n : ℕ). n % 8) f ∙ whole)
+
+pub some_words : (k room : ℕ) → 8 ≤ room → 0 < k + room / 8
+some_words k room h = omega arith
+
+-- the first words of a mix, where the new list begins as the old one
+pub mix_front : (k : ℕ) (sent ws : List ℕ) → k ≤ length sent → take k (take k sent ++ ws) ++ drop k sent ≡ sent
+mix_front k sent ws h = ap (λ (l : List ℕ). l ++ drop k sent) (same_front k sent ws h) ∙ take-append-drop k sent
+
+pub behind_heads : (k room : ℕ) → 8 ≤ room → k < k + room / 8
+behind_heads k room h = omega arith

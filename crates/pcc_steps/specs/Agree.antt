@@ -315,10 +315,15 @@ Carries Headed code block = Unit {0}
 Carries Reduced5 code block = get_or block 0 0 / 2 ^ 32 ≡ code
 Carries _ code block = get_or block 1 0 / 2 ^ 32 ≡ code
 
+-- a communication space: so many bytes
+pub record IsSpace (room : ℕ) (bytes : List ℕ) : Type 0 where
+  pub long : length bytes ≡ room
+  pub fits : IsBytes bytes
+
 -- every space of the history has the room
 abbrev pub HasRoom : ℕ → List Exchange → Type 0
 HasRoom room [] = Unit {0}
-HasRoom room (e ∷ es) = (length e.input ≡ room) × (length e.output ≡ room) × HasRoom room es
+HasRoom room (e ∷ es) = IsSpace room e.input × IsSpace room e.output × HasRoom room es
 
 abbrev pub flying : Bool → ℕ
 flying true = 1
