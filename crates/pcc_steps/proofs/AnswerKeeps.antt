@@ -12,8 +12,9 @@ use Rattle.pcc_steps.specs.declared.wiring.Style.{Style}
 use Rattle.pcc_steps.specs.declared.wiring.Style.TheVariants.{Headed, Joined3, Separate3, Joined4, Separate4, Reduced5}
 use Rattle.pcc_steps.specs.declared.answer.AnswerStage.{AnswerStage}
 use Rattle.pcc_steps.specs.declared.answer.AnswerStage.TheVariants.{AnswerRest, TakeLine, TakeAckLoad, TakeAckStore, TakeHeader, TakeBlock, RunDevice, ReplyBlock, ReplyError, ReplyHeader, ReplyUpdateLoad, ReplyUpdateStore, ReplyMarkLoad, ReplyMarkStore, CloseBellLoad, CloseBellStore, CloseLine}
-use Rattle.pcc_steps.specs.Words.{words_of, bytes_of}
-use Rattle.pcc_steps.specs.Wires.{style_of, heads_of, block_of, status_of, with_status, tells_by, tells_error, code_by, four_by, masked_by, update_place}
+use Rattle.shmem_header.specs.Bits.{with_status}
+use Rattle.shmem_header.specs.Spelling.{words_of, bytes_of}
+use Rattle.pcc_steps.specs.Wires.{style_of, heads_of, block_of, status_of, tells_by, tells_error, code_by, four_by, masked_by, update_place}
 use Rattle.pcc_steps.specs.Runs.{error_word}
 use Rattle.pcc_steps.specs.Asking.{has_more}
 use Rattle.pcc_steps.specs.Answering.{Answer, AnswerOk, AnswerSized, AnswerPlace, AnswerUpdates, AnswerSets, answer_next_at, answer_fed_at, take_on, load_on, reply_on, after_ack, after_take, after_error, after_reply, after_close, after_done, asks_notify, done_stage, after_update, ran_with}
@@ -212,7 +213,7 @@ module _ (exec : Device) (is_state : List ℕ → Type 0) (room : ℕ) (law : (d
       let long : length x.m.sent ≡ block_of w = g.ask_ok.sized.sent in let front : k ≤ length x.m.sent = omega arith in
       let is_input : input ≡ x.m.input = ap (λ (l : List ℕ). bytes_of (drop k l)) whole ∙ (ap bytes_of g.sent.words ∙ bytes_again x.m.input g.sent.fits (ap (λ (n : ℕ). n % 8) g.ask_ok.sized.input ∙ g.ask_ok.wired.whole)) in
       let has = header_on s w j 0 x.m.code y.m.header t.header in
-      let is_code : code ≡ x.m.code = ap (λ (l : List ℕ). code_by s y.m.header l) whole ∙ code_known s w x.m.code y.m.header x.m.sent g.ask_ok.code has g.carries in
+      let is_code : code ≡ x.m.code = ap (λ (l : List ℕ). code_by s y.m.header l) whole ∙ code_known s w x.m.code y.m.header x.m.sent g.ask_ok.id g.ask_ok.code has g.carries in
       let space : IsSpace room input = subst (IsSpace room) (sym is_input) (record { long = g.ask_ok.sized.input ∙ same; fits = g.sent.fits }) in
       let here : is_state y.device = subst is_state (sym g.device) (state_kept exec is_state room law start y.done sound (subst (λ (n : ℕ). HasRoom n y.done) same g.room)) in
       let kept = law y.device code input here space in

@@ -12,8 +12,9 @@ use Rattle.pcc_steps.specs.declared.wiring.Style.{Style}
 use Rattle.pcc_steps.specs.declared.wiring.Style.TheVariants.{Headed, Joined3, Separate3, Joined4, Separate4, Reduced5}
 use Rattle.pcc_steps.specs.declared.answer.AnswerStage.{AnswerStage}
 use Rattle.pcc_steps.specs.declared.answer.AnswerStage.TheVariants.{AnswerRest, TakeLine, TakeAckLoad, TakeAckStore, TakeHeader, TakeBlock, RunDevice, ReplyBlock, ReplyError, ReplyHeader, ReplyUpdateLoad, ReplyUpdateStore, ReplyMarkLoad, ReplyMarkStore, CloseBellLoad, CloseBellStore, CloseLine}
-use Rattle.pcc_steps.specs.Words.{words_of, bytes_of}
-use Rattle.pcc_steps.specs.Wires.{style_of, heads_of, block_of, status_of, with_status, tells_by, tells_error, code_by, four_by, masked_by, update_place}
+use Rattle.shmem_header.specs.Bits.{with_status}
+use Rattle.shmem_header.specs.Spelling.{words_of, bytes_of}
+use Rattle.pcc_steps.specs.Wires.{style_of, heads_of, block_of, status_of, tells_by, tells_error, code_by, four_by, masked_by, update_place}
 use Rattle.pcc_steps.specs.Runs.{error_word}
 use Rattle.pcc_steps.specs.Asking.{has_more, CodeFits}
 use Rattle.pcc_steps.specs.Answering.{Answer, AnswerOk, AnswerSized, AnswerPlace, AnswerUpdates, AnswerSets, answer_next_at, answer_fed_at, take_on, load_on, reply_on, after_ack, after_take, after_error, after_reply, after_close, after_done, asks_notify, done_stage, after_update, ran_with}
@@ -177,14 +178,14 @@ module _ (exec : Device) (is_state : List ℕ → Type 0) (room : ℕ) (law : (d
   all_told true bad e = refl
   all_told false bad e = cc
 
-  header_sent : (s : Style) (w : Wiring) (code header : ℕ) (bad : Bool) → s ≡ Headed → CodeFits s code → HasHeader (TakeBlock 0) s w code header → Marked s w code (finished bad) (with_status header (status_of bad))
-  header_sent Headed w code header bad e fits h = status_seen w code header bad fits h
-  header_sent _ w code header bad e fits h = cc
+  header_sent : (s : Style) (w : Wiring) (code header : ℕ) (bad : Bool) → s ≡ Headed → w.id < 2 ^ 8 → CodeFits s code → HasHeader (TakeBlock 0) s w code header → Marked s w code (finished bad) (with_status header (status_of bad))
+  header_sent Headed w code header bad e id fits h = status_seen w code header bad id fits h
+  header_sent _ w code header bad e id fits h = cc
 
   stores_status : (x : Asker) (y : Answerer) → KeepsAt exec is_state room law start sound ReplyHeader x y
   stores_status x y ws v same g f small = let c = g.0 in let h = g.1.2 in let ok = h.answer_ok in let w = x.m.wiring in let t = while_replying exec is_state room law start sound (pose x.m) (block_of w) x (at ReplyHeader x y) c h.fits in let z : ℕ = with_status y.m.header (status_of y.m.bad) in
       let e : both w.reports y.m.bad ≡ y.m.bad = all_told w.reports y.m.bad (reports_headed w ok.place h.ask_ok.wired) in
-      let mark = subst (λ (e : Bool). Marked (style_of w) w x.m.code (finished e) z) (sym e) (header_sent (style_of w) w x.m.code y.m.header y.m.bad ok.place h.ask_ok.code t.1.header) in
+      let mark = subst (λ (e : Bool). Marked (style_of w) w x.m.code (finished e) z) (sym e) (header_sent (style_of w) w x.m.code y.m.header y.m.bad ok.place h.ask_ok.id h.ask_ok.code t.1.header) in
       (record c { completion = z }, (g.1.0, ap (λ (l : List ℕ). set l 0 z) g.1.1, completes ReplyHeader z x y c h t.0 t.1 t.1.told mark))
 
   loads_update : (x : Asker) (y : Answerer) → KeepsAt exec is_state room law start sound ReplyUpdateLoad x y

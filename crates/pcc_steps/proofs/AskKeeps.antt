@@ -9,8 +9,8 @@ use Rattle.pcc_steps.specs.declared.wiring.Style.{Style}
 use Rattle.pcc_steps.specs.declared.wiring.Style.TheVariants.{Headed, Joined3, Separate3, Joined4, Separate4, Reduced5}
 use Rattle.pcc_steps.specs.declared.ask.AskStage.{AskStage}
 use Rattle.pcc_steps.specs.declared.ask.AskStage.TheVariants.{AskRest, PostBlock, PostHeader, PostUpdateLoad, PostUpdateStore, PostMarkLoad, PostMarkStore, PostBellLoad, PostBellStore, PostLine, LookWord, LookError, LookBlock, LookLine, LookLineStore, LookAckLoad, LookAckStore}
-use Rattle.pcc_steps.specs.Words.{words_of, bytes_of}
-use Rattle.pcc_steps.specs.Wires.{style_of, heads_of, block_of, header_word, meets, is_set, sees_done, tells_by, tells_error, header_error, acknowledges, masked_by, without, update_place}
+use Rattle.shmem_header.specs.Spelling.{words_of, bytes_of}
+use Rattle.pcc_steps.specs.Wires.{style_of, heads_of, block_of, sent_header, sees_done, tells_by, tells_error, header_error, acknowledges, masked_by, without, update_place}
 use Rattle.pcc_steps.specs.Asking.{Ask, AskOk, AskSized, AskPlace, AskUpdates, AskClears, Flies, LooksLeft, PostsLeft, CodeFits, has_more, ask_next_at, ask_fed_at, store_on, look_on, after_block, after_update, after_mark, after_bell, after_look}
 use Rattle.pcc_steps.specs.Agree.{Core, Others, listed, act, Finds, mix, Asker, Answerer, asker_fed_at, Pose, free, writing, cleared, waiting, reading, resting, bell_pose, pose_at, pose, Turn, quiet, taken, replying, turn, opened, closed, finished, Marked, Row, Flight, flight, answered, reply_block, ShowsBy, IsDone, Waits, IsReading, Fits, Spells, flying, Agreed, Agree}
 use Rattle.pcc_steps.proofs.Lists.{mix_more, mix_all, take_all, loads, set_block, get_block}
@@ -46,7 +46,7 @@ module _ (exec : Device) (start : List ℕ) where
 
   -- the machine's own facts, at another stage of its run
   pub steps_on : (a : Ask) (st : AskStage) (kept : ℕ) → AskOk a → kept < 2 ^ 64 → AskPlace st a.wiring → Flies st a.in_flight → LooksLeft st a.looks a.budget → PostsLeft st a.posts → AskOk (record a { stage = st; kept = kept })
-  steps_on a st kept ok small place flies looks posts = record { wired = ok.wired; sized = ok.sized; place = place; flies = flies; looks = looks; posts = posts; kept = small; mask = ok.mask; code = ok.code }
+  steps_on a st kept ok small place flies looks posts = record { wired = ok.wired; sized = ok.sized; place = place; flies = flies; looks = looks; posts = posts; kept = small; mask = ok.mask; id = ok.id; code = ok.code }
 
   -- ---- posting
 
@@ -75,7 +75,7 @@ module _ (exec : Device) (start : List ℕ) where
           (g.fits.0, record { completion = fits.completion; line = fits.line; block = ap (λ (l : List ℕ). set l j (get_or x.m.sent j 0)) fits.block ∙ mix_more j x.m.sent x.m.shown (omega arith) (omega arith); done = fits.done })
   stored false j x y c more g = let ok = g.ask_ok in let n : ℕ = block_of x.m.wiring in let fits = g.fits.1 in let long : length x.m.sent ≡ n = ok.sized.sent in let long' : length x.m.shown ≡ n = ok.sized.shown in let here : j < n = ok.place in
       let last : n ≤ j + 1 = ltb-false (j + 1) n more in let all : j + 1 ≡ n = omega arith in let s : Style = style_of x.m.wiring in let a : Ask = record x.m { stage = after_block s } in let d : Core = record c { block = set c.block j (get_or x.m.sent j 0) } in
-      moves (at (PostBlock j) x) y c d (after_block s) x.m.kept x.m.error x.m.loaded x.m.looks x.clears g (block_ok s x.m refl (record { wired = ok.wired; sized = ok.sized; place = omega arith; flies = ok.flies; looks = ok.looks; posts = ok.posts; kept = ok.kept; mask = ok.mask; code = ok.code })) g.irq
+      moves (at (PostBlock j) x) y c d (after_block s) x.m.kept x.m.error x.m.loaded x.m.looks x.clears g (block_ok s x.m refl (record { wired = ok.wired; sized = ok.sized; place = omega arith; flies = ok.flies; looks = ok.looks; posts = ok.posts; kept = ok.kept; mask = ok.mask; id = ok.id; code = ok.code })) g.irq
           (subst (λ (q : Pose). Fits q (turn y.m) (record x { m = a }) y d) (sym (pose_after s a refl))
               (g.fits.0, record { completion = fits.completion; line = fits.line; block = ap (λ (l : List ℕ). set l j (get_or x.m.sent j 0)) fits.block ∙ (mix_more j x.m.sent x.m.shown (omega arith) (omega arith) ∙ ap (λ (k : ℕ). mix k x.m.sent x.m.shown) all); done = fits.done }))
 
@@ -90,7 +90,7 @@ module _ (exec : Device) (start : List ℕ) where
   written x y c st ok e = e ∙ mix_all (block_of x.m.wiring) x.m.sent x.m.shown ok.sized.sent ok.sized.shown
 
   pub stores_header : Keeps PostHeader
-  stores_header x y ws v g f small = let c = g.0 in let h = g.1.2 in let ok = h.ask_ok in let fits = h.fits.1 in let w = x.m.wiring in let z : ℕ = header_word w x.m.code 0 in let d : Core = record c { completion = z } in let headed : style_of w ≡ Headed = ok.place in (
+  stores_header x y ws v g f small = let c = g.0 in let h = g.1.2 in let ok = h.ask_ok in let fits = h.fits.1 in let w = x.m.wiring in let z : ℕ = sent_header w x.m.code 0 in let d : Core = record c { completion = z } in let headed : style_of w ≡ Headed = ok.place in (
     d,
     (
       g.1.0,
@@ -209,7 +209,7 @@ module _ (exec : Device) (start : List ℕ) where
           o,
           ap (λ (l : List ℕ). set l 2 1) g.1.1,
           record {
-            ask_ok = record { wired = ok.wired; sized = ok.sized; place = tt; flies = tt; looks = omega arith; posts = omega arith; kept = ok.kept; mask = ok.mask; code = ok.code };
+            ask_ok = record { wired = ok.wired; sized = ok.sized; place = tt; flies = tt; looks = omega arith; posts = omega arith; kept = ok.kept; mask = ok.mask; id = ok.id; code = ok.code };
             answer_ok = h.answer_ok;
             between = h.between;
             same = h.same;

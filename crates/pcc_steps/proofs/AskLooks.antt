@@ -9,8 +9,8 @@ use Rattle.pcc_steps.specs.declared.wiring.Wiring.{Wiring}
 use Rattle.pcc_steps.specs.declared.wiring.Style.{Style}
 use Rattle.pcc_steps.specs.declared.ask.AskStage.{AskStage}
 use Rattle.pcc_steps.specs.declared.ask.AskStage.TheVariants.{AskRest, PostBlock, PostHeader, PostUpdateLoad, PostUpdateStore, PostMarkLoad, PostMarkStore, PostBellLoad, PostBellStore, PostLine, LookWord, LookError, LookBlock, LookLine, LookLineStore, LookAckLoad, LookAckStore}
-use Rattle.pcc_steps.specs.Words.{words_of, bytes_of}
-use Rattle.pcc_steps.specs.Wires.{style_of, heads_of, block_of, meets, is_set, sees_done, tells_by, tells_error, header_error, acknowledges, masked_by}
+use Rattle.shmem_header.specs.Spelling.{words_of, bytes_of}
+use Rattle.pcc_steps.specs.Wires.{style_of, heads_of, block_of, meets, is_complete, sees_done, tells_by, tells_error, header_error, acknowledges, masked_by}
 use Rattle.pcc_steps.specs.Asking.{Ask, AskOk, AskPlace, Flies, LooksLeft, PostsLeft, has_more, look_on, read_on, block_on, line_on, lowered_on, drained, after_look, look_told, read_told, end_told, line_told}
 use Rattle.pcc_steps.specs.Agree.{Core, Others, listed, act, Finds, Asker, Answerer, done_after, clears_after, Pose, reading, resting, pose_at, pose, Turn, quiet, taken, replying, turn, closed, finished, Marked, Row, Flight, flight, answered, reply_block, ShowsBy, IsDone, Waits, Knows, IsReading, Fits, Spells, flying, Agreed, Agree}
 use Rattle.pcc_steps.proofs.Lists.{take_all, loads, get_block}
@@ -26,18 +26,18 @@ module _ (exec : Device) (start : List ℕ) where
   -- ---- completion
 
   -- while completion is seen set, the answering end is done
-  sees : (t : Turn) (s : Style) (x : Asker) (y : Answerer) (c : Core) → AskOk x.m → style_of x.m.wiring ≡ s → is_set s x.m.wiring.check_mask c.completion ≡ true → Waits t (flight x) y c → (t ≡ quiet) × ((o : Bool × List ℕ) × IsDone (flight x) y.done c o.0 o.1)
-  sees quiet s x y c ok is seen w = ⊎_elim (λ (r : Row x.m.wiring x.m.code y.done c closed 1 x.m.sent x.done). let not = closed_unset (style_of x.m.wiring) x.m.wiring x.m.code c.completion ok.code r.completion in let e = ap (λ (s : Style). is_set s x.m.wiring.check_mask c.completion) is in cc) (λ (d : (o : Bool × List ℕ) × IsDone (flight x) y.done c o.0 o.1). (refl, d)) w
-  sees (taken j) s x y c ok is seen w = let not = closed_unset (style_of x.m.wiring) x.m.wiring x.m.code c.completion ok.code w.row.completion in let e = ap (λ (s : Style). is_set s x.m.wiring.check_mask c.completion) is in cc
-  sees (replying j) s x y c ok is seen w = let not = closed_unset (style_of x.m.wiring) x.m.wiring x.m.code c.completion ok.code w.row.completion in let e = ap (λ (s : Style). is_set s x.m.wiring.check_mask c.completion) is in cc
+  sees : (t : Turn) (s : Style) (x : Asker) (y : Answerer) (c : Core) → AskOk x.m → style_of x.m.wiring ≡ s → is_complete s x.m.wiring.check_mask c.completion ≡ true → Waits t (flight x) y c → (t ≡ quiet) × ((o : Bool × List ℕ) × IsDone (flight x) y.done c o.0 o.1)
+  sees quiet s x y c ok is seen w = ⊎_elim (λ (r : Row x.m.wiring x.m.code y.done c closed 1 x.m.sent x.done). let not = closed_unset (style_of x.m.wiring) x.m.wiring x.m.code c.completion ok.id ok.code r.completion in let e = ap (λ (s : Style). is_complete s x.m.wiring.check_mask c.completion) is in cc) (λ (d : (o : Bool × List ℕ) × IsDone (flight x) y.done c o.0 o.1). (refl, d)) w
+  sees (taken j) s x y c ok is seen w = let not = closed_unset (style_of x.m.wiring) x.m.wiring x.m.code c.completion ok.id ok.code w.row.completion in let e = ap (λ (s : Style). is_complete s x.m.wiring.check_mask c.completion) is in cc
+  sees (replying j) s x y c ok is seen w = let not = closed_unset (style_of x.m.wiring) x.m.wiring x.m.code c.completion ok.id ok.code w.row.completion in let e = ap (λ (s : Style). is_complete s x.m.wiring.check_mask c.completion) is in cc
 
   pose_look : (b : Bool) (a : Ask) → pose_at (after_look b) a ≡ reading 0
   pose_look true a = refl
   pose_look false a = refl
 
   look_ok : (b : Bool) (a : Ask) (e : Bool) → tells_error a.wiring ≡ b → 0 < block_of a.wiring → AskOk (record a { stage = LookWord }) → AskOk (record a { stage = after_look b; error = e })
-  look_ok true a e is some ok = record { wired = ok.wired; sized = ok.sized; place = is; flies = ok.flies; looks = let l = ok.looks in omega arith; posts = ok.posts; kept = ok.kept; mask = ok.mask; code = ok.code }
-  look_ok false a e is some ok = record { wired = ok.wired; sized = ok.sized; place = some; flies = ok.flies; looks = let l = ok.looks in omega arith; posts = ok.posts; kept = ok.kept; mask = ok.mask; code = ok.code }
+  look_ok true a e is some ok = record { wired = ok.wired; sized = ok.sized; place = is; flies = ok.flies; looks = let l = ok.looks in omega arith; posts = ok.posts; kept = ok.kept; mask = ok.mask; id = ok.id; code = ok.code }
+  look_ok false a e is some ok = record { wired = ok.wired; sized = ok.sized; place = some; flies = ok.flies; looks = let l = ok.looks in omega arith; posts = ok.posts; kept = ok.kept; mask = ok.mask; id = ok.id; code = ok.code }
 
   knows_look : (b : Bool) (e e' : Bool) → (b ≡ false → e' ≡ e) → Knows (after_look b) e e'
   knows_look true e e' h = tt
@@ -46,12 +46,12 @@ module _ (exec : Device) (start : List ℕ) where
   looked_at : (b : Bool) (v : ℕ) (x : Asker) (y : Answerer) (c : Core) → sees_done x.m.wiring v ≡ b → v ≡ c.completion → Agreed exec start (at LookWord x) y c
       → Agreed exec start (record { m = look_on b v (at LookWord x).m; done = done_after (look_told b) x.done (look_on b v (at LookWord x).m); clears = clears_after (look_told b) x.clears }) y c
   looked_at true v x y c seen same g = let ok = g.ask_ok in let w = x.m.wiring in let s : Style = style_of w in let t : Bool = tells_error w in let a : Ask = record x.m { stage = after_look t; error = header_error s v } in
-      let now : is_set s w.check_mask c.completion ≡ true = ap (is_set s w.check_mask) (sym same) ∙ seen in let d = sees (turn y.m) s (at LookWord x) y c ok refl now g.fits in
+      let now : is_complete s w.check_mask c.completion ≡ true = ap (is_complete s w.check_mask) (sym same) ∙ seen in let d = sees (turn y.m) s (at LookWord x) y c ok refl now g.fits in
       moves exec start (at LookWord x) y c c (after_look t) x.m.kept (header_error s v) x.m.loaded x.m.looks x.clears g (look_ok t x.m (header_error s v) refl (some_words (heads_of s) w.room ok.wired.least) ok) g.irq
           (subst (λ (q : Pose). Fits q (turn y.m) (record x { m = a }) y c) (sym (pose_look t a))
-              (d.0, record { error = d.1.0.0; output = d.1.0.1; is = d.1.1; loaded = refl; knows = knows_look t d.1.0.0 (header_error s v) (λ quietly. error_seen s w.reports w x.m.code c.completion v c.error d.1.0.0 ok.code quietly same d.1.1.row.completion d.1.1.shows) }))
+              (d.0, record { error = d.1.0.0; output = d.1.0.1; is = d.1.1; loaded = refl; knows = knows_look t d.1.0.0 (header_error s v) (λ quietly. error_seen s w.reports w x.m.code c.completion v c.error d.1.0.0 ok.id ok.code quietly same d.1.1.row.completion d.1.1.shows) }))
   looked_at false v x y c seen same g = let ok = g.ask_ok in
-      moves exec start (at LookWord x) y c c AskRest x.m.kept x.m.error x.m.loaded (x.m.looks + 1) (x.clears + 1) g (record { wired = ok.wired; sized = ok.sized; place = tt; flies = tt; looks = let l = ok.looks in omega arith; posts = ok.posts; kept = ok.kept; mask = ok.mask; code = ok.code }) g.irq
+      moves exec start (at LookWord x) y c c AskRest x.m.kept x.m.error x.m.loaded (x.m.looks + 1) (x.clears + 1) g (record { wired = ok.wired; sized = ok.sized; place = tt; flies = tt; looks = let l = ok.looks in omega arith; posts = ok.posts; kept = ok.kept; mask = ok.mask; id = ok.id; code = ok.code }) g.irq
           (subst (λ (f : Bool). Fits (resting f) (turn y.m) (record { m = look_on false v (at LookWord x).m; done = x.done; clears = x.clears + 1 }) y c) (sym ok.flies) g.fits)
 
   looks_word : Keeps exec start LookWord
@@ -63,7 +63,7 @@ module _ (exec : Device) (start : List ℕ) where
     (
       g.1.0,
       g.1.1,
-      moves exec start (at LookError x) y c c (LookBlock 0) x.m.kept (meets v w.error_mask) x.m.loaded x.m.looks x.clears h (record { wired = ok.wired; sized = ok.sized; place = some_words (heads_of (style_of w)) w.room ok.wired.least; flies = ok.flies; looks = ok.looks; posts = ok.posts; kept = ok.kept; mask = ok.mask; code = ok.code }) h.irq
+      moves exec start (at LookError x) y c c (LookBlock 0) x.m.kept (meets v w.error_mask) x.m.loaded x.m.looks x.clears h (record { wired = ok.wired; sized = ok.sized; place = some_words (heads_of (style_of w)) w.room ok.wired.least; flies = ok.flies; looks = ok.looks; posts = ok.posts; kept = ok.kept; mask = ok.mask; id = ok.id; code = ok.code }) h.irq
           (h.fits.0, record { error = r.error; output = r.output; is = r.is; loaded = refl; knows = ap (λ (n : ℕ). meets n w.error_mask) same ∙ error_shown (style_of w) w.reports w.error_mask c.error r.error ok.place r.is.shows }),
     ),
   )
@@ -79,7 +79,7 @@ module _ (exec : Device) (start : List ℕ) where
       let space : bytes_of (drop k l) ≡ output = ap (λ (l : List ℕ). bytes_of (drop k l)) whole ∙ space_again k w.room x.m.sent output ok.sized.sent is.long ok.wired.whole is.bytes in
       let more : length (x.done ++ record { code = x.m.code; input = x.m.input; error = x.m.error; output = bytes_of (drop k l) } ∷ []) ≡ length x.done + 1 = length-append x.done (record { code = x.m.code; input = x.m.input; error = x.m.error; output = bytes_of (drop k l) } ∷ []) in
       let count : x.m.posts ≡ length x.done + 1 = g.posts ∙ ap (λ (b : Bool). length x.done + flying b) flies in record {
-        ask_ok = record { wired = ok.wired; sized = record { sent = ok.sized.sent; shown = long; loaded = ok.sized.shown; input = ok.sized.input; space = ap (λ (l : List ℕ). length l) space ∙ is.long }; place = tt; flies = tt; looks = left; posts = posts; kept = ok.kept; mask = ok.mask; code = ok.code };
+        ask_ok = record { wired = ok.wired; sized = record { sent = ok.sized.sent; shown = long; loaded = ok.sized.shown; input = ok.sized.input; space = ap (λ (l : List ℕ). length l) space ∙ is.long }; place = tt; flies = tt; looks = left; posts = posts; kept = ok.kept; mask = ok.mask; id = ok.id; code = ok.code };
         answer_ok = g.answer_ok;
         between = g.between;
         same = g.same;
@@ -92,7 +92,7 @@ module _ (exec : Device) (start : List ℕ) where
         posts = omega arith;
         irq = low;
         fits = (rests, record {
-          completion = finished_opened (style_of w) w x.m.code d.completion e ok.code is.row.completion;
+          completion = finished_opened (style_of w) w x.m.code d.completion e ok.id ok.code is.row.completion;
           line = is.row.line;
           block = is.row.block ∙ sym whole;
           done = is.row.done ∙ ap (λ (z : Bool × List ℕ). x.done ++ answered (flight x) z.0 z.1 ∷ []) (λ i. (sym knows i, sym space i));
@@ -104,7 +104,7 @@ module _ (exec : Device) (start : List ℕ) where
       → take (block_of x.m.wiring) l ≡ take (block_of x.m.wiring) (reply_block (flight x) output) → x.m.error ≡ e → turn y.m ≡ quiet → let a : Ask = record x.m { stage = LookBlock j; loaded = l } in
       Agreed exec start (record { m = block_on b a; done = done_after (end_told b x.m.error) x.done (block_on b a); clears = clears_after (end_told b x.m.error) x.clears }) y c
   blocked true j l x y c e output asks g long is loaded knows rests = let ok = g.ask_ok in
-      moves exec start (at (LookBlock j) x) y c c LookLine x.m.kept x.m.error l x.m.looks x.clears g (record { wired = ok.wired; sized = record { sent = ok.sized.sent; shown = ok.sized.shown; loaded = long; input = ok.sized.input; space = ok.sized.space }; place = asks; flies = ok.flies; looks = ok.looks; posts = ok.posts; kept = ok.kept; mask = ok.mask; code = ok.code }) g.irq
+      moves exec start (at (LookBlock j) x) y c c LookLine x.m.kept x.m.error l x.m.looks x.clears g (record { wired = ok.wired; sized = record { sent = ok.sized.sent; shown = ok.sized.shown; loaded = long; input = ok.sized.input; space = ok.sized.space }; place = asks; flies = ok.flies; looks = ok.looks; posts = ok.posts; kept = ok.kept; mask = ok.mask; id = ok.id; code = ok.code }) g.irq
           (rests, record { error = e; output = output; is = is; loaded = loaded; knows = knows })
   blocked false j l x y c e output asks g long is loaded knows rests = let ok = g.ask_ok in drains x y c c (LookBlock j) l e output g ok.flies ok.looks ok.posts long g.irq rests is loaded knows
 
@@ -113,7 +113,7 @@ module _ (exec : Device) (start : List ℕ) where
   read true j v x y c more same g = let ok = g.ask_ok in let w = x.m.wiring in let n : ℕ = block_of w in let r = g.fits.1 in let here : j < n = ok.place in let long : length x.m.loaded ≡ n = ok.sized.loaded in
       let long' : length (reply_block (flight x) r.output) ≡ n = block_long (heads_of (style_of w)) w.room x.m.sent r.output ok.sized.sent r.is.long in
       moves exec start (at (LookBlock j) x) y c c (LookBlock (j + 1)) x.m.kept x.m.error (set x.m.loaded j v) x.m.looks x.clears g
-          (record { wired = ok.wired; sized = record { sent = ok.sized.sent; shown = ok.sized.shown; loaded = length-set x.m.loaded j v ∙ long; input = ok.sized.input; space = ok.sized.space }; place = ltb-true (j + 1) n more; flies = ok.flies; looks = ok.looks; posts = ok.posts; kept = ok.kept; mask = ok.mask; code = ok.code }) g.irq
+          (record { wired = ok.wired; sized = record { sent = ok.sized.sent; shown = ok.sized.shown; loaded = length-set x.m.loaded j v ∙ long; input = ok.sized.input; space = ok.sized.space }; place = ltb-true (j + 1) n more; flies = ok.flies; looks = ok.looks; posts = ok.posts; kept = ok.kept; mask = ok.mask; id = ok.id; code = ok.code }) g.irq
           (g.fits.0, record { error = r.error; output = r.output; is = r.is; loaded = loads j x.m.loaded (reply_block (flight x) r.output) v (omega arith) (omega arith) (same ∙ ap (λ (l : List ℕ). get_or l j 0) r.is.row.block) r.loaded; knows = r.knows })
   read false j v x y c more same g = let ok = g.ask_ok in let w = x.m.wiring in let n : ℕ = block_of w in let r = g.fits.1 in let here : j < n = ok.place in let long : length x.m.loaded ≡ n = ok.sized.loaded in
       let long' : length (reply_block (flight x) r.output) ≡ n = block_long (heads_of (style_of w)) w.room x.m.sent r.output ok.sized.sent r.is.long in

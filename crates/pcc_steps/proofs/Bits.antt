@@ -11,7 +11,9 @@ use Rattle.std.proofs.lemmas.Nat.{and_or_self}
 use Rattle.pcc_steps.specs.declared.wiring.Wiring.{Wiring}
 use Rattle.pcc_steps.specs.declared.wiring.Style.{Style}
 use Rattle.pcc_steps.specs.declared.wiring.Style.TheVariants.{Headed, Joined3, Separate3, Joined4, Separate4, Reduced5}
-use Rattle.pcc_steps.specs.Wires.{flag, signature_word, header_word, status_of, with_status, bit_is_set, meets, is_set, tells_by, header_error, without, masked_by, style_by, style_of, IsRight, code_by}
+use Rattle.shmem_header.specs.Bits.{IsCommand, code_in, is_set, with_status}
+use Rattle.shmem_header.proofs.Commands.{code_in-header_word, is_set-header_word_complete, is_set-header_word_error, with_status-header_word}
+use Rattle.pcc_steps.specs.Wires.{sent_header, status_of, meets, is_complete, tells_by, header_error, without, masked_by, style_by, style_of, IsRight, code_by}
 use Rattle.pcc_steps.specs.Runs.{error_word}
 use Rattle.pcc_history.specs.Channel.{both}
 use Rattle.std.specs.Int.Bits.{and_self}
@@ -21,79 +23,57 @@ use Rattle.pcc_steps.specs.Agree.{opened, closed, finished, Marked, ShowsBy, Has
 
 -- ---- the header of types 0 to 2
 
-header_clear : (s code n : ℕ) → s < 2 ^ 32 → code < 256 → n ≤ 1 → (s + 2 ^ 32 * code + 2 ^ 47 * n + 2 ^ 48 * 0) / 2 ^ 48 % 2 ≡ 0
-header_clear s code n a b d = omega arith
+command : (code status id : ℕ) → id < 2 ^ 8 → code < 256 → status < 2 ^ 16 → IsCommand code status id
+command code status id a b c = record { code_fits = b; status_fits = c; id_fits = a }
 
-header_done : (s code n e : ℕ) → s < 2 ^ 32 → code < 256 → n ≤ 1 → (s + 2 ^ 32 * code + 2 ^ 47 * n + 2 ^ 48 * (1 + 4 * e)) / 2 ^ 48 % 2 ≡ 1
-header_done s code n e a b d = omega arith
+unset : (w : Wiring) (code : ℕ) → w.id < 2 ^ 8 → code < 256 → is_set (sent_header w code 0) 48 ≡ false
+unset w code id h = is_set-header_word_complete code w.notify 0 w.id (command code 0 w.id id h (omega arith))
 
-header_failed : (s code n : ℕ) → s < 2 ^ 32 → code < 256 → n ≤ 1 → (s + 2 ^ 32 * code + 2 ^ 47 * n + 2 ^ 48 * 5) / 2 ^ 50 % 2 ≡ 1
-header_failed s code n a b d = omega arith
+set_done : (w : Wiring) (code : ℕ) (e : Bool) → w.id < 2 ^ 8 → code < 256 → is_set (sent_header w code (status_of e)) 48 ≡ true
+set_done w code true id h = is_set-header_word_complete code w.notify 5 w.id (command code 5 w.id id h (omega arith))
+set_done w code false id h = is_set-header_word_complete code w.notify 1 w.id (command code 1 w.id id h (omega arith))
 
-header_good : (s code n : ℕ) → s < 2 ^ 32 → code < 256 → n ≤ 1 → (s + 2 ^ 32 * code + 2 ^ 47 * n + 2 ^ 48 * 1) / 2 ^ 50 % 2 ≡ 0
-header_good s code n a b d = omega arith
-
-header_code : (s code n : ℕ) → s < 2 ^ 32 → code < 256 → n ≤ 1 → (s + 2 ^ 32 * code + 2 ^ 47 * n + 2 ^ 48 * 0) / 2 ^ 32 % 256 ≡ code
-header_code s code n a b d = omega arith
-
-header_status : (s code n t : ℕ) → s < 2 ^ 32 → code < 256 → n ≤ 1 → (s + 2 ^ 32 * code + 2 ^ 47 * n + 2 ^ 48 * 0) % 2 ^ 48 + 2 ^ 48 * t ≡ s + 2 ^ 32 * code + 2 ^ 47 * n + 2 ^ 48 * t
-header_status s code n t a b d = omega arith
-
-one_bit : (b : Bool) → flag b ≤ 1
-one_bit true = omega arith
-one_bit false = omega arith
-
-signed : (id : ℕ) → signature_word id < 2 ^ 32
-signed id = omega arith
-
-unset : (w : Wiring) (code : ℕ) → code < 256 → bit_is_set 48 (header_word w code 0) ≡ false
-unset w code h = ap (λ (n : ℕ). eqb n 1) (header_clear (signature_word w.id) code (flag w.notify) (signed w.id) h (one_bit w.notify))
-
-set_done : (w : Wiring) (code : ℕ) (e : Bool) → code < 256 → bit_is_set 48 (header_word w code (status_of e)) ≡ true
-set_done w code true h = ap (λ (n : ℕ). eqb n 1) (header_done (signature_word w.id) code (flag w.notify) 1 (signed w.id) h (one_bit w.notify))
-set_done w code false h = ap (λ (n : ℕ). eqb n 1) (header_done (signature_word w.id) code (flag w.notify) 0 (signed w.id) h (one_bit w.notify))
-
-told_error : (w : Wiring) (code : ℕ) (e : Bool) → code < 256 → bit_is_set 50 (header_word w code (status_of e)) ≡ e
-told_error w code true h = ap (λ (n : ℕ). eqb n 1) (header_failed (signature_word w.id) code (flag w.notify) (signed w.id) h (one_bit w.notify))
-told_error w code false h = ap (λ (n : ℕ). eqb n 1) (header_good (signature_word w.id) code (flag w.notify) (signed w.id) h (one_bit w.notify))
+told_error : (w : Wiring) (code : ℕ) (e : Bool) → w.id < 2 ^ 8 → code < 256 → is_set (sent_header w code (status_of e)) 50 ≡ e
+told_error w code true id h = is_set-header_word_error code w.notify 5 w.id (command code 5 w.id id h (omega arith))
+told_error w code false id h = is_set-header_word_error code w.notify 1 w.id (command code 1 w.id id h (omega arith))
 
 -- the code that the header carries
-pub code_seen : (w : Wiring) (code word : ℕ) → code < 256 → word ≡ header_word w code 0 → word / 2 ^ 32 % 256 ≡ code
-code_seen w code word h is = ap (λ (n : ℕ). n / 2 ^ 32 % 256) is ∙ header_code (signature_word w.id) code (flag w.notify) (signed w.id) h (one_bit w.notify)
+pub code_seen : (w : Wiring) (code word : ℕ) → w.id < 2 ^ 8 → code < 256 → word ≡ sent_header w code 0 → code_in word ≡ code
+code_seen w code word id h is = ap code_in is ∙ code_in-header_word code w.notify 0 w.id (command code 0 w.id id h (omega arith))
 
 -- the header with its status
-pub status_seen : (w : Wiring) (code word : ℕ) (e : Bool) → code < 256 → word ≡ header_word w code 0 → with_status word (status_of e) ≡ header_word w code (status_of e)
-status_seen w code word e h is = ap (λ (n : ℕ). with_status n (status_of e)) is ∙ header_status (signature_word w.id) code (flag w.notify) (status_of e) (signed w.id) h (one_bit w.notify)
+pub status_seen : (w : Wiring) (code word : ℕ) (e : Bool) → w.id < 2 ^ 8 → code < 256 → word ≡ sent_header w code 0 → with_status word (status_of e) ≡ sent_header w code (status_of e)
+status_seen w code word e id h is = ap (λ (n : ℕ). with_status n (status_of e)) is ∙ with_status-header_word code w.notify 0 (status_of e) w.id (command code 0 w.id id h (omega arith))
 
 -- ---- word 0 of each style
 
-pub closed_unset : (s : Style) (w : Wiring) (code word : ℕ) → CodeFits s code → Marked s w code closed word → is_set s w.check_mask word ≡ false
-closed_unset Headed w code word h m = ap (bit_is_set 48) m ∙ unset w code h
-closed_unset _ w code word h m = m
+pub closed_unset : (s : Style) (w : Wiring) (code word : ℕ) → w.id < 2 ^ 8 → CodeFits s code → Marked s w code closed word → is_complete s w.check_mask word ≡ false
+closed_unset Headed w code word id h m = ap (λ (n : ℕ). is_set n 48) m ∙ unset w code id h
+closed_unset _ w code word id h m = m
 
-pub finished_set : (s : Style) (w : Wiring) (code word : ℕ) (e : Bool) → CodeFits s code → Marked s w code (finished e) word → is_set s w.check_mask word ≡ true
-finished_set Headed w code word e h m = ap (bit_is_set 48) m ∙ set_done w code e h
-finished_set _ w code word e h m = m
+pub finished_set : (s : Style) (w : Wiring) (code word : ℕ) (e : Bool) → w.id < 2 ^ 8 → CodeFits s code → Marked s w code (finished e) word → is_complete s w.check_mask word ≡ true
+finished_set Headed w code word e id h m = ap (λ (n : ℕ). is_set n 48) m ∙ set_done w code e id h
+finished_set _ w code word e id h m = m
 
-pub set_opened : (s : Style) (w : Wiring) (code word : ℕ) → is_set s w.check_mask word ≡ true → Marked s w code opened word
+pub set_opened : (s : Style) (w : Wiring) (code word : ℕ) → is_complete s w.check_mask word ≡ true → Marked s w code opened word
 set_opened Headed w code word m = m
 set_opened _ w code word m = m
 
-pub opened_set : (s : Style) (w : Wiring) (code word : ℕ) → Marked s w code opened word → is_set s w.check_mask word ≡ true
+pub opened_set : (s : Style) (w : Wiring) (code word : ℕ) → Marked s w code opened word → is_complete s w.check_mask word ≡ true
 opened_set Headed w code word m = m
 opened_set _ w code word m = m
 
 pub reopened : (s : Style) (w : Wiring) (code code' word : ℕ) → Marked s w code opened word → Marked s w code' opened word
 reopened s w code code' word m = set_opened s w code' word (opened_set s w code word m)
 
-pub finished_opened : (s : Style) (w : Wiring) (code word : ℕ) (e : Bool) → CodeFits s code → Marked s w code (finished e) word → Marked s w code opened word
-finished_opened s w code word e h m = set_opened s w code word (finished_set s w code word e h m)
+pub finished_opened : (s : Style) (w : Wiring) (code word : ℕ) (e : Bool) → w.id < 2 ^ 8 → CodeFits s code → Marked s w code (finished e) word → Marked s w code opened word
+finished_opened s w code word e id h m = set_opened s w code word (finished_set s w code word e id h m)
 
 -- the error that word 0 tells, where no register tells it
-pub error_seen : (s : Style) (reports : Bool) (w : Wiring) (code word found register : ℕ) (e : Bool) → CodeFits s code → tells_by s reports ≡ false → found ≡ word → Marked s w code (finished e) word → ShowsBy s reports w.error_mask register e → header_error s found ≡ e
-error_seen Headed reports w code word found register e h silent same m t = ap (bit_is_set 50) (same ∙ m) ∙ told_error w code e h
-error_seen _ true w code word found register e h silent same m t = cc
-error_seen _ false w code word found register e h silent same m t = sym t
+pub error_seen : (s : Style) (reports : Bool) (w : Wiring) (code word found register : ℕ) (e : Bool) → w.id < 2 ^ 8 → CodeFits s code → tells_by s reports ≡ false → found ≡ word → Marked s w code (finished e) word → ShowsBy s reports w.error_mask register e → header_error s found ≡ e
+error_seen Headed reports w code word found register e id h silent same m t = ap (λ (n : ℕ). is_set n 50) (same ∙ m) ∙ told_error w code e id h
+error_seen _ true w code word found register e id h silent same m t = cc
+error_seen _ false w code word found register e id h silent same m t = sym t
 
 -- the error that the register tells
 pub error_shown : (s : Style) (reports : Bool) (mask word : ℕ) (e : Bool) → tells_by s reports ≡ true → ShowsBy s reports mask word e → meets word mask ≡ e
@@ -210,10 +190,10 @@ shows_none _ true mask word bad is = cc
 shows_none _ false mask word bad is = refl
 
 -- the code that the answering side finds
-pub code_known : (s : Style) (w : Wiring) (code header : ℕ) (sent : List ℕ) → CodeFits s code → HasHeader (TakeBlock 0) s w code header → Carries s code sent → code_by s header sent ≡ code
-code_known Headed w code header sent fits has carries = code_seen w code header fits has
-code_known Joined3 w code header sent fits has carries = carries
-code_known Separate3 w code header sent fits has carries = carries
-code_known Joined4 w code header sent fits has carries = carries
-code_known Separate4 w code header sent fits has carries = carries
-code_known Reduced5 w code header sent fits has carries = carries
+pub code_known : (s : Style) (w : Wiring) (code header : ℕ) (sent : List ℕ) → w.id < 2 ^ 8 → CodeFits s code → HasHeader (TakeBlock 0) s w code header → Carries s code sent → code_by s header sent ≡ code
+code_known Headed w code header sent id fits has carries = code_seen w code header id fits has
+code_known Joined3 w code header sent id fits has carries = carries
+code_known Separate3 w code header sent id fits has carries = carries
+code_known Joined4 w code header sent id fits has carries = carries
+code_known Separate4 w code header sent id fits has carries = carries
+code_known Reduced5 w code header sent id fits has carries = carries

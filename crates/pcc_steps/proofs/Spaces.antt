@@ -2,16 +2,17 @@
 use Rattle.std.proofs.Common.{◌≡◌, ℕ, ◌+◌, ◌*◌, ◌/◌, ◌%◌, ◌<◌, ◌≤◌, List, ◌++◌, length, take, drop, refl, sym, ap, ◌∙◌, subst, arith, length-take, length-drop}
 use Rattle.std.proofs.lemmas.List.{length-append, take-append-drop}
 use Rattle.std.proofs.Math.Seq.{drop-append_seam, take-append_seam}
+use Rattle.shmem_header.proofs.Places.{length-words_of, bytes_of-words_of}
 use Rattle.pcc_bytes.specs.Bytes.{IsBytes}
-use Rattle.pcc_steps.specs.Words.{words_of, bytes_of}
+use Rattle.shmem_header.specs.Spelling.{words_of, bytes_of}
 
 -- ---- words and bytes
 
 pub words_long : (s : List ℕ) → length (words_of s) ≡ length s / 8
-words_long s = ?
+words_long s = length-words_of s
 
 pub bytes_again : (s : List ℕ) → IsBytes s → length s % 8 ≡ 0 → bytes_of (words_of s) ≡ s
-bytes_again s h e = ?
+bytes_again s h e = let k : length s ≡ 8 * (length s / 8) = omega arith in bytes_of-words_of (length s / 8) s k h
 
 -- ---- header words, then others
 

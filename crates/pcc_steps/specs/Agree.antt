@@ -15,8 +15,9 @@ use Rattle.pcc_steps.specs.declared.ask.AskOutcome.{AskOutcome}
 use Rattle.pcc_steps.specs.declared.ask.AskOutcome.TheVariants.{Posted, Clear, Drained}
 use Rattle.pcc_steps.specs.declared.answer.AnswerStage.{AnswerStage}
 use Rattle.pcc_steps.specs.declared.answer.AnswerStage.TheVariants.{AnswerRest, TakeLine, TakeAckLoad, TakeAckStore, TakeHeader, TakeBlock, RunDevice, ReplyBlock, ReplyError, ReplyHeader, ReplyUpdateLoad, ReplyUpdateStore, ReplyMarkLoad, ReplyMarkStore, CloseBellLoad, CloseBellStore, CloseLine}
-use Rattle.pcc_steps.specs.Words.{words_of}
-use Rattle.pcc_steps.specs.Wires.{style_of, heads_of, block_of, header_word, status_of, meets, is_set}
+use Rattle.shmem_header.specs.Bits.{command_in}
+use Rattle.shmem_header.specs.Spelling.{words_of}
+use Rattle.pcc_steps.specs.Wires.{style_of, heads_of, block_of, sent_header, status_of, meets, is_complete}
 use Rattle.pcc_steps.specs.Asking.{Ask, AskOk, ask_fed_at, ask_told_at, ask_stepped}
 use Rattle.pcc_steps.specs.Answering.{Answer, AnswerOk, answer_code, answer_fed_at, answer_stepped, ran_with}
 
@@ -205,12 +206,12 @@ pub data Mark : Type 0 where
 
 -- what word 0 is: of types 0 to 2 the header that was sent, with status 0 while the command is in flight
 abbrev pub Marked : Style → Wiring → ℕ → Mark → ℕ → Type 0
-Marked Headed w code opened word = is_set Headed w.check_mask word ≡ true
-Marked Headed w code closed word = word ≡ header_word w code 0
-Marked Headed w code (finished e) word = word ≡ header_word w code (status_of e)
-Marked s w code opened word = is_set s w.check_mask word ≡ true
-Marked s w code closed word = is_set s w.check_mask word ≡ false
-Marked s w code (finished e) word = is_set s w.check_mask word ≡ true
+Marked Headed w code opened word = is_complete Headed w.check_mask word ≡ true
+Marked Headed w code closed word = word ≡ sent_header w code 0
+Marked Headed w code (finished e) word = word ≡ sent_header w code (status_of e)
+Marked s w code opened word = is_complete s w.check_mask word ≡ true
+Marked s w code closed word = is_complete s w.check_mask word ≡ false
+Marked s w code (finished e) word = is_complete s w.check_mask word ≡ true
 
 -- word 0, the doorbell line, the block and the answering end's history
 pub record Row (w : Wiring) (code : ℕ) (hp : List Exchange) (c : Core) (mark : Mark) (l : ℕ) (b : List ℕ) (h : List Exchange) : Type 0 where
@@ -240,7 +241,7 @@ reply_block f output = take (heads_of (style_of f.wiring)) f.sent ++ words_of ou
 
 -- the header that was loaded is the one that was sent (types 0 to 2), from this stage on
 abbrev pub HasHeader : AnswerStage → Style → Wiring → ℕ → ℕ → Type 0
-HasHeader (TakeBlock j) Headed w code header = header ≡ header_word w code 0
+HasHeader (TakeBlock j) Headed w code header = header ≡ sent_header w code 0
 HasHeader _ s w code header = Unit {0}
 
 pub record IsTaken (f : Flight) (y : Answerer) (c : Core) (j : ℕ) : Type 0 where
@@ -312,8 +313,8 @@ pub record Spells (w : Wiring) (block bytes : List ℕ) : Type 0 where
 -- the header words of the block carry the code (types 3 to 5)
 abbrev pub Carries : Style → ℕ → List ℕ → Type 0
 Carries Headed code block = Unit {0}
-Carries Reduced5 code block = get_or block 0 0 / 2 ^ 32 ≡ code
-Carries _ code block = get_or block 1 0 / 2 ^ 32 ≡ code
+Carries Reduced5 code block = command_in (get_or block 0 0) ≡ code
+Carries _ code block = command_in (get_or block 1 0) ≡ code
 
 -- a communication space: so many bytes
 pub record IsSpace (room : ℕ) (bytes : List ℕ) : Type 0 where

@@ -10,8 +10,8 @@ use Rattle.pcc_steps.specs.declared.ask.AskStage.{AskStage}
 use Rattle.pcc_steps.specs.declared.ask.AskStage.TheVariants.{AskRest, PostBlock, PostHeader, PostUpdateLoad, PostUpdateStore, PostMarkLoad, PostMarkStore, PostBellLoad, PostBellStore, PostLine, LookWord, LookError, LookBlock, LookLine, LookLineStore, LookAckLoad, LookAckStore}
 use Rattle.pcc_steps.specs.declared.ask.AskOutcome.{AskOutcome}
 use Rattle.pcc_steps.specs.declared.ask.AskOutcome.TheVariants.{Posted, Clear, Drained}
-use Rattle.pcc_steps.specs.Words.{words_of, bytes_of}
-use Rattle.pcc_steps.specs.Wires.{style_of, heads_of, block_of, IsRight, header_word, block_header, opening_header, meets, sees_done, tells_error, header_error, acknowledges, masked_by, without, update_place}
+use Rattle.shmem_header.specs.Spelling.{words_of, bytes_of}
+use Rattle.pcc_steps.specs.Wires.{style_of, heads_of, block_of, IsRight, sent_header, block_header, opening_header, meets, sees_done, tells_error, header_error, acknowledges, masked_by, without, update_place}
 
 pub record Ask : Type 0 where
   pub wiring : Wiring
@@ -45,7 +45,7 @@ has_more j w = ltb (j + 1) (block_of w)
 abbrev pub ask_next_at : AskStage → Ask → Action
 ask_next_at AskRest a = Rest
 ask_next_at (PostBlock j) a = Store (8 + j) (get_or a.sent j 0)
-ask_next_at PostHeader a = Store 0 (header_word a.wiring a.code 0)
+ask_next_at PostHeader a = Store 0 (sent_header a.wiring a.code 0)
 ask_next_at PostUpdateLoad a = Load (update_place (style_of a.wiring))
 ask_next_at PostUpdateStore a = Store (update_place (style_of a.wiring)) (masked_by a.wiring.update a.kept)
 ask_next_at PostMarkLoad a = Load 0
@@ -281,6 +281,7 @@ pub record AskOk (a : Ask) : Type 0 where
   pub posts : PostsLeft a.stage a.posts
   pub kept : a.kept < 2 ^ 64
   pub mask : a.wiring.check_mask < 2 ^ 64
+  pub id : a.wiring.id < 2 ^ 8
   pub code : CodeFits (style_of a.wiring) a.code
 
 abbrev pub IsAskRunning : Ask → Type 0

@@ -1,5 +1,4 @@
 pub mod Wires
-pub mod Words
 pub mod Runs
 pub mod Asking
 pub mod Answering

@@ -5,8 +5,9 @@ use Rattle.pcc_gas.specs.declared.mask.Masks.{Masks}
 use Rattle.pcc_steps.specs.declared.wiring.Wiring.{Wiring}
 use Rattle.pcc_steps.specs.declared.wiring.Style.{Style}
 use Rattle.pcc_steps.specs.declared.wiring.Style.TheVariants.{Headed, Joined3, Separate3, Joined4, Separate4, Reduced5}
-use Rattle.pcc_steps.specs.Wires.{style_of, heads_of, block_of, header_word, status_of, with_status, meets, sees_done, tells_error, header_error, code_by, asks_by, acknowledges, four_by, masked_by, without, update_place}
-use Rattle.pcc_steps.specs.Words.{words_of, bytes_of}
+use Rattle.pcc_steps.specs.Wires.{style_of, heads_of, block_of, sent_header, status_of, meets, sees_done, tells_error, header_error, code_by, asks_by, acknowledges, four_by, masked_by, without, update_place}
+use Rattle.shmem_header.specs.Bits.{with_status}
+use Rattle.shmem_header.specs.Spelling.{words_of, bytes_of}
 
 -- what a run does from some point on, by the words that it finds
 pub data Run (E : Type 0) : Type 0 where
@@ -63,7 +64,7 @@ pub data AskEnd : Type 0 where
 
 abbrev pub post_step : PostStep → Wiring → ℕ → List ℕ → Run AskEnd → Run AskEnd
 post_step stores_block w code block k = store_words 8 block k
-post_step stores_header w code block k = stores 0 (header_word w code 0) k
+post_step stores_header w code block k = stores 0 (sent_header w code 0) k
 post_step writes_update w code block k = masked_write (update_place (style_of w)) w.update k
 post_step clears_completion w code block k = loads 0 (λ v. stores 0 (without w.check_mask v) k)
 post_step writes_bell w code block k = masked_write 1 w.bell k

@@ -1,6 +1,9 @@
 -- How a subspace is wired, and what its words say (ACPI 6.5, 14.1 and 14.2).
 use Rattle.std.specs.Prelude.{◌≡◌, ◌≢◌, ℕ, ◌+◌, ◌-◌, ◌*◌, ◌/◌, ◌%◌, ◌^◌, ◌<◌, ◌≤◌, ◌==◌, Bool, true, false, not, eqb, ltb, if◌then◌else◌, List, [], ◌∷◌, ◌++◌, length, get_or, take, drop, bit_and, bit_or}
 use Rattle.pcc_gas.specs.declared.mask.Masks.{Masks}
+use Rattle.shmem_header.specs.Bits.{header_word, is_set, code_in, command_in}
+use Rattle.shmem_header.specs.Layout.{signature_of}
+use Rattle.shmem_header.specs.Packing.{extended_words, reduced_word}
 use Rattle.pcc_steps.specs.declared.wiring.Wiring.{Wiring}
 use Rattle.pcc_steps.specs.declared.wiring.Style.{Style}
 use Rattle.pcc_steps.specs.declared.wiring.Style.TheVariants.{Headed, Joined3, Separate3, Joined4, Separate4, Reduced5}
@@ -49,37 +52,26 @@ pub record IsRight (w : Wiring) : Type 0 where
   -- the header of type 5 has no place to ask for a notification
   pub quiet : w.kind ≡ 5 → w.notify ≡ false
 
--- ---- the header of types 0 to 2: signature, code and notify, status
+-- ---- headers
 
-abbrev pub flag : Bool → ℕ
-flag true = 1
-flag false = 0
+-- the header of a command of types 0 to 2
+abbrev pub sent_header : Wiring → ℕ → ℕ → ℕ
+sent_header w code status = header_word code w.notify status w.id
 
--- 0x50434300 with the subspace's ID in its lowest byte
-abbrev pub signature_word : ℕ → ℕ
-signature_word id = 1346585344 + id % 256
-
--- the code stands from bit 32 on, notify is bit 47, the status stands from bit 48 on
-abbrev pub header_word : Wiring → ℕ → ℕ → ℕ
-header_word w code status = signature_word w.id + 2 ^ 32 * code + 2 ^ 47 * flag w.notify + 2 ^ 48 * status
-
--- status bit 0: the command is complete; status bit 2: with an error
+-- its status at the end: complete, or complete with an error
 abbrev pub status_of : Bool → ℕ
 status_of true = 5
 status_of false = 1
 
--- a header with another status
-abbrev pub with_status : ℕ → ℕ → ℕ
-with_status header status = header % 2 ^ 48 + 2 ^ 48 * status
-
-abbrev pub bit_is_set : ℕ → ℕ → Bool
-bit_is_set bit word = eqb (word / 2 ^ bit % 2) 1
+abbrev pub notify_flag : Bool → ℕ
+notify_flag true = 1
+notify_flag false = 0
 
 -- the header words of the block of types 3 to 5, for a code and the number of bytes that were asked
 abbrev pub block_header : Style → Wiring → ℕ → ℕ → List ℕ
 block_header Headed w code asked = []
-block_header Reduced5 w code asked = (signature_word w.id + 2 ^ 32 * code) ∷ []
-block_header _ w code asked = (signature_word w.id + 2 ^ 32 * flag w.notify) ∷ (4 + asked + 2 ^ 32 * code) ∷ []
+block_header Reduced5 w code asked = reduced_word (record { signature = signature_of w.id; command = code }) ∷ []
+block_header _ w code asked = extended_words (record { signature = signature_of w.id; flags = notify_flag w.notify; length = 4 + asked; command = code })
 
 -- ---- what the words say
 
@@ -88,12 +80,12 @@ abbrev pub meets : ℕ → ℕ → Bool
 meets word mask = not (bit_and word mask == 0)
 
 -- word 0 says that the command is complete
-abbrev pub is_set : Style → ℕ → ℕ → Bool
-is_set Headed mask word = bit_is_set 48 word
-is_set _ mask word = meets word mask
+abbrev pub is_complete : Style → ℕ → ℕ → Bool
+is_complete Headed mask word = is_set word 48
+is_complete _ mask word = meets word mask
 
 abbrev pub sees_done : Wiring → ℕ → Bool
-sees_done w word = is_set (style_of w) w.check_mask word
+sees_done w word = is_complete (style_of w) w.check_mask word
 
 -- errors are told by a register of their own
 abbrev pub tells_by : Style → Bool → Bool
@@ -105,20 +97,20 @@ tells_error w = tells_by (style_of w) w.reports
 
 -- the error that word 0 itself tells
 abbrev pub header_error : Style → ℕ → Bool
-header_error Headed word = bit_is_set 50 word
+header_error Headed word = is_set word 50
 header_error _ word = false
 
 -- the code, by the header of types 0 to 2 and by the block
 abbrev pub code_by : Style → ℕ → List ℕ → ℕ
-code_by Headed header block = header / 2 ^ 32 % 256
-code_by Reduced5 header block = get_or block 0 0 / 2 ^ 32
-code_by _ header block = get_or block 1 0 / 2 ^ 32
+code_by Headed header block = code_in header
+code_by Reduced5 header block = command_in (get_or block 0 0)
+code_by _ header block = command_in (get_or block 1 0)
 
 -- a notification was asked for
 abbrev pub asks_by : Style → ℕ → List ℕ → Bool
-asks_by Headed header block = bit_is_set 47 header
+asks_by Headed header block = is_set header 47
 asks_by Reduced5 header block = false
-asks_by _ header block = bit_is_set 32 (get_or block 0 0)
+asks_by _ header block = is_set (get_or block 0 0) 32
 
 -- the asking side of types 2 and 3 acknowledges the interrupt
 abbrev pub acknowledges : Wiring → Bool
@@ -148,13 +140,13 @@ update_place _ = 6
 -- ---- the opening content
 
 abbrev pub opening_word : Style → Wiring → ℕ
-opening_word Headed w = signature_word w.id + 2 ^ 48
+opening_word Headed w = header_word 0 false 1 w.id
 opening_word _ w = w.check_mask
 
 abbrev pub opening_header : Style → Wiring → List ℕ
 opening_header Headed w = []
-opening_header Reduced5 w = signature_word w.id ∷ []
-opening_header _ w = signature_word w.id ∷ 0 ∷ []
+opening_header Reduced5 w = signature_of w.id ∷ []
+opening_header _ w = signature_of w.id ∷ 0 ∷ []
 
 -- all words, before the first step; the words of the space are given
 abbrev pub opening_words : Wiring → List ℕ → List ℕ
