@@ -6,3 +6,4 @@ pub mod AskKeeps
 pub mod AskLooks
 pub mod AnswerKeeps
 pub mod AnswerReplies
+pub mod AskBegins

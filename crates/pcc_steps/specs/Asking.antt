@@ -200,7 +200,7 @@ ask_budgeted a polls = record a { budget = polls; looks = 0 }
 
 abbrev pub IsNewAsk : Ask → Wiring → List ℕ → Type 0
 IsNewAsk a w opening = (a.wiring ≡ w) × (a.stage ≡ AskRest) × (a.in_flight ≡ false) × (a.shown ≡ opening_header (style_of w) w ++ words_of opening) × (a.space ≡ opening)
-    × (a.looks ≡ 0) × (a.budget ≡ 0) × (a.posts ≡ 0) × (a.steps ≡ 0)
+    × (a.sent ≡ a.shown) × (a.input ≡ opening) × (a.code ≡ 0) × (a.looks ≡ 0) × (a.budget ≡ 0) × (a.posts ≡ 0) × (a.steps ≡ 0)
 
 -- ---- what holds between two calls
 

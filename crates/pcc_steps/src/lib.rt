@@ -7,6 +7,6 @@ mod whole;
 mod wiring;
 
 pub use answer::{AnswerOutcome, AnswerStage};
-pub use ask::{AskOutcome, AskStage};
+pub use ask::{AskOutcome, AskStage, AskState, ask_begin, ask_budget, ask_feed, ask_look, ask_next};
 pub use whole::whole_call;
 pub use wiring::{Action, Style, Wiring};
