@@ -24,6 +24,7 @@ use Rattle.pcc_steps.proofs.Bits.{reports_headed, status_seen, sets_mark, sets_u
 use Rattle.pcc_steps.proofs.Spaces.{block_long, same_front, bytes_again, mix_front, some_words, behind_heads}
 use Rattle.pcc_steps.proofs.Legality.{legal_more, state_more, room_more, state_kept}
 
+use Rattle.pcc_steps.proofs.AnswerPlaces.{place_close, place_done}
 use Rattle.pcc_steps.proofs.AnswerKeeps.{staged, at, KeepsAt, while_replying, still, in_flight, moves, steps_on, rests, takes_line, loads_ack, stores_ack, loads_header, loads_block, runs}
 
 module _ (exec : Device) (is_state : List ℕ → Type 0) (room : ℕ) (law : (d : List ℕ) (code : ℕ) (s : List ℕ) → is_state d → IsSpace room s → is_state (exec d code s).state × IsSpace room (exec d code s).space) (start : List ℕ) (sound : is_state start) where
@@ -132,14 +133,6 @@ module _ (exec : Device) (is_state : List ℕ → Type 0) (room : ℕ) (law : (d
   turn_done : (b asks : Bool) (a : Answer) → turn_at (after_done b asks) a ≡ quiet
   turn_done true asks a = refl
   turn_done false asks a = turn_close asks a
-
-  place_close : (b : Bool) (w : Wiring) → AnswerPlace (after_close b) w
-  place_close true w = tt
-  place_close false w = tt
-
-  place_done : (b asks : Bool) (w : Wiring) → four_by (style_of w) w.has_bell ≡ b → AnswerPlace (after_done b asks) w
-  place_done true asks w is = is
-  place_done false asks w is = place_close asks w
 
   settled_close : (b : Bool) (y : Answerer) → settle_at exec (after_close b) y ≡ y
   settled_close true y = refl

@@ -4,6 +4,7 @@ pub mod Spaces
 pub mod Legality
 pub mod AskKeeps
 pub mod AskLooks
+pub mod AnswerPlaces
 pub mod AnswerKeeps
 pub mod AnswerReplies
 pub mod AskBegins

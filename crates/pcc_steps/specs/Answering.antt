@@ -99,9 +99,13 @@ asks_notify a = asks_by (style_of a.wiring) a.header a.loaded
 abbrev pub done_stage : Answer → AnswerStage
 done_stage a = after_done (four_by (style_of a.wiring) a.wiring.has_bell) (asks_notify a)
 
+-- the update register was written: completion is set besides, where that is another register
+abbrev pub update_stage : Style → AnswerStage → AnswerStage
+update_stage Separate4 after = ReplyMarkLoad
+update_stage _ after = after
+
 abbrev pub after_update : Style → Answer → AnswerStage
-after_update Separate4 a = ReplyMarkLoad
-after_update _ a = done_stage a
+after_update s a = update_stage s (done_stage a)
 
 -- ---- what a step leaves
 
