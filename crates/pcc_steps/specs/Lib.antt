@@ -3,3 +3,4 @@ pub mod Runs
 pub mod Asking
 pub mod Answering
 pub mod Agree
+pub mod Lending

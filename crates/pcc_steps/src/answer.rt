@@ -8,6 +8,7 @@ ghost use Rattle.pcc_steps.specs.Wires.{IsRight, style_of, heads_of, block_of, s
 ghost use Rattle.pcc_steps.specs.Runs.{error_word};
 ghost use Rattle.pcc_steps.specs.Answering.{Answer, AnswerOk, IsNewAnswer, IsAnswerStepping, answer_next, answer_fed, answer_told, answer_begun, answer_ran, answer_code, served_at, after_ack, after_take, after_error, after_reply, after_close, after_done, done_stage, asks_notify, update_stage, AnswerPlace};
 ghost use Rattle.pcc_exec.specs.Execution.{is_bad};
+ghost use Rattle.pcc_steps.specs.Lending.{LendsSpace};
 
 use crate::ask::{rose, tells_error, update_place};
 use crate::wiring::{Action, Style, Wiring, place};
@@ -244,6 +245,15 @@ pub fn answer_feed(answer: &mut AnswerState, value: u64) -> Option<AnswerOutcome
         }
     }
     None
+}
+
+/// The space, in which the device finds its input and leaves its reply.
+pub fn answer_space(answer: &mut AnswerState) -> &mut [u8]
+    requires { answer.old.stage ≡ RunDevice }
+    ensures* writes_back { sem 𝓛 (LendsSpace answer.entry result) }
+    ensures value { result.now ≡ answer.old.space }
+{
+    answer.space.as_mut_slice()
 }
 
 /// Takes the device's status, once the device has left its reply in the space.
