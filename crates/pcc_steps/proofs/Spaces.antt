@@ -1,5 +1,6 @@
 -- Blocks, and the spaces that their words spell.
-use Rattle.std.proofs.Common.{◌≡◌, ℕ, ◌+◌, ◌*◌, ◌/◌, ◌%◌, ◌<◌, ◌≤◌, List, ◌++◌, length, take, drop, refl, sym, ap, ◌∙◌, subst, arith, length-take, length-drop}
+use Rattle.std.specs.Prelude.{slice_index}
+use Rattle.std.proofs.Common.{◌≡◌, ℕ, zero, suc, [], ◌∷◌, ◌+◌, ◌*◌, ◌/◌, ◌%◌, ◌<◌, ◌≤◌, List, ◌++◌, length, take, drop, refl, sym, ap, ◌∙◌, subst, arith, length-take, length-drop}
 use Rattle.std.proofs.lemmas.List.{length-append, take-append-drop}
 use Rattle.std.proofs.Math.Seq.{drop-append_seam, take-append_seam}
 use Rattle.shmem_header.proofs.Places.{length-words_of, bytes_of-words_of}
@@ -13,6 +14,11 @@ words_long s = length-words_of s
 
 pub bytes_again : (s : List ℕ) → IsBytes s → length s % 8 ≡ 0 → bytes_of (words_of s) ≡ s
 bytes_again s h e = let k : length s ≡ 8 * (length s / 8) = omega arith in bytes_of-words_of (length s / 8) s k h
+
+within : (a b : List ℕ) → ((place : ℕ) → slice_index a place < 256) → ((place : ℕ) → slice_index b place < 256) → (place : ℕ) → slice_index (a ++ b) place < 256
+within [] b f g place = g place
+within (x ∷ a) b f g zero = f zero
+within (x ∷ a) b f g (suc place) = within a b (λ place. f (suc place)) g place
 
 -- ---- header words, then others
 
@@ -42,3 +48,6 @@ mix_front k sent ws h = ap (λ (l : List ℕ). l ++ drop k sent) (same_front k s
 
 pub behind_heads : (k room : ℕ) → 8 ≤ room → k < k + room / 8
 behind_heads k room h = omega arith
+
+pub IsBytes-append : (a b : List ℕ) → IsBytes a → IsBytes b → IsBytes (a ++ b)
+IsBytes-append a b f g = record { fits = within a b f.fits g.fits }
