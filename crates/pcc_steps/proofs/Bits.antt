@@ -197,3 +197,6 @@ code_known Separate3 w code header sent id fits has carries = carries
 code_known Joined4 w code header sent id fits has carries = carries
 code_known Separate4 w code header sent id fits has carries = carries
 code_known Reduced5 w code header sent id fits has carries = carries
+
+pub unheaded : (w : Wiring) → style_of w ≢ Headed → 3 ≤ w.kind
+unheaded w other = high_kind w other

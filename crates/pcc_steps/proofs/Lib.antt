@@ -8,3 +8,5 @@ pub mod AnswerPlaces
 pub mod AnswerKeeps
 pub mod AnswerReplies
 pub mod AskBegins
+pub mod AnswerBegins
+pub mod Starts

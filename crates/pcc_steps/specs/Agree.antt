@@ -98,6 +98,9 @@ asker_stepped x = record x { m = ask_stepped x.m }
 abbrev pub asker_fed : Asker → ℕ → Asker
 asker_fed x v = asker_stepped (asker_fed_at x.m.stage x v)
 
+abbrev pub answerer_stepped : Answerer → Answerer
+answerer_stepped y = record y { m = answer_stepped y.m }
+
 module _ (exec : Device) where
   -- the device executes a command as soon as its block is loaded
   abbrev pub executed : Executed → Answerer → Answerer
@@ -113,9 +116,6 @@ module _ (exec : Device) where
   -- the answering end after a step that found this value
   abbrev pub answerer_fed_at : AnswerStage → Answerer → ℕ → Answerer
   answerer_fed_at st y v = settle (record y { m = answer_fed_at st y.m v })
-
-  abbrev pub answerer_stepped : Answerer → Answerer
-  answerer_stepped y = record y { m = answer_stepped y.m }
 
   abbrev pub answerer_fed : Answerer → ℕ → Answerer
   answerer_fed y v = answerer_stepped (answerer_fed_at y.m.stage y v)
