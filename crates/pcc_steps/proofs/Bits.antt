@@ -11,7 +11,7 @@ use Rattle.std.proofs.lemmas.Nat.{and_or_self}
 use Rattle.pcc_steps.specs.declared.wiring.Wiring.{Wiring}
 use Rattle.pcc_steps.specs.declared.wiring.Style.{Style}
 use Rattle.pcc_steps.specs.declared.wiring.Style.TheVariants.{Headed, Joined3, Separate3, Joined4, Separate4, Reduced5}
-use Rattle.shmem_header.specs.Bits.{IsCommand, code_in, is_set, with_status}
+use Rattle.shmem_header.specs.HeaderBits.{IsCommand, code_in, is_set, with_status}
 use Rattle.shmem_header.proofs.Commands.{code_in-header_word, is_set-header_word_complete, is_set-header_word_error, with_status-header_word}
 use Rattle.pcc_steps.specs.Wires.{sent_header, status_of, meets, is_complete, tells_by, header_error, without, masked_by, style_by, style_of, IsRight, code_by}
 use Rattle.pcc_steps.specs.Runs.{error_word}

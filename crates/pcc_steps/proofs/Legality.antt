@@ -1,9 +1,10 @@
 -- Histories that grow at their end.
 use Rattle.std.proofs.Common.{◌≡◌, ℕ, Bool, List, [], ◌∷◌, ◌++◌, refl, sym, ap, subst}
+use Rattle.pcc_exec.specs.Execution.{IsSpace}
 use Rattle.pcc_history.specs.Devices.{Device}
 use Rattle.pcc_history.specs.Channel.{Exchange, both, exchange_of}
 use Rattle.pcc_history.specs.Histories.{Legal, state_after}
-use Rattle.pcc_steps.specs.Agree.{IsSpace, HasRoom}
+use Rattle.pcc_steps.specs.Agree.{HasRoom}
 
 pub legal_more : (exec : Device) (r : Bool) (d : List ℕ) (h : List Exchange) (code : ℕ) (input : List ℕ) → Legal exec r d h → Legal exec r d (h ++ exchange_of exec r (state_after exec d h) code input ∷ [])
 legal_more exec r d [] code input l = (refl, refl, tt)

@@ -10,3 +10,4 @@ pub mod AnswerReplies
 pub mod AskBegins
 pub mod AnswerBegins
 pub mod Starts
+pub mod Agreement

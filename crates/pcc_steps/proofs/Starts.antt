@@ -5,7 +5,7 @@ use Rattle.std.specs.Int.Bits.{and_self}
 use Rattle.pcc_bytes.specs.Bytes.{IsBytes}
 use Rattle.pcc_history.specs.Devices.{Device}
 use Rattle.pcc_history.specs.Channel.{Exchange}
-use Rattle.shmem_header.specs.Bits.{is_set, header_word}
+use Rattle.shmem_header.specs.HeaderBits.{is_set, header_word}
 use Rattle.shmem_header.specs.Layout.{signature_of}
 use Rattle.shmem_header.proofs.Commands.{is_set-header_word_complete, signature_of-add}
 use Rattle.shmem_header.specs.Spelling.{words_of}

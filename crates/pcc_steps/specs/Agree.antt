@@ -1,6 +1,7 @@
 -- What the words and the two ends of a channel have to do with one another between any two word steps.
 use Rattle.std.specs.Prelude.{◌≡◌, ◌⊎◌, ℕ, ◌+◌, ◌/◌, ◌^◌, ◌<◌, Bool, true, false, List, [], ◌∷◌, ◌++◌, length, get_or, set, take, drop, Option, Some, None}
 use Rattle.pcc_bytes.specs.Bytes.{IsBytes}
+use Rattle.pcc_exec.specs.Execution.{IsSpace}
 use Rattle.pcc_history.specs.Devices.{Device, Executed}
 use Rattle.pcc_history.specs.Channel.{Exchange, both, exchange_of}
 use Rattle.pcc_history.specs.Histories.{Legal, state_after}
@@ -15,7 +16,7 @@ use Rattle.pcc_steps.specs.declared.ask.AskOutcome.{AskOutcome}
 use Rattle.pcc_steps.specs.declared.ask.AskOutcome.TheVariants.{Posted, Clear, Drained}
 use Rattle.pcc_steps.specs.declared.answer.AnswerStage.{AnswerStage}
 use Rattle.pcc_steps.specs.declared.answer.AnswerStage.TheVariants.{AnswerRest, TakeLine, TakeAckLoad, TakeAckStore, TakeHeader, TakeBlock, RunDevice, ReplyBlock, ReplyError, ReplyHeader, ReplyUpdateLoad, ReplyUpdateStore, ReplyMarkLoad, ReplyMarkStore, CloseBellLoad, CloseBellStore, CloseLine}
-use Rattle.shmem_header.specs.Bits.{command_in}
+use Rattle.shmem_header.specs.HeaderBits.{command_in}
 use Rattle.shmem_header.specs.Spelling.{words_of}
 use Rattle.pcc_steps.specs.Wires.{style_of, heads_of, block_of, sent_header, status_of, meets, is_complete}
 use Rattle.pcc_steps.specs.Asking.{Ask, AskOk, ask_fed_at, ask_told_at, ask_stepped}
@@ -315,11 +316,6 @@ abbrev pub Carries : Style → ℕ → List ℕ → Type 0
 Carries Headed code block = Unit {0}
 Carries Reduced5 code block = command_in (get_or block 0 0) ≡ code
 Carries _ code block = command_in (get_or block 1 0) ≡ code
-
--- a communication space: so many bytes
-pub record IsSpace (room : ℕ) (bytes : List ℕ) : Type 0 where
-  pub long : length bytes ≡ room
-  pub fits : IsBytes bytes
 
 -- every space of the history has the room
 abbrev pub HasRoom : ℕ → List Exchange → Type 0

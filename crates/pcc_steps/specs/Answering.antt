@@ -11,7 +11,7 @@ use Rattle.pcc_steps.specs.declared.answer.AnswerStage.TheVariants.{AnswerRest, 
 use Rattle.pcc_steps.specs.declared.answer.AnswerOutcome.{AnswerOutcome}
 use Rattle.pcc_steps.specs.declared.answer.AnswerOutcome.TheVariants.{Idle, Served}
 use Rattle.pcc_exec.specs.Execution.{is_bad}
-use Rattle.shmem_header.specs.Bits.{with_status}
+use Rattle.shmem_header.specs.HeaderBits.{with_status}
 use Rattle.shmem_header.specs.Spelling.{words_of, bytes_of}
 use Rattle.pcc_steps.specs.Wires.{style_of, heads_of, block_of, IsRight, status_of, tells_error, code_by, asks_by, four_by, masked_by, update_place}
 use Rattle.pcc_steps.specs.Runs.{error_word}

@@ -4,3 +4,4 @@ pub mod Asking
 pub mod Answering
 pub mod Agree
 pub mod Lending
+pub mod Laws

@@ -6,7 +6,7 @@ use Rattle.pcc_steps.specs.declared.wiring.Wiring.{Wiring}
 use Rattle.pcc_steps.specs.declared.wiring.Style.{Style}
 use Rattle.pcc_steps.specs.declared.wiring.Style.TheVariants.{Headed, Joined3, Separate3, Joined4, Separate4, Reduced5}
 use Rattle.pcc_steps.specs.Wires.{style_of, heads_of, block_of, sent_header, status_of, meets, sees_done, tells_error, header_error, code_by, asks_by, acknowledges, four_by, masked_by, without, update_place}
-use Rattle.shmem_header.specs.Bits.{with_status}
+use Rattle.shmem_header.specs.HeaderBits.{with_status}
 use Rattle.shmem_header.specs.Spelling.{words_of, bytes_of}
 
 -- what a run does from some point on, by the words that it finds
