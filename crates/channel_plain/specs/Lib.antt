@@ -1,0 +1,5 @@
+pub mod TraceText
+pub mod Picks
+pub mod WordRuns
+pub mod WorkedPicks
+pub mod Holding

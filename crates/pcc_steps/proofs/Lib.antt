@@ -1,0 +1,13 @@
+pub mod Lists
+pub mod Bits
+pub mod Spaces
+pub mod Legality
+pub mod AskKeeps
+pub mod AskLooks
+pub mod AnswerPlaces
+pub mod AnswerKeeps
+pub mod AnswerReplies
+pub mod AskBegins
+pub mod AnswerBegins
+pub mod Starts
+pub mod Agreement

@@ -1,0 +1,55 @@
+-- What the word steps of both ends keep, from any state that has the relation.
+use Rattle.std.specs.Prelude.{◌≡◌, ◌⊎◌, ℕ, ◌≤◌, ◌<◌, ◌^◌, Bool, true, false, List, [], ◌∷◌, ◌++◌, length}
+use Rattle.pcc_bytes.specs.Bytes.{IsBytes}
+use Rattle.pcc_history.specs.Devices.{Device}
+use Rattle.pcc_history.specs.Channel.{Exchange}
+use Rattle.pcc_history.specs.Histories.{Legal, state_after}
+use Rattle.shmem_header.specs.Spelling.{words_of}
+use Rattle.pcc_exec.specs.Execution.{IsSpace, Leaves}
+use Rattle.pcc_steps.specs.declared.wiring.Wiring.{Wiring}
+use Rattle.pcc_steps.specs.declared.ask.AskStage.TheVariants.{AskRest}
+use Rattle.pcc_steps.specs.declared.answer.AnswerStage.TheVariants.{AnswerRest, RunDevice}
+use Rattle.pcc_steps.specs.Wires.{style_of, opening_words}
+use Rattle.pcc_steps.specs.Asking.{Ask, AskOk, IsNewAsk, CodeFits, ask_next, ask_begun, ask_looking, ask_budgeted}
+use Rattle.pcc_steps.specs.Answering.{Answer, AnswerOk, IsNewAnswer, answer_next, answer_begun}
+use Rattle.pcc_steps.specs.Agree.{act, Finds, Asker, Answerer, asker_fed, answerer_fed, Agree}
+
+-- two new machines, over the opening content
+abbrev pub StartsAgreed : Type 0
+StartsAgreed = (exec : Device) (start : List ℕ) (w : Wiring) (opening : List ℕ) (a : Ask) (b : Answer) → IsNewAsk a w opening → IsNewAnswer b w → AskOk a → AnswerOk b → IsBytes opening
+    → Agree exec start (opening_words w (words_of opening)) (record { m = a; done = []; clears = 0 }) (record { m = b; device = start; done = [] })
+
+-- a word step of the asking end, whatever it finds in its word
+abbrev pub AskStepAgrees : Type 0
+AskStepAgrees = (exec : Device) (start ws : List ℕ) (x : Asker) (y : Answerer) (v : ℕ) → Agree exec start ws x y → Finds (ask_next x.m) ws v → v < 2 ^ 64 → Agree exec start (act (ask_next x.m) ws) (asker_fed x v) y
+
+-- a post is begun
+abbrev pub PostBeginAgrees : Type 0
+PostBeginAgrees = (exec : Device) (start ws : List ℕ) (x : Asker) (y : Answerer) (code : ℕ) (bytes : List ℕ) → x.m.stage ≡ AskRest → x.m.in_flight ≡ false → length bytes ≤ x.m.wiring.room → x.m.posts < 4096 → CodeFits (style_of x.m.wiring) code → IsBytes bytes
+    → Agree exec start ws x y → Agree exec start ws (record x { m = ask_begun x.m code bytes }) y
+
+-- a look is begun
+abbrev pub LookBeginAgrees : Type 0
+LookBeginAgrees = (exec : Device) (start ws : List ℕ) (x : Asker) (y : Answerer) → x.m.stage ≡ AskRest → x.m.in_flight ≡ true → x.m.looks < x.m.budget
+    → Agree exec start ws x y → Agree exec start ws (record x { m = ask_looking x.m }) y
+
+-- a budget is set
+abbrev pub BudgetAgrees : Type 0
+BudgetAgrees = (exec : Device) (start ws : List ℕ) (x : Asker) (y : Answerer) (polls : ℕ) → x.m.stage ≡ AskRest → Agree exec start ws x y → Agree exec start ws (record x { m = ask_budgeted x.m polls }) y
+
+-- an answering run is begun
+abbrev pub AnswerBeginAgrees : Type 0
+AnswerBeginAgrees = (exec : Device) (start ws : List ℕ) (x : Asker) (y : Answerer) → y.m.stage ≡ AnswerRest → Agree exec start ws x y → Agree exec start ws x (record y { m = answer_begun y.m })
+
+-- a word step of the answering end, whatever it finds in its word; the step that loads the last word of the block executes too
+abbrev pub AnswerStepAgrees : Device → (List ℕ → Type 0) → (List ℕ → ℕ) → Type 0
+AnswerStepAgrees exec is_state room_of = (start ws : List ℕ) (x : Asker) (y : Answerer) (v : ℕ) → is_state start → room_of start ≡ x.m.wiring.room
+    → Agree exec start ws x y → Finds (answer_next y.m) ws v → v < 2 ^ 64 → Agree exec start (act (answer_next y.m) ws) x (answerer_fed exec y v)
+
+-- the device stays in a state that it can be in, for the same room
+abbrev pub DeviceStays : Device → (List ℕ → Type 0) → (List ℕ → ℕ) → Type 0
+DeviceStays exec is_state room_of = (start ws : List ℕ) (x : Asker) (y : Answerer) → is_state start → room_of start ≡ x.m.wiring.room → Agree exec start ws x y → is_state y.device × (room_of y.device ≡ x.m.wiring.room)
+
+-- the asking end's history is the answering end's, or all of it but the last exchange; the answering end's is legal
+abbrev pub HistoriesAgree : Type 0
+HistoriesAgree = (exec : Device) (start ws : List ℕ) (x : Asker) (y : Answerer) → Agree exec start ws x y → ((y.done ≡ x.done) ⊎ ((e : Exchange) × (y.done ≡ x.done ++ e ∷ []))) × Legal exec x.m.wiring.reports start y.done × (y.device ≡ state_after exec start y.done)
