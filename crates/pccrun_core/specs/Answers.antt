@@ -19,6 +19,7 @@ use Rattle.pccrun_core.specs.SetUp.{IsServedTable, run_of, step_text}
 -- the word of a command
 abbrev pub word_of : Command → List ℕ
 word_of command.Step = codes "step"
+word_of command.Weave = codes "weave"
 word_of command.Show = codes "show"
 word_of command.Build = codes "build"
 
@@ -49,8 +50,8 @@ pub record ReadMore (left left' : Option (List ℕ)) : Type 0 where
 -- ---- what is made of it
 
 -- a script and its table, which are served
-pub record IsServedScript (input : List ℕ) (s : Scenario) (t : Table) : Type 0 where
-  pub script : IsScript input s
+pub record IsServedScript (c : Command) (input : List ℕ) (s : Scenario) (t : Table) : Type 0 where
+  pub script : IsScript c input s
   pub table : TableBytes s.table t
   pub served : IsServedTable t
 
@@ -62,13 +63,15 @@ pub record IsTextOf (t : Table) (text : List ℕ) : Type 0 where
 -- What a command makes of its whole input: of a served script its run, whose journals are histories; of the bytes of a table its
 -- text; of the text of a table its bytes.
 abbrev pub Makes : Command → List ℕ → List ℕ → Type 0
-Makes command.Step input text = (s : Scenario) × (t : Table) × IsServedScript input s t × AreHistories s.actions (run_of s t) × (text ≡ step_text s t)
+Makes command.Step input text = (s : Scenario) × (t : Table) × IsServedScript command.Step input s t × AreHistories s.actions (run_of s t) × (text ≡ step_text s t)
+Makes command.Weave input text = (s : Scenario) × (t : Table) × IsServedScript command.Weave input s t × IsWoven s t text
 Makes command.Show input text = (t : Table) × TableBytes input t × (text ≡ show_text t)
 Makes command.Build input bytes = (t : Table) × (input ≡ show_text t) × IsBytes bytes × TableBytes bytes t
 
 -- a command makes something of this input
 abbrev pub IsMade : Command → List ℕ → Type 0
-IsMade command.Step input = (s : Scenario) × (t : Table) × IsServedScript input s t
+IsMade command.Step input = (s : Scenario) × (t : Table) × IsServedScript command.Step input s t
+IsMade command.Weave input = (s : Scenario) × (t : Table) × IsServedScript command.Weave input s t
 IsMade command.Show input = (t : Table) × TableBytes input t
 IsMade command.Build input = (t : Table) × IsTextOf t input
 

@@ -3,6 +3,7 @@ pub mod StepRun
 pub mod Histories
 pub mod ReplyText
 pub mod BankChannels
+pub mod Wirings
 pub mod SetUp
 pub mod Refusals
 pub mod Answers

@@ -18,7 +18,7 @@ use Rattle.pccrun_core.specs.declared.refusal.CommandError.{CommandError}
 use Rattle.pccrun_core.specs.declared.refusal.CommandError.TheVariants as error
 use Rattle.pccrun_core.specs.declared.refusal.Refusal.{Refusal}
 use Rattle.pccrun_core.specs.declared.refusal.Refusal.TheVariants as refusal
-use Rattle.pccrun_core.specs.SetUp.{IsPromptScript, IsServedTable}
+use Rattle.pccrun_core.specs.SetUp.{HasPicks, IsPromptScript, IsServedTable}
 
 -- ---- the line
 
@@ -74,21 +74,23 @@ pub data TableRefused (bytes : List ℕ) : Refusal → Type 0 where
 pub data TextRefused (text : List ℕ) : Refusal → Type 0 where
   WrongLine : ((t : Table) → HasText t → text ≡ show_text t → ⊥) → (line : ℕ) → (wrong : BuildKind) → TextWrong text line wrong → TextRefused text (refusal.Line line wrong)
 
--- a text spells a scenario that is served as far as its table allows
-pub record IsScript (text : List ℕ) (s : Scenario) : Type 0 where
+-- a text spells a scenario that a command serves as far as its table allows
+pub record IsScript (c : Command) (text : List ℕ) (s : Scenario) : Type 0 where
   pub spelled : text ≡ script_text s
   pub scenario : IsScenario s
   pub prompt : IsPromptScript s
+  pub picks : HasPicks c s.picks
 
 -- a text is that of no such scenario, or its table is refused, or its first structure isn't served so far
-pub data ScriptRefused (text : List ℕ) : Refusal → Type 0 where
-  NoScript : ((s : Scenario) → IsScript text s → ⊥) → ScriptRefused text refusal.Unbuilt
-  NoTable : (s : Scenario) → IsScript text s → (r : Refusal) → TableRefused s.table r → ScriptRefused text r
-  NotServed : (s : Scenario) → IsScript text s → (t : Table) → TableBytes s.table t → (IsServedTable t → ⊥) → ScriptRefused text refusal.Unbuilt
+pub data ScriptRefused (c : Command) (text : List ℕ) : Refusal → Type 0 where
+  NoScript : ((s : Scenario) → IsScript c text s → ⊥) → ScriptRefused c text refusal.Unbuilt
+  NoTable : (s : Scenario) → IsScript c text s → (r : Refusal) → TableRefused s.table r → ScriptRefused c text r
+  NotServed : (s : Scenario) → IsScript c text s → (t : Table) → TableBytes s.table t → (IsServedTable t → ⊥) → ScriptRefused c text refusal.Unbuilt
 
 -- what a command refuses its whole input for
 abbrev pub Refuses : Command → List ℕ → Refusal → Type 0
-Refuses command.Step text r = ScriptRefused text r
+Refuses command.Step text r = ScriptRefused command.Step text r
+Refuses command.Weave text r = ScriptRefused command.Weave text r
 Refuses command.Show bytes r = TableRefused bytes r
 Refuses command.Build text r = TextRefused text r
 

@@ -1,29 +1,24 @@
 -- What a script opens, and what `step` prints for it.
-use Rattle.std.specs.Prelude.{◌≡◌, ◌≤◌, ◌⊎◌, ℕ, ◌+◌, ◌-◌, ◌*◌, ◌/◌, min, true, false, List, [], ◌∷◌, ◌++◌, length, Option, Some, None, slice_get}
+use Rattle.std.specs.Prelude.{◌≡◌, ℕ, ◌+◌, true, false, List, [], ◌∷◌, ◌++◌, length, Option, Some, None, slice_get}
 use Rattle.std.specs.List.{AllByRecursion, flat_map}
-use Rattle.pcc_gas.specs.declared.address.Gas.{Gas}
 use Rattle.pcct_table.specs.declared.subspace.Subspace.{Subspace}
 use Rattle.pcct_table.specs.declared.table.Table.{Table}
-use Rattle.pcct_table.specs.Subspaces.{doorbell_of, kind_of, memory_len_of, rate_of, turnaround_of}
+use Rattle.pcct_table.specs.Subspaces.{kind_of, memory_len_of, rate_of, turnaround_of}
 use Rattle.pcc_journal.specs.declared.text.JournalHead.{JournalHead}
 use Rattle.pcc_journal.specs.JournalText.{journal_text}
 use Rattle.pcc_script.specs.declared.scenario.Device.TheVariants.{Bank}
 use Rattle.pcc_script.specs.declared.scenario.Line.{Line}
 use Rattle.pcc_script.specs.declared.scenario.Line.TheVariants as line
 use Rattle.pcc_script.specs.declared.scenario.Scenario.{Scenario}
+use Rattle.pcc_script.specs.declared.scenario.Letter.{Letter}
+use Rattle.pccrun_core.specs.declared.command.Command.{Command}
+use Rattle.pccrun_core.specs.declared.command.Command.TheVariants as command
 use Rattle.pccrun_core.specs.BankChannels.{bank_start}
 use Rattle.pccrun_core.specs.ReplyText.{replies_text}
 use Rattle.pccrun_core.specs.StepRun.{Channel, Run, ScriptClock, fresh, pending_of, step_run}
+use Rattle.pccrun_core.specs.Wirings.{IsServed, room_of}
 
 -- ---- the opened subspaces
-
--- a communication space has so many bytes at most
-abbrev pub room_limit : ℕ
-room_limit = 4096
-
--- the words of 8 bytes behind the header of 8 in a shared memory of this length (ACPI 6.5, 14.2)
-abbrev pub room_of : ℕ → ℕ
-room_of len = min room_limit ((len - 8) / 8 * 8)
 
 -- the head of the journal of a structure with this ID, of the types 0 to 2
 abbrev pub head_of : ℕ → Subspace → JournalHead
@@ -80,23 +75,13 @@ pub record IsPromptScript (s : Scenario) : Type 0 where
   pub cpus : s.cpus ≡ []
   pub caps : s.caps ≡ []
   pub actions : AllByRecursion IsPromptCall s.actions
-  pub picks : s.picks ≡ None
 
--- the shared memory has room for its header of 8 bytes and for one word of 8 (14.2)
-abbrev pub least_memory : ℕ
-least_memory = 16
-
--- a register in memory or I/O that begins at bit 0 and is 8, 16, 32 or 64 bits wide (5.2.3.2)
-pub record IsDoorbell (gas : Gas) : Type 0 where
-  pub reachable : (gas.space ≡ 0) ⊎ (gas.space ≡ 1)
-  pub whole : (gas.width ≡ 8) ⊎ (gas.width ≡ 16) ⊎ (gas.width ≡ 32) ⊎ (gas.width ≡ 64)
-  pub from_start : gas.offset ≡ 0
-
--- a structure of type 0 with such a memory and such a doorbell
-pub record IsServed (s : Subspace) : Type 0 where
-  pub generic : kind_of s ≡ 0
-  pub room : least_memory ≤ memory_len_of s
-  pub doorbell : IsDoorbell (doorbell_of s)
+-- `weave` takes the letters of the script, and no other command has some
+abbrev pub HasPicks : Command → Option (List Letter) → Type 0
+HasPicks command.Weave (Some letters) = Unit {0}
+HasPicks command.Weave None = ⊥
+HasPicks _ (Some letters) = ⊥
+HasPicks _ None = Unit {0}
 
 -- the first structure of a table is served
 abbrev pub IsServedTable : Table → Type 0

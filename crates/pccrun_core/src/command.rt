@@ -11,6 +11,8 @@ use pcc_text::is_text;
 pub enum Command {
     /// Runs a script in one thread.
     Step,
+    /// Runs both ends of a channel at single word steps.
+    Weave,
     /// Prints the text of a table.
     Show,
     /// Makes the bytes of a table from its text.
@@ -23,6 +25,8 @@ fn command_named(word: &[u8]) -> Option<Command>
 {
     if is_text(word, b"step") {
         Some(Command::Step)
+    } else if is_text(word, b"weave") {
+        Some(Command::Weave)
     } else if is_text(word, b"show") {
         Some(Command::Show)
     } else if is_text(word, b"build") {

@@ -5,10 +5,13 @@ mod channel;
 mod command;
 mod refusal;
 mod reply;
+mod script;
 mod served;
 mod step;
 mod tables;
 mod top;
+mod weave;
+mod wiring;
 mod worked;
 
 pub use top::{Finished, run};

@@ -1,14 +1,12 @@
 //! Whether a script and the structure that it opens are ones that the program serves so far.
 ghost use Rattle.std.specs.Prelude.{◌≡◌, ◌↔◌, ◌∷◌, [], IsTrue, MatchOption, Some, slice_get};
 ghost use Rattle.std.specs.List.{AllByRecursion};
-ghost use Rattle.pccrun_core.specs.SetUp.{IsDoorbell, IsPromptCall, IsPromptScript, IsServed, IsServedTable};
+ghost use Rattle.pccrun_core.specs.SetUp.{IsPromptCall, IsPromptScript, IsServedTable};
+ghost use Rattle.pccrun_core.specs.Wirings.{IsServed};
 
-use pcc_gas::Gas;
+use crate::wiring::is_served;
 use pcc_script::{Actions, Device, Line, Opens, Scenario};
 use pcct_table::{Subspace, Table};
-
-/// The least shared memory, in bytes: its header and one word.
-const LEAST_MEMORY: u64 = 16;
 
 // Whether one Bank is opened, on subspace 0.
 fn opens_one_bank(opens: &Opens) -> bool
@@ -44,24 +42,9 @@ pub fn is_prompt_script(scenario: &Scenario) -> bool
     ensures { IsTrue result ↔ IsPromptScript scenario.now }
 {
     opens_one_bank(&scenario.opens)
-        && scenario.picks.is_none()
         && scenario.cpus.len() == 0
         && scenario.caps.len() == 0
         && are_prompt_calls(&scenario.actions)
-}
-
-fn is_doorbell(gas: Gas) -> bool
-    ensures { IsTrue result ↔ IsDoorbell gas }
-{
-    matches!(gas.space, 0 | 1) && matches!(gas.width, 8 | 16 | 32 | 64) && gas.offset == 0
-}
-
-fn is_served(subspace: &Subspace) -> bool
-    ensures { IsTrue result ↔ IsServed subspace.now }
-{
-    subspace.kind() == 0
-        && subspace.memory_len() >= LEAST_MEMORY
-        && is_doorbell(subspace.doorbell())
 }
 
 /// The first structure of a table, where it is served.

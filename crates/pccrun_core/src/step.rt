@@ -7,24 +7,20 @@ ghost use Rattle.pccrun_core.specs.Answers.{Makes, input_limit};
 ghost use Rattle.pccrun_core.specs.BankChannels.{channel_of};
 ghost use Rattle.pccrun_core.specs.ReplyText.{replies_text};
 ghost use Rattle.pccrun_core.specs.StepRun.{step_run, turn_of};
-ghost use Rattle.pccrun_core.specs.Refusals.{IsRefusedFor, IsScript, Refuses, ScriptRefused};
-ghost use Rattle.pccrun_core.specs.SetUp.{IsPromptCall, IsPromptScript, IsServed, head_of, room_limit, room_of, step_text};
+ghost use Rattle.pccrun_core.specs.Refusals.{IsRefusedFor, Refuses};
+ghost use Rattle.pccrun_core.specs.SetUp.{IsPromptCall, IsPromptScript, step_text};
+ghost use Rattle.pccrun_core.specs.Wirings.{IsServed};
 
 use crate::channel::BankChannel;
 use crate::command::Command;
-use crate::refusal::{CommandError, Refusal};
+use crate::refusal::CommandError;
 use crate::reply::put_reply;
-use crate::served::{is_prompt_script, served_subspace};
-use crate::tables::whole_table;
+use crate::script::{head_for, served_script};
 use pcc_io::NoMemory;
-use pcc_journal::{JournalHead, put_journal};
-use pcc_script::{Actions, Line, Scenario, ScriptError, scenario_from, within_limits};
+use pcc_journal::put_journal;
+use pcc_script::{Actions, Line, Scenario};
 use pcct_table::Subspace;
-use rate_limit::Limits;
 use std::alloc::Global;
-
-/// How many bytes a communication space has at most.
-const ROOM_LIMIT: u64 = 4096;
 
 /// The line of the first action in a served script, behind a `table`, a `clock` and an `open` line.
 const FIRST_ACTION: u64 = 4;
@@ -86,36 +82,6 @@ fn run_lines(
     Ok(())
 }
 
-// The bytes of the communication space in a shared memory of this length.
-fn room_for(len: u64) -> u32
-    ensures room { result ≡ room_of len }
-    ensures small { result ≤ room_limit }
-{
-    let words = len.saturating_sub(8) / 8 * 8;
-    if words < ROOM_LIMIT {
-        words as u32
-    } else {
-        ROOM_LIMIT as u32
-    }
-}
-
-// The head of the journal of the subspace that a served script opens.
-fn head_for(subspace: &Subspace) -> JournalHead
-    ensures { result ≡ head_of 0 subspace.now }
-{
-    JournalHead {
-        id: 0,
-        kind: subspace.kind(),
-        cppc: false,
-        room: room_for(subspace.memory_len()),
-        limits: Limits {
-            turnaround: subspace.turnaround(),
-            per_minute: subspace.rate(),
-        },
-        reports: true,
-    }
-}
-
 // The text of `step` for a script and the first structure of its table, which are served.
 #[tactic(auto, unfolding(crate::specs::SetUp::step_text))]
 fn run_text(alloc: Global, scenario: &Scenario, subspace: &Subspace) -> Result<Vec<u8>, NoMemory>
@@ -132,34 +98,13 @@ fn run_text(alloc: Global, scenario: &Scenario, subspace: &Subspace) -> Result<V
     Ok(out)
 }
 
-// The scenario that a text spells, where it is served as far as its table allows.
-fn script_of(alloc: Global, text: &[u8]) -> Result<Scenario, CommandError>
-    requires { length text.now ≤ input_limit }
-    ensures { MatchResult result (λ s. IsScript text.now s × IsWithin s) (IsRefusedFor (ScriptRefused text.now)) }
-{
-    within_limits();
-    match scenario_from(alloc, text) {
-        Ok(scenario) => {
-            if is_prompt_script(&scenario) {
-                Ok(scenario)
-            } else {
-                Err(CommandError::Refused(Refusal::Unbuilt))
-            }
-        }
-        Err(ScriptError::NoMemory) => Err(CommandError::NoMemory),
-        Err(ScriptError::Fault { .. }) => Err(CommandError::Refused(Refusal::Unbuilt)),
-    }
-}
-
 /// The replies and the journal of the script that a text spells.
 pub fn step(alloc: Global, text: &[u8]) -> Result<Vec<u8>, CommandError>
     requires { length text.now ≤ input_limit }
     ensures { MatchResult result (λ v. Makes Command.Step text.now v.items) (IsRefusedFor (Refuses Command.Step text.now)) }
 {
-    let scenario = script_of(alloc, text)?;
-    let table = whole_table(alloc, scenario.table.as_slice())?;
-    match served_subspace(&table) {
-        Some(subspace) => Ok(run_text(alloc, &scenario, &subspace)?),
-        None => Err(CommandError::Refused(Refusal::Unbuilt)),
+    match served_script(alloc, Command::Step, text) {
+        Ok(served) => Ok(run_text(alloc, &served.scenario, &served.subspace)?),
+        Err(error) => Err(error),
     }
 }

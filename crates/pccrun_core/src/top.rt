@@ -13,6 +13,7 @@ use crate::command::{Command, command_of, usage};
 use crate::refusal::{CommandError, Refusal, refused_line};
 use crate::step::step;
 use crate::tables::{build, show};
+use crate::weave::weave;
 use pcc_io::{NoMemory, ReadEnd, Sink, Source, WriteFault, read_to_end, write_whole};
 use std::alloc::Global;
 
@@ -73,6 +74,7 @@ fn made(alloc: Global, command: Command, input: &[u8]) -> Result<Vec<u8>, Comman
 {
     match command {
         Command::Step => step(alloc, input),
+        Command::Weave => weave(alloc, input),
         Command::Show => show(alloc, input),
         Command::Build => build(alloc, input),
     }

@@ -1,0 +1,91 @@
+//! A script with its table, as far as `step` and `weave` serve it.
+ghost use Rattle.std.specs.Prelude.{◌≡◌, ◌≤◌, ◌↔◌, Some, IsTrue, length, slice_get, IfOk, MatchResult};
+ghost use Rattle.pcc_script.specs.Limits.{IsWithin};
+ghost use Rattle.pccrun_core.specs.Answers.{IsServedScript, input_limit};
+ghost use Rattle.pccrun_core.specs.Refusals.{IsRefusedFor, IsScript, ScriptRefused};
+ghost use Rattle.pccrun_core.specs.SetUp.{HasPicks, head_of};
+ghost use Rattle.pccrun_core.specs.Wirings.{IsServed};
+
+use crate::command::Command;
+use crate::refusal::{CommandError, Refusal};
+use crate::served::{is_prompt_script, served_subspace};
+use crate::tables::whole_table;
+use crate::wiring::room_for;
+use pcc_journal::JournalHead;
+use pcc_script::{Scenario, ScriptError, scenario_from, within_limits};
+use pcct_table::{Subspace, Table};
+use rate_limit::Limits;
+use std::alloc::Global;
+
+/// A script that is served, its table, and the structure that it opens, the table's first.
+#[derive(Drop)]
+pub struct Served {
+    pub scenario: Scenario,
+    pub table: Table,
+    pub subspace: Subspace,
+}
+
+/// The head of the journal of the subspace that a served script opens.
+pub fn head_for(subspace: &Subspace) -> JournalHead
+    ensures { result ≡ head_of 0 subspace.now }
+{
+    JournalHead {
+        id: 0,
+        kind: subspace.kind(),
+        cppc: false,
+        room: room_for(subspace.memory_len()),
+        limits: Limits {
+            turnaround: subspace.turnaround(),
+            per_minute: subspace.rate(),
+        },
+        reports: true,
+    }
+}
+
+// Whether a script has letters exactly where the command takes them.
+fn has_picks(command: Command, scenario: &Scenario) -> bool
+    ensures { IsTrue result ↔ HasPicks command scenario.now.picks }
+{
+    match command {
+        Command::Weave => scenario.picks.is_some(),
+        _ => scenario.picks.is_none(),
+    }
+}
+
+// The scenario that a text spells, where the command serves it as far as its table allows.
+fn script_of(alloc: Global, command: Command, text: &[u8]) -> Result<Scenario, CommandError>
+    requires { length text.now ≤ input_limit }
+    ensures { MatchResult result (λ s. IsScript command text.now s × IsWithin s) (IsRefusedFor (ScriptRefused command text.now)) }
+{
+    within_limits();
+    match scenario_from(alloc, text) {
+        Ok(scenario) => {
+            if is_prompt_script(&scenario) && has_picks(command, &scenario) {
+                Ok(scenario)
+            } else {
+                Err(CommandError::Refused(Refusal::Unbuilt))
+            }
+        }
+        Err(ScriptError::NoMemory) => Err(CommandError::NoMemory),
+        Err(ScriptError::Fault { .. }) => Err(CommandError::Refused(Refusal::Unbuilt)),
+    }
+}
+
+/// The script that a text spells, where the command serves it.
+pub fn served_script(alloc: Global, command: Command, text: &[u8]) -> Result<Served, CommandError>
+    requires { length text.now ≤ input_limit }
+    ensures script { MatchResult result (λ x. IsServedScript command text.now x.scenario x.table) (IsRefusedFor (ScriptRefused command text.now)) }
+    ensures first { IfOk result (λ x. (slice_get x.table.subspaces 0 ≡ Some x.subspace) × IsServed x.subspace) }
+    ensures within { IfOk result (λ x. IsWithin x.scenario) }
+{
+    let scenario = script_of(alloc, command, text)?;
+    let table = whole_table(alloc, scenario.table.as_slice())?;
+    match served_subspace(&table) {
+        Some(subspace) => Ok(Served {
+            scenario,
+            table,
+            subspace,
+        }),
+        None => Err(CommandError::Refused(Refusal::Unbuilt)),
+    }
+}

@@ -1,0 +1,116 @@
+//! The command `weave`: both ends of one channel take turns at single word steps, in the order that the letters of the script give.
+ghost use Rattle.std.specs.Prelude.{◌≡◌, Some, IfOk, MatchResult, map, slice_get, length, ◌≤◌};
+ghost use Rattle.std.specs.List.{AllByRecursion};
+ghost use Rattle.pcc_script.specs.Limits.{IsAction, IsWithin};
+ghost use Rattle.pcct_table.specs.declared.table.Table.{Table};
+ghost use Rattle.pccrun_core.specs.Answers.{Makes, input_limit};
+ghost use Rattle.pccrun_core.specs.Refusals.{IsRefusedFor, Refuses};
+ghost use Rattle.pccrun_core.specs.SetUp.{IsPromptCall, IsPromptScript, IsServedTable};
+ghost use Rattle.pccrun_core.specs.Wirings.{IsServed};
+ghost use Rattle.pccrun_core.specs.Weaving.{IsWoven, asked_by, side_of};
+
+use crate::command::Command;
+use crate::refusal::CommandError;
+use crate::script::{Served, head_for, served_script};
+use crate::wiring::wiring_of;
+use channel_plain::{Asked, Plain, Side, trace_lines, weave as woven};
+use pcc_exec::Bank;
+use pcc_io::{Bytes, LineClock, NoMemory};
+use pcc_journal::put_journal;
+use pcc_script::{Actions, Letter, Line, Picks, Scenario};
+use pcct_table::{Subspace, Table};
+use std::alloc::Global;
+
+// The calls of the lines.
+fn calls_of(alloc: Global, actions: &Actions) -> Result<Vec<Asked>, NoMemory>
+    requires { AllByRecursion IsPromptCall actions.now }
+    ensures { IfOk result (λ v. v.items ≡ map asked_by actions.now) }
+{
+    let mut calls = Vec::new(alloc);
+    for i in 0..actions.len() {
+        calls.push(call_of(alloc, actions.at(i))?)?;
+    }
+    Ok(calls)
+}
+
+fn call_of(alloc: Global, action: &Line) -> Result<Asked, NoMemory>
+    requires { IsPromptCall action.now }
+    ensures { IfOk result (λ c. c ≡ asked_by action.now) }
+{
+    match action {
+        Line::Call {
+            worker,
+            code,
+            bytes,
+            polls,
+            ..
+        } => Ok(Asked {
+            caller: *worker,
+            code: *code,
+            bytes: Bytes::from_vec(Vec::from_slice(alloc, bytes.as_slice())?),
+            polls: *polls,
+        }),
+        _ => unreachable!(),
+    }
+}
+
+fn side_of(letter: Letter) -> Side
+    ensures { result ≡ side_of letter }
+{
+    match letter {
+        Letter::O => Side::System,
+        Letter::P => Side::Platform,
+    }
+}
+
+// The sides that the letters pick.
+fn sides_of(alloc: Global, picks: &Picks) -> Result<Vec<Side>, NoMemory>
+    ensures { IfOk result (λ v. v.items ≡ map side_of picks.now) }
+{
+    let mut sides = Vec::new(alloc);
+    for i in 0..picks.len() {
+        sides.push(side_of(*picks.at(i)))?;
+    }
+    Ok(sides)
+}
+
+// The trace and the journal of a script and of the first structure of its table, which are served.
+fn woven_text(
+    alloc: Global,
+    scenario: &Scenario,
+    picks: &Picks,
+    table: &Table,
+    subspace: &Subspace,
+) -> Result<Vec<u8>, NoMemory>
+{
+    let head = head_for(subspace);
+    let calls = calls_of(alloc, &scenario.actions)?;
+    let sides = sides_of(alloc, picks)?;
+    let mut plain = Plain::new(
+        alloc,
+        wiring_of(subspace, head.id, table.flags),
+        Bank::new(alloc, head.room)?,
+        head.limits,
+        LineClock::new(scenario.start, scenario.step),
+    )?;
+    let trace = woven(alloc, &mut plain, &calls, &sides)?;
+    let mut out = trace_lines(alloc, &trace)?;
+    put_journal(&mut out, &head, plain.journal().as_slice(), plain.pending())?;
+    Ok(out)
+}
+
+/// The trace and the journal of the script that a text spells.
+pub fn weave(alloc: Global, text: &[u8]) -> Result<Vec<u8>, CommandError>
+    requires { length text.now ≤ input_limit }
+    ensures { MatchResult result (λ v. Makes Command.Weave text.now v.items) (IsRefusedFor (Refuses Command.Weave text.now)) }
+{
+    let Served {
+        scenario,
+        table,
+        subspace,
+    } = served_script(alloc, Command::Weave, text)?;
+    match &scenario.picks {
+        Some(picks) => Ok(woven_text(alloc, &scenario, picks, &table, &subspace)?),
+        None => unreachable!(),
+    }
+}
