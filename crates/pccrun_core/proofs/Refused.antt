@@ -20,12 +20,13 @@ use Rattle.pcct_codec.specs.Faults.{FaultIs, Right, decision, told_length}
 use Rattle.pcct_codec.specs.Tables.{TableBytes}
 use Rattle.pcct_codec.proofs.Decisions.{right_source}
 use Rattle.pcct_codec.proofs.Headers.{one_table, told_more, told_table}
+use Rattle.pccrun_core.specs.declared.command.Command.{Command}
 use Rattle.pccrun_core.specs.declared.refusal.CommandError.{CommandError}
 use Rattle.pccrun_core.specs.declared.refusal.CommandError.TheVariants as error
 use Rattle.pccrun_core.specs.declared.refusal.Refusal.{Refusal}
 use Rattle.pccrun_core.specs.declared.refusal.Refusal.TheVariants as refusal
 use Rattle.pccrun_core.specs.Refusals.{Followed, IsRefusedFor, IsScript, IsTold, NoScript, NoTable, NotServed, ScriptRefused, TableRefused, TextRefused, Wrong, WrongLine}
-use Rattle.pccrun_core.specs.SetUp.{IsPromptScript, IsServedTable}
+use Rattle.pccrun_core.specs.SetUp.{HasPicks, IsPromptScript, IsServedTable}
 
 -- an error that is passed on
 pub passed : {T : Type 0} (Q : T → Type 0) (P : CommandError → Type 0) (r : Result T CommandError) (e : CommandError) → IsErrAnd r (λ f. f ≡ e) → P e → MatchResult r Q P
@@ -88,40 +89,40 @@ text_wrong text line kind only h = WrongLine (λ t has is. never line kind (only
 -- ---- scripts
 
 -- a scenario that isn't served is the only one of its text
-pub not_prompt : (text : List ℕ) (s : Scenario) → ((u : Scenario) → IsScenario u → text ≡ script_text u → s ≡ u) → (IsPromptScript s → false ≡ true) → ScriptRefused text refusal.Unbuilt
-not_prompt text s only never = NoScript (λ u h. let e : false ≡ true = never (subst IsPromptScript (sym (only u h.scenario h.spelled)) h.prompt) in cc)
+pub not_prompt : (cmd : Command) (text : List ℕ) (s : Scenario) → ((u : Scenario) → IsScenario u → text ≡ script_text u → s ≡ u) → (IsPromptScript s × HasPicks cmd s.picks → false ≡ true) → ScriptRefused cmd text refusal.Unbuilt
+not_prompt cmd text s only never = NoScript (λ u h. let P : Scenario → Type 0 = λ v. IsPromptScript v × HasPicks cmd v.picks in let e : false ≡ true = never (subst P (sym (only u h.scenario h.spelled)) (h.prompt, h.picks)) in cc)
 
 -- a text with a fault is no scenario's
-pub no_script : (text : List ℕ) (line : ℕ) (kind : ScriptKind) → ((u : Scenario) → IsScenario u → text ≡ script_text u → IsReadAs u (Err (script.Fault line kind))) → ScriptRefused text refusal.Unbuilt
-no_script text line kind only = NoScript (λ u h. never line kind (only u h.scenario h.spelled))
+pub no_script : (cmd : Command) (text : List ℕ) (line : ℕ) (kind : ScriptKind) → ((u : Scenario) → IsScenario u → text ≡ script_text u → IsReadAs u (Err (script.Fault line kind))) → ScriptRefused cmd text refusal.Unbuilt
+no_script cmd text line kind only = NoScript (λ u h. never line kind (only u h.scenario h.spelled))
   where
     never : (line : ℕ) (kind : ScriptKind) → script.Fault line kind ≡ script.NoMemory → ⊥
     never line kind e = absurd cc
 
 -- a text spells one scenario at most
-pub one_scenario : (text : List ℕ) (s u : Scenario) → IsScript text s → IsScript text u → s ≡ u
+pub one_scenario : (cmd : Command) (text : List ℕ) (s u : Scenario) → IsScript cmd text s → IsScript cmd text u → s ≡ u
 unfolding script_text
-one_scenario text s u h k =
+one_scenario cmd text s u h k =
     is_only text (Ok s) u (reads_again text (statements_of s) h.scenario.right h.scenario.whole h.spelled) k.scenario k.spelled
 
 -- the table of a script is refused
-pub no_table : (text : List ℕ) (s : Scenario) (e : CommandError) → IsScript text s → IsRefusedFor (TableRefused s.table) e → IsRefusedFor (ScriptRefused text) e
-no_table text s (error.Refused r) h k = (NoTable s h r k.0, k.1)
-no_table text s error.NoMemory h k = tt
+pub no_table : (cmd : Command) (text : List ℕ) (s : Scenario) (e : CommandError) → IsScript cmd text s → IsRefusedFor (TableRefused s.table) e → IsRefusedFor (ScriptRefused cmd text) e
+no_table cmd text s (error.Refused r) h k = (NoTable s h r k.0, k.1)
+no_table cmd text s error.NoMemory h k = tt
 
 -- the first structure of a script's table isn't served
-pub not_served : (text : List ℕ) (s : Scenario) (t : Table) (bytes : List ℕ) → IsScript text s → bytes ≡ s.table → TableBytes bytes t → (IsServedTable t → ⊥) → ScriptRefused text refusal.Unbuilt
-not_served text s t bytes h same spelled never = let P : List ℕ → Type 0 = λ v. TableBytes v t in NotServed s h t (subst P same spelled) never
+pub not_served : (cmd : Command) (text : List ℕ) (s : Scenario) (t : Table) (bytes : List ℕ) → IsScript cmd text s → bytes ≡ s.table → TableBytes bytes t → (IsServedTable t → ⊥) → ScriptRefused cmd text refusal.Unbuilt
+not_served cmd text s t bytes h same spelled never = let P : List ℕ → Type 0 = λ v. TableBytes v t in NotServed s h t (subst P same spelled) never
 
 -- a served script is not refused
-pub script_kept : (text : List ℕ) (s : Scenario) (t : Table) (r : Refusal) → IsScript text s → TableBytes s.table t → IsServedTable t → ScriptRefused text r → ⊥
-script_kept text s t r h table served (NoScript none) = none s h
-script_kept text s t r h table served (NoTable u k q refused) =
-    let same : u ≡ s = one_scenario text u s k h in
+pub script_kept : (cmd : Command) (text : List ℕ) (s : Scenario) (t : Table) (r : Refusal) → IsScript cmd text s → TableBytes s.table t → IsServedTable t → ScriptRefused cmd text r → ⊥
+script_kept cmd text s t r h table served (NoScript none) = none s h
+script_kept cmd text s t r h table served (NoTable u k q refused) =
+    let same : u ≡ s = one_scenario cmd text u s k h in
     let P : Scenario → Type 0 = λ v. TableRefused v.table q in
     table_kept s.table t q table (subst P same refused)
-script_kept text s t r h table served (NotServed u k v spelled never) =
-    let same : u ≡ s = one_scenario text u s k h in
+script_kept cmd text s t r h table served (NotServed u k v spelled never) =
+    let same : u ≡ s = one_scenario cmd text u s k h in
     let P : Scenario → Type 0 = λ w. TableBytes w.table v in
     let one : v ≡ t = one_table s.table v t (subst P same spelled) table in
     never (subst IsServedTable (sym one) served)

@@ -9,17 +9,16 @@ use Rattle.pcc_script.specs.declared.scenario.OpenLine.{OpenLine}
 use Rattle.pcc_script.specs.declared.scenario.Scenario.{Scenario}
 use Rattle.pcct_table.specs.declared.subspace.Subspace.{Subspace}
 use Rattle.pcct_table.specs.declared.table.Table.{Table}
-use Rattle.pcct_codec.specs.Tables.{TableBytes}
 use Rattle.pcct_codec.proofs.Texts.{has_text}
 use Rattle.pccrun_core.specs.declared.command.Command.{Command}
 use Rattle.pccrun_core.specs.declared.command.Command.TheVariants as command
 use Rattle.pccrun_core.specs.declared.refusal.Refusal.{Refusal}
 use Rattle.pccrun_core.specs.declared.refusal.Refusal.TheVariants as refusal
-use Rattle.pccrun_core.specs.Answers.{Answers, AsksFor, IsMade, IsServedInput, Made, Makes, Refused, TooLong, Usage, input_limit, usage_line, word_of}
+use Rattle.pccrun_core.specs.Answers.{Answers, AsksFor, IsMade, IsServedInput, IsServedScript, Made, Makes, Refused, TooLong, Usage, input_limit, usage_line, word_of}
 use Rattle.pccrun_core.specs.BankChannels.{bank_start}
 use Rattle.pccrun_core.specs.Histories.{AreHistories}
-use Rattle.pccrun_core.specs.Refusals.{IsScript, Refuses, WrongLine, refused_line}
-use Rattle.pccrun_core.specs.SetUp.{IsPromptScript, IsServed, channels_of, clock_of, head_of, run_of, set_up_of, step_text}
+use Rattle.pccrun_core.specs.Refusals.{Refuses, WrongLine, refused_line}
+use Rattle.pccrun_core.specs.SetUp.{IsPromptScript, channels_of, clock_of, head_of, run_of, set_up_of, step_text}
 use Rattle.pccrun_core.specs.StepRun.{Channel, fresh, step_run}
 use Rattle.pccrun_core.proofs.Histories.{run_histories}
 use Rattle.pccrun_core.proofs.Refused.{script_kept, table_kept}
@@ -37,16 +36,17 @@ pub asks : (w : List ℕ) (c : Command) → bytes_eq w (word_of c) ≡ true → 
 asks w c h = ap (λ (v : List ℕ). v ∷ []) ((bytes_eq-Decides w (word_of c)).0 h)
 
 -- and a word that is none of the commands' for nothing
-pub asks_nothing : (w : List ℕ) → bytes_eq w (codes "step") ≡ false → bytes_eq w (codes "show") ≡ false → bytes_eq w (codes "build") ≡ false → (c : Command) → AsksFor (w ∷ []) c → ⊥
-asks_nothing w a b d c h = other c (same_head w (word_of c) h)
+pub asks_nothing : (w : List ℕ) → bytes_eq w (codes "step") ≡ false → bytes_eq w (codes "weave") ≡ false → bytes_eq w (codes "show") ≡ false → bytes_eq w (codes "build") ≡ false → (c : Command) → AsksFor (w ∷ []) c → ⊥
+asks_nothing w a b d e c h = other c (same_head w (word_of c) h)
   where
     differs : (u : List ℕ) → bytes_eq w u ≡ false → w ≡ u → ⊥
     differs u unlike same = let yes_ : bytes_eq w u ≡ true = (bytes_eq-Decides w u).1 same in let both : true ≡ false = sym yes_ ∙ unlike in cc
 
     other : (c : Command) → w ≡ word_of c → ⊥
     other command.Step = differs (codes "step") a
-    other command.Show = differs (codes "show") b
-    other command.Build = differs (codes "build") d
+    other command.Weave = differs (codes "weave") b
+    other command.Show = differs (codes "show") d
+    other command.Build = differs (codes "build") e
 
 -- the same of a list of one word
 pub asks_one : {X : Type 0} (f : X → List ℕ) (xs : List X) (x : X) (o : Option Command) → length xs ≡ 1 → x ≡ get_or xs 0 x → MatchOption o ((c : Command) → AsksFor (f x ∷ []) c → ⊥) (AsksFor (f x ∷ [])) → MatchOption o ((c : Command) → AsksFor (map f xs) c → ⊥) (AsksFor (map f xs))
@@ -73,10 +73,8 @@ served_histories s t u h first =
     subst P (sym (one_channel s t u h first)) (run_histories (bank_start (head_of 0 u) (clock_of s)) s.actions)
 
 -- what is made of a served script
-pub stepped : (input : List ℕ) (s : Scenario) (t : Table) (u : Subspace) (bytes text : List ℕ) → IsScript input s → bytes ≡ s.table → TableBytes bytes t → slice_get t.subspaces 0 ≡ Some u → IsServed u → text ≡ step_text s t → Makes command.Step input text
-stepped input s t u bytes text h same spelled first served e =
-    let P : List ℕ → Type 0 = λ v. TableBytes v t in
-    (s, t, record { script = h; table = subst P same spelled; served = (u, first, served) }, served_histories s t u h.prompt first, e)
+pub stepped : (input : List ℕ) (s : Scenario) (t : Table) (u : Subspace) (text : List ℕ) → IsServedScript command.Step input s t → slice_get t.subspaces 0 ≡ Some u → text ≡ step_text s t → Makes command.Step input text
+stepped input s t u text h first e = (s, t, h, served_histories s t u h.script.prompt first, e)
 
 pub made_of : (words : List (List ℕ)) (left left' : Option (List ℕ)) (input text : List ℕ) (c : Command) → AsksFor words c → Consumes left left' input → IsAtEnd left' → Makes c input text → Answers words left left' 0 text
 made_of words left left' input text c asked read end made = Made c asked input (record { read = read; end = end }) text made
@@ -115,23 +113,32 @@ second _ = 0
 
 abbrev letter_of : Command → ℕ
 letter_of command.Step = 116
+letter_of command.Weave = 101
 letter_of command.Show = 104
 letter_of command.Build = 117
 
 second_of : (c : Command) → second (word_of c) ≡ letter_of c
 second_of command.Step = refl
+second_of command.Weave = refl
 second_of command.Show = refl
 second_of command.Build = refl
 
 one_letter : (c d : Command) → letter_of c ≡ letter_of d → c ≡ d
 one_letter command.Step command.Step e = refl
+one_letter command.Weave command.Weave e = refl
 one_letter command.Show command.Show e = refl
 one_letter command.Build command.Build e = refl
+one_letter command.Step command.Weave e = absurd (omega arith)
 one_letter command.Step command.Show e = absurd (omega arith)
 one_letter command.Step command.Build e = absurd (omega arith)
+one_letter command.Weave command.Step e = absurd (omega arith)
+one_letter command.Weave command.Show e = absurd (omega arith)
+one_letter command.Weave command.Build e = absurd (omega arith)
 one_letter command.Show command.Step e = absurd (omega arith)
+one_letter command.Show command.Weave e = absurd (omega arith)
 one_letter command.Show command.Build e = absurd (omega arith)
 one_letter command.Build command.Step e = absurd (omega arith)
+one_letter command.Build command.Weave e = absurd (omega arith)
 one_letter command.Build command.Show e = absurd (omega arith)
 
 -- words ask for one command
@@ -143,7 +150,8 @@ same_command words c d a b = one_command c d (same_head (word_of c) (word_of d) 
 
 -- what is made is not refused
 kept : (c : Command) (input : List ℕ) (r : Refusal) → IsMade c input → Refuses c input r → ⊥
-kept command.Step input r h k = script_kept input h.0 h.1 r h.2.script h.2.table h.2.served k
+kept command.Step input r h k = script_kept command.Step input h.0 h.1 r h.2.script h.2.table h.2.served k
+kept command.Weave input r h k = script_kept command.Weave input h.0 h.1 r h.2.script h.2.table h.2.served k
 kept command.Show input r h k = table_kept input h.0 r h.1 k
 kept command.Build input r h (WrongLine none line wrong fault) = none h.0 (has_text h.0 h.1.value) h.1.text_is
 

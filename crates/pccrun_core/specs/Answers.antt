@@ -13,6 +13,7 @@ use Rattle.pccrun_core.specs.declared.refusal.Refusal.TheVariants as refusal
 use Rattle.pccrun_core.specs.Histories.{AreHistories}
 use Rattle.pccrun_core.specs.Refusals.{IsScript, Refuses, refused_line}
 use Rattle.pccrun_core.specs.SetUp.{IsServedTable, run_of, step_text}
+use Rattle.pccrun_core.specs.Weaving.{IsWoven}
 
 -- ---- words
 

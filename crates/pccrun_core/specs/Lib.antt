@@ -5,6 +5,7 @@ pub mod ReplyText
 pub mod BankChannels
 pub mod Wirings
 pub mod SetUp
+pub mod Weaving
 pub mod Refusals
 pub mod Answers
 pub mod Statuses

@@ -3,7 +3,7 @@ ghost use Rattle.std.specs.Prelude.{◌≡◌, ◌≤◌, ◌↔◌, Some, IsTru
 ghost use Rattle.pcc_script.specs.Limits.{IsWithin};
 ghost use Rattle.pccrun_core.specs.Answers.{IsServedScript, input_limit};
 ghost use Rattle.pccrun_core.specs.Refusals.{IsRefusedFor, IsScript, ScriptRefused};
-ghost use Rattle.pccrun_core.specs.SetUp.{HasPicks, head_of};
+ghost use Rattle.pccrun_core.specs.SetUp.{HasPicks, IsPromptScript, head_of};
 ghost use Rattle.pccrun_core.specs.Wirings.{IsServed};
 
 use crate::command::Command;
@@ -52,6 +52,13 @@ fn has_picks(command: Command, scenario: &Scenario) -> bool
     }
 }
 
+// Whether the command serves a script as far as its table allows.
+fn serves(command: Command, scenario: &Scenario) -> bool
+    ensures { IsTrue result ↔ (IsPromptScript scenario.now × HasPicks command scenario.now.picks) }
+{
+    is_prompt_script(scenario) && has_picks(command, scenario)
+}
+
 // The scenario that a text spells, where the command serves it as far as its table allows.
 fn script_of(alloc: Global, command: Command, text: &[u8]) -> Result<Scenario, CommandError>
     requires { length text.now ≤ input_limit }
@@ -60,7 +67,7 @@ fn script_of(alloc: Global, command: Command, text: &[u8]) -> Result<Scenario, C
     within_limits();
     match scenario_from(alloc, text) {
         Ok(scenario) => {
-            if is_prompt_script(&scenario) && has_picks(command, &scenario) {
+            if serves(command, &scenario) {
                 Ok(scenario)
             } else {
                 Err(CommandError::Refused(Refusal::Unbuilt))

@@ -1,11 +1,10 @@
 //! The command `weave`: both ends of one channel take turns at single word steps, in the order that the letters of the script give.
 ghost use Rattle.std.specs.Prelude.{◌≡◌, Some, IfOk, MatchResult, map, slice_get, length, ◌≤◌};
 ghost use Rattle.std.specs.List.{AllByRecursion};
-ghost use Rattle.pcc_script.specs.Limits.{IsAction, IsWithin};
-ghost use Rattle.pcct_table.specs.declared.table.Table.{Table};
+ghost use Rattle.pcc_script.specs.Limits.{IsWithin};
 ghost use Rattle.pccrun_core.specs.Answers.{Makes, input_limit};
 ghost use Rattle.pccrun_core.specs.Refusals.{IsRefusedFor, Refuses};
-ghost use Rattle.pccrun_core.specs.SetUp.{IsPromptCall, IsPromptScript, IsServedTable};
+ghost use Rattle.pccrun_core.specs.SetUp.{IsPromptCall, IsPromptScript};
 ghost use Rattle.pccrun_core.specs.Wirings.{IsServed};
 ghost use Rattle.pccrun_core.specs.Weaving.{IsWoven, asked_by, side_of};
 
@@ -82,6 +81,12 @@ fn woven_text(
     table: &Table,
     subspace: &Subspace,
 ) -> Result<Vec<u8>, NoMemory>
+    requires within { IsWithin scenario.now }
+    requires prompt { IsPromptScript scenario.now }
+    requires picks { scenario.now.picks ≡ Some picks.now }
+    requires first { slice_get table.now.subspaces 0 ≡ Some subspace.now }
+    requires served { IsServed subspace.now }
+    ensures { IfOk result (λ v. IsWoven scenario.now table.now v.items) }
 {
     let head = head_for(subspace);
     let calls = calls_of(alloc, &scenario.actions)?;

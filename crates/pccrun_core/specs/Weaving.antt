@@ -1,0 +1,61 @@
+-- What `weave` prints: the trace of single word steps that the letters of a script pick, and the journal that comes of it.
+use Rattle.std.specs.Prelude.{◌≡◌, ◌<◌, ℕ, Bool, List, [], ◌∷◌, ◌++◌, length, map, replicate, get_or, slice_get, Option, Some, None}
+use Rattle.pcc_causes.specs.Clock.{line_reading}
+use Rattle.pcc_history.specs.Channel.{Exchange}
+use Rattle.pcc_history.specs.Devices.{bank_exec}
+use Rattle.pcc_journal.specs.declared.record.Record.{Record}
+use Rattle.pcc_journal.specs.declared.record.Pending.{Pending}
+use Rattle.pcc_journal.specs.JournalText.{journal_text}
+use Rattle.pcc_script.specs.declared.scenario.Letter.{Letter}
+use Rattle.pcc_script.specs.declared.scenario.Letter.TheVariants as letter
+use Rattle.pcc_script.specs.declared.scenario.Line.{Line}
+use Rattle.pcc_script.specs.declared.scenario.Line.TheVariants as line
+use Rattle.pcc_script.specs.declared.scenario.Scenario.{Scenario}
+use Rattle.pcct_table.specs.declared.subspace.Subspace.{Subspace}
+use Rattle.pcct_table.specs.declared.table.Table.{Table}
+use Rattle.channel_plain.specs.declared.sent.Sent.{Sent}
+use Rattle.channel_plain.specs.declared.trace.Asked.{Asked}
+use Rattle.channel_plain.specs.declared.trace.Side.{Side}
+use Rattle.channel_plain.specs.declared.trace.Side.TheVariants as side
+use Rattle.channel_plain.specs.declared.trace.TraceLine.{TraceLine}
+use Rattle.channel_plain.specs.TraceText.{trace_text}
+use Rattle.channel_plain.specs.WordRuns.{WordRun}
+use Rattle.pccrun_core.specs.SetUp.{head_of}
+use Rattle.pccrun_core.specs.Wirings.{room_of, wiring_of}
+
+-- ---- the calls and the picks
+
+-- the call of a line; the script has no other lines
+abbrev pub asked_by : Line → Asked
+asked_by (line.Call worker subspace code bytes polls hold) = record { caller = worker; code = code; bytes = bytes; polls = polls }
+asked_by _ = record { caller = 0; code = 0; bytes = []; polls = 0 }
+
+abbrev pub side_of : Letter → Side
+side_of letter.O = side.System
+side_of letter.P = side.Platform
+
+-- ---- the journal
+
+abbrev pub pending_of : Option Sent → Option Pending
+pending_of None = None
+pending_of (Some sent) = Some sent.command
+
+-- each reading is the one of its number that the script's clock gives
+abbrev pub AreReadings : Scenario → List ℕ → Type 0
+AreReadings s readings = (k : ℕ) → k < length readings → get_or readings k 0 ≡ line_reading s.start s.step 0 k
+
+-- the text is a trace and its journal: the trace is a run of single words of the first structure for the calls and the letters of the script
+pub record IsWoven (s : Scenario) (t : Table) (text : List ℕ) : Type 0 where
+  pub subspace : Subspace
+  pub first : slice_get t.subspaces 0 ≡ Some subspace
+  pub letters : List Letter
+  pub picks : s.picks ≡ Some letters
+  pub trace : List TraceLine
+  pub readings : List ℕ
+  pub records : List Record
+  pub sent : Option Sent
+  pub executed : List Exchange
+  pub run : WordRun bank_exec (wiring_of 0 t.flags subspace) (head_of 0 subspace).limits (0 ∷ replicate (head_of 0 subspace).room 0) (replicate (head_of 0 subspace).room 0)
+      (map asked_by s.actions) (map side_of letters) trace readings records sent executed
+  pub clock : AreReadings s readings
+  pub text_is : text ≡ trace_text trace ++ journal_text (head_of 0 subspace) records (pending_of sent)
