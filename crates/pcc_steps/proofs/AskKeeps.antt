@@ -11,7 +11,7 @@ use Rattle.pcc_steps.specs.declared.ask.AskStage.{AskStage}
 use Rattle.pcc_steps.specs.declared.ask.AskStage.TheVariants.{AskRest, PostBlock, PostHeader, PostUpdateLoad, PostUpdateStore, PostMarkLoad, PostMarkStore, PostBellLoad, PostBellStore, PostLine, LookWord, LookError, LookBlock, LookLine, LookLineStore, LookAckLoad, LookAckStore}
 use Rattle.shmem_header.specs.Spelling.{words_of, bytes_of}
 use Rattle.pcc_steps.specs.Wires.{style_of, heads_of, block_of, sent_header, sees_done, tells_by, tells_error, header_error, acknowledges, masked_by, without, update_place}
-use Rattle.pcc_steps.specs.Asking.{Ask, AskOk, AskSized, AskPlace, AskUpdates, AskClears, Flies, LooksLeft, PostsLeft, CodeFits, has_more, ask_next_at, ask_fed_at, store_on, look_on, after_block, after_update, after_mark, after_bell, after_look}
+use Rattle.pcc_steps.specs.Asking.{Ask, AskOk, AskSized, AskPlace, AskUpdates, AskClears, AskRings, Flies, LooksLeft, PostsLeft, CodeFits, has_more, ask_next_at, ask_fed_at, store_on, look_on, after_block, after_update, after_mark, after_bell, after_look}
 use Rattle.pcc_steps.specs.Agree.{Core, Others, listed, act, Finds, mix, Asker, Answerer, asker_fed_at, Pose, free, writing, cleared, waiting, reading, resting, bell_pose, pose_at, pose, Turn, quiet, taken, replying, turn, opened, closed, finished, Marked, Row, Flight, flight, answered, reply_block, ShowsBy, IsDone, Waits, IsReading, Fits, Spells, flying, Agreed, Agree}
 use Rattle.pcc_steps.proofs.Lists.{mix_more, mix_all, take_all, loads, set_block, get_block}
 use Rattle.pcc_steps.proofs.Bits.{closed_unset, finished_opened, error_seen, error_shown, clears_mark, clears_update}
@@ -65,7 +65,7 @@ module _ (exec : Device) (start : List ℕ) where
   block_ok Separate3 a e ok = steps_on (record a { stage = PostBlock 0 }) PostUpdateLoad a.kept ok ok.kept (subst AskUpdates (sym e) tt) ok.flies ok.looks ok.posts
   block_ok Joined4 a e ok = steps_on (record a { stage = PostBlock 0 }) PostMarkLoad a.kept ok ok.kept (subst AskClears (sym e) tt) ok.flies ok.looks ok.posts
   block_ok Separate4 a e ok = steps_on (record a { stage = PostBlock 0 }) PostMarkLoad a.kept ok ok.kept (subst AskClears (sym e) tt) ok.flies ok.looks ok.posts
-  block_ok Reduced5 a e ok = steps_on (record a { stage = PostBlock 0 }) PostBellLoad a.kept ok ok.kept tt ok.flies ok.looks ok.posts
+  block_ok Reduced5 a e ok = steps_on (record a { stage = PostBlock 0 }) PostBellLoad a.kept ok ok.kept (subst AskRings (sym e) tt) ok.flies ok.looks ok.posts
 
   -- a word of the block is stored
   stored : (b : Bool) (j : ℕ) (x : Asker) (y : Answerer) (c : Core) → has_more j x.m.wiring ≡ b → Agreed exec start (at (PostBlock j) x) y c
@@ -95,7 +95,7 @@ module _ (exec : Device) (start : List ℕ) where
     (
       g.1.0,
       ap (λ (l : List ℕ). set l 0 z) g.1.1,
-      moves (at PostHeader x) y c d PostBellLoad x.m.kept x.m.error x.m.loaded x.m.looks x.clears h (steps_on (at PostHeader x).m PostBellLoad x.m.kept ok ok.kept tt ok.flies ok.looks ok.posts) h.irq
+      moves (at PostHeader x) y c d PostBellLoad x.m.kept x.m.error x.m.loaded x.m.looks x.clears h (steps_on (at PostHeader x).m PostBellLoad x.m.kept ok ok.kept (subst AskRings (sym headed) tt) ok.flies ok.looks ok.posts) h.irq
           (subst (λ (q : Pose). Fits q (turn y.m) (at PostBellLoad x) y d) (sym (ap (λ (s : Style). bell_pose s (block_of w)) headed))
               (h.fits.0, record { completion = subst (λ (s : Style). Marked s w x.m.code closed z) (sym headed) refl; line = fits.line; block = written x y c PostHeader ok fits.block; done = fits.done })),
     ),
@@ -116,7 +116,7 @@ module _ (exec : Device) (start : List ℕ) where
 
   pub loads_bell : Keeps PostBellLoad
   loads_bell x y ws v g f small = let c = g.0 in let h = g.1.2 in let ok = h.ask_ok in
-      (c, (g.1.0, g.1.1, moves (at PostBellLoad x) y c c PostBellStore v x.m.error x.m.loaded x.m.looks x.clears h (steps_on (at PostBellLoad x).m PostBellStore v ok small tt ok.flies ok.looks ok.posts) h.irq (bell_still (style_of x.m.wiring) (block_of x.m.wiring) (turn y.m) (at PostBellLoad x) y c PostBellStore v h.fits)))
+      (c, (g.1.0, g.1.1, moves (at PostBellLoad x) y c c PostBellStore v x.m.error x.m.loaded x.m.looks x.clears h (steps_on (at PostBellLoad x).m PostBellStore v ok small ok.place ok.flies ok.looks ok.posts) h.irq (bell_still (style_of x.m.wiring) (block_of x.m.wiring) (turn y.m) (at PostBellLoad x) y c PostBellStore v h.fits)))
 
   pose_bell : (s : Style) (a : Ask) → style_of a.wiring ≡ s → pose_at (after_bell s) a ≡ bell_pose s (block_of a.wiring)
   pose_bell Headed a e = refl
@@ -150,7 +150,7 @@ module _ (exec : Device) (start : List ℕ) where
     (
       g.1.0,
       ap (λ (l : List ℕ). set l 0 z) g.1.1,
-      moves (at PostUpdateStore x) y c d PostBellLoad x.m.kept x.m.error x.m.loaded x.m.looks x.clears h (steps_on (at PostUpdateStore x).m PostBellLoad x.m.kept ok ok.kept tt ok.flies ok.looks ok.posts) h.irq
+      moves (at PostUpdateStore x) y c d PostBellLoad x.m.kept x.m.error x.m.loaded x.m.looks x.clears h (steps_on (at PostUpdateStore x).m PostBellLoad x.m.kept ok ok.kept (subst AskRings (sym e) tt) ok.flies ok.looks ok.posts) h.irq
           (subst (λ (q : Pose). Fits q (turn y.m) (at PostBellLoad x) y d) (sym (ap (λ (s : Style). bell_pose s (block_of w)) e))
               (h.fits.0, record { completion = subst (λ (s : Style). Marked s w x.m.code closed z) (sym e) (clears_update w x.m.code x.m.kept e ok.wired); line = fits.line; block = written x y c PostUpdateStore ok fits.block; done = fits.done })),
     ),
@@ -186,9 +186,9 @@ module _ (exec : Device) (start : List ℕ) where
   marked_on Separate4 x y c e u f = f
   marked_on Reduced5 x y c e u f = f
 
-  mark_ok : (s : Style) (a : Ask) → AskOk (record a { stage = PostMarkStore }) → AskOk (record a { stage = after_mark s })
-  mark_ok Separate3 a ok = steps_on (record a { stage = PostMarkStore }) PostBellLoad a.kept ok ok.kept tt ok.flies ok.looks ok.posts
-  mark_ok _ a ok = steps_on (record a { stage = PostMarkStore }) PostLine a.kept ok ok.kept tt ok.flies ok.looks ok.posts
+  mark_ok : (s : Style) (a : Ask) → style_of a.wiring ≡ s → AskOk (record a { stage = PostMarkStore }) → AskOk (record a { stage = after_mark s })
+  mark_ok Separate3 a e ok = steps_on (record a { stage = PostMarkStore }) PostBellLoad a.kept ok ok.kept (subst AskRings (sym e) tt) ok.flies ok.looks ok.posts
+  mark_ok _ a e ok = steps_on (record a { stage = PostMarkStore }) PostLine a.kept ok ok.kept tt ok.flies ok.looks ok.posts
 
   pub stores_mark : Keeps PostMarkStore
   stores_mark x y ws v g f small = let c = g.0 in let h = g.1.2 in let ok = h.ask_ok in let fits = h.fits.1 in let w = x.m.wiring in let s : Style = style_of w in let z : ℕ = without w.check_mask x.m.kept in let d : Core = record c { completion = z } in (
@@ -196,7 +196,7 @@ module _ (exec : Device) (start : List ℕ) where
     (
       g.1.0,
       ap (λ (l : List ℕ). set l 0 z) g.1.1,
-      moves (at PostMarkStore x) y c d (after_mark s) x.m.kept x.m.error x.m.loaded x.m.looks x.clears h (mark_ok s x.m ok) h.irq
+      moves (at PostMarkStore x) y c d (after_mark s) x.m.kept x.m.error x.m.loaded x.m.looks x.clears h (mark_ok s x.m refl ok) h.irq
           (marked_on s x y d refl ok.place (h.fits.0, record { completion = clears_mark s w x.m.code x.m.kept (not_headed s ok.place) ok.mask; line = fits.line; block = written x y c PostMarkStore ok fits.block; done = fits.done })),
     ),
   )

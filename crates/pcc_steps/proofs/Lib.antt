@@ -11,3 +11,4 @@ pub mod AskBegins
 pub mod AnswerBegins
 pub mod Starts
 pub mod Agreement
+pub mod AskWalks

@@ -175,7 +175,7 @@ answer_told a v = answer_told_at a.stage a v
 -- ---- what begins a run, and the device's turn
 
 abbrev pub answer_begun : Answer → Answer
-answer_begun a = record a { stage = TakeLine }
+answer_begun a = record a { stage = TakeLine; header = 0 }
 
 -- the device left its reply in the space
 abbrev pub ran_with : Answer → Bool → Answer

@@ -215,6 +215,12 @@ AskClears Headed = ⊥
 AskClears Joined3 = ⊥
 AskClears _ = Unit {0}
 
+-- the styles whose asking side rings a doorbell
+abbrev pub AskRings : Style → Type 0
+AskRings Joined4 = ⊥
+AskRings Separate4 = ⊥
+AskRings _ = Unit {0}
+
 -- what makes this step the next one
 abbrev pub AskPlace : AskStage → Wiring → Type 0
 AskPlace (PostBlock j) w = j < block_of w
@@ -223,6 +229,8 @@ AskPlace PostUpdateLoad w = AskUpdates (style_of w)
 AskPlace PostUpdateStore w = AskUpdates (style_of w)
 AskPlace PostMarkLoad w = AskClears (style_of w)
 AskPlace PostMarkStore w = AskClears (style_of w)
+AskPlace PostBellLoad w = AskRings (style_of w)
+AskPlace PostBellStore w = AskRings (style_of w)
 AskPlace LookError w = tells_error w ≡ true
 AskPlace (LookBlock j) w = j < block_of w
 AskPlace LookLine w = w.notify ≡ true

@@ -5,3 +5,4 @@ pub mod Answering
 pub mod Agree
 pub mod Lending
 pub mod Laws
+pub mod Walk

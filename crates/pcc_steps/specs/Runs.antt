@@ -86,8 +86,12 @@ pub data LookStep : Type 0 where
   looks_at_block : LookStep
   lowers_interrupt : LookStep
 
+-- by whether errors are told by a register, and whether commands ask for a notification
+abbrev pub look_table : Bool → Bool → List LookStep
+look_table tells notify = looks_at_completion ∷ only tells looks_at_error (looks_at_block ∷ only notify lowers_interrupt [])
+
 abbrev pub look_steps : Wiring → List LookStep
-look_steps w = looks_at_completion ∷ only (tells_error w) looks_at_error (looks_at_block ∷ only w.notify lowers_interrupt [])
+look_steps w = look_table (tells_error w) w.notify
 
 -- what a look has found so far
 pub record Seen : Type 0 where
@@ -136,9 +140,13 @@ completing_steps Joined4 after = replies_update ∷ after
 completing_steps Separate4 after = replies_update ∷ replies_completion ∷ after
 completing_steps _ after = replies_completion ∷ after
 
+-- by whether the doorbell is acknowledged, whether errors are told by a register, and whether a doorbell is rung
+abbrev pub answer_table : Style → Bool → Bool → Bool → List AnswerStep
+answer_table s acknowledges tells rings =
+    takes_bell ∷ only acknowledges acknowledges_bell (taking_steps s (executes_command ∷ replies_space ∷ only tells replies_error (completing_steps s (only rings rings_bell (raises_interrupt ∷ [])))))
+
 abbrev pub answer_steps : Wiring → List AnswerStep
-answer_steps w = let s : Style = style_of w in
-    takes_bell ∷ only (four_by s w.has_ack) acknowledges_bell (taking_steps s (executes_command ∷ replies_space ∷ only (tells_error w) replies_error (completing_steps s (only (four_by s w.has_bell) rings_bell (raises_interrupt ∷ [])))))
+answer_steps w = let s : Style = style_of w in answer_table s (four_by s w.has_ack) (tells_error w) (four_by s w.has_bell)
 
 -- how a run of the answering side ends
 pub data AnswerEnd : Type 0 where

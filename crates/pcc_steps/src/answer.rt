@@ -128,6 +128,7 @@ pub fn answer_start(answer: &mut AnswerState)
     requires { answer.old.stage ≡ AnswerRest }
     ensures { answer.new ≡ answer_begun answer.old }
 {
+    answer.header = 0;
     answer.stage = AnswerStage::TakeLine;
 }
 
