@@ -1,15 +1,16 @@
 -- The asking machine walks its tables.
-use Rattle.std.proofs.Common.{◌≡◌, ◌≢◌, ℕ, zero, suc, ◌+◌, ◌-◌, ◌<◌, ◌≤◌, Bool, true, false, eqb, List, [], ◌∷◌, ◌++◌, length, get_or, set, take, drop, refl, sym, ap, ◌∙◌, subst, arith, length-set, add-one}
+use Rattle.std.proofs.Common.{◌≡◌, ◌≢◌, ℕ, zero, suc, ◌+◌, ◌-◌, ◌<◌, ◌≤◌, Bool, true, false, eqb, ◌==◌, if◌then◌else◌, List, [], ◌∷◌, ◌++◌, length, get_or, set, take, drop, refl, sym, ap, ◌∙◌, subst, arith, length-set, add-one}
 use Rattle.std.proofs.lemmas.List.{take_more_set}
 use borrow.Author.Tests.{ltb-true, ltb-false}
 use Rattle.pcc_steps.specs.declared.wiring.Wiring.{Wiring}
 use Rattle.pcc_steps.specs.declared.wiring.Style.{Style}
 use Rattle.pcc_steps.specs.declared.wiring.Style.TheVariants.{Headed, Joined3, Separate3, Joined4, Separate4, Reduced5}
+use Rattle.std.specs.Prelude.{None}
 use Rattle.pcc_steps.specs.declared.wiring.Action.TheVariants.{Load, Store}
 use Rattle.pcc_steps.specs.declared.ask.AskStage.{AskStage}
 use Rattle.pcc_steps.specs.declared.ask.AskStage.TheVariants.{AskRest, PostBlock, PostHeader, PostUpdateLoad, PostUpdateStore, PostMarkLoad, PostMarkStore, PostBellLoad, PostBellStore, PostLine, LookWord, LookError, LookBlock, LookLine, LookLineStore, LookAckLoad, LookAckStore}
 use Rattle.pcc_steps.specs.Wires.{style_of, heads_of, block_of, sent_header, meets, sees_done, tells_error, header_error, acknowledges, masked_by, without, update_place}
-use Rattle.pcc_steps.specs.Runs.{Run, ends, loads, stores, swaps, executes, store_words, load_words, PostStep, post_steps, posting, post_run, AskEnd, posts, sees_clear, drains, LookStep, look_table, look_steps, looking, look_run, Seen}
+use Rattle.pcc_steps.specs.Runs.{Run, ends, loads, stores, swaps, executes, store_words, load_words, PostStep, post_steps, posting, post_run, AskEnd, posts, sees_clear, drains, LookStep, look_table, look_steps, looking, look_run, acknowledging, masked_write, Seen}
 use Rattle.pcc_steps.specs.Asking.{Ask, AskOk, AskUpdates, AskClears, AskRings, has_more, ask_next_at, ask_fed_at, ask_told_at, store_on, look_on, read_on, block_on, line_on, lowered_on, look_told, read_told, end_told, line_told, after_block, after_update, after_mark, after_bell, after_look}
 use Rattle.pcc_steps.specs.Walk.{post_number, look_number, from, behind, ask_left_by, ask_left, ask_after, Takes}
 
@@ -112,3 +113,103 @@ module _ (post : List PostStep) where
   error_walks : (t n : Bool) (a : Ask) → t ≡ true → Takes (ask_left_by post (look_table t n) LookError a) (ask_next_at LookError a) (λ v. ask_left_by post (look_table t n) (LookBlock 0) (record a { stage = LookBlock 0; error = meets v a.wiring.error_mask }))
   error_walks true n a e = (refl, λ v. ap (λ (k : ℕ). load_words 8 k [] (λ b. looking (behind look_number 2 (look_table true n)) a.wiring (record { error = meets v a.wiring.error_mask; block = b }))) (let z : block_of a.wiring - 0 ≡ block_of a.wiring = omega arith in z))
   error_walks false n a e = cc
+
+-- what a look has found, at its end
+abbrev pub seen : Ask → Seen
+seen a = record { error = a.error; block = a.loaded }
+
+no_more : (t n : Bool) → behind look_number 3 (look_table t n) ≡ []
+no_more true true = refl
+no_more true false = refl
+no_more false true = refl
+no_more false false = refl
+
+tail_look : (t n : Bool) → from look_number 3 (look_table t n) ≡ behind look_number 2 (look_table t n)
+tail_look true true = refl
+tail_look true false = refl
+tail_look false true = refl
+tail_look false false = refl
+
+no_tail : (t n : Bool) → n ≡ false → behind look_number 2 (look_table t n) ≡ []
+no_tail true true e = cc
+no_tail true false e = refl
+no_tail false true e = cc
+no_tail false false e = refl
+
+-- the end of a look, where nothing is left
+over_now : (a : Ask) → looking (behind look_number 3 (look_steps a.wiring)) a.wiring (seen a) ≡ ends (drains a.error a.loaded)
+over_now a = ap (λ (l : List LookStep). looking l a.wiring (seen a)) (no_more (tells_error a.wiring) a.wiring.notify)
+
+word_walks : (t n : Bool) (a : Ask) (next : ℕ → Run AskEnd)
+    → ((v : ℕ) → next v ≡ (if sees_done a.wiring v then looking (behind look_number 0 (look_table t n)) a.wiring (record { error = header_error (style_of a.wiring) v; block = [] }) else ends sees_clear))
+    → Takes (looking (from look_number 0 (look_table t n)) a.wiring (record { error = false; block = [] })) (Load 0) next
+word_walks t n a next h = (refl, h)
+
+looked : (b : Bool) (v : ℕ) (a : Ask) → ask_after (look_told b) (look_on b v a) ≡ (if b then looking (behind look_number 0 (look_steps a.wiring)) a.wiring (record { error = header_error (style_of a.wiring) v; block = [] }) else ends sees_clear)
+looked true v a = left_look (post_steps (style_of a.wiring)) (tells_error a.wiring) a.wiring.notify a (header_error (style_of a.wiring) v)
+looked false v a = refl
+
+blocked : (b : Bool) (a : Ask) → a.wiring.notify ≡ b → ask_after (end_told b a.error) (block_on b a) ≡ looking (behind look_number 2 (look_steps a.wiring)) a.wiring (seen a)
+blocked true a e = ap (λ (l : List LookStep). looking l a.wiring (seen a)) (tail_look (tells_error a.wiring) a.wiring.notify)
+blocked false a e = sym (ap (λ (l : List LookStep). looking l a.wiring (seen a)) (no_tail (tells_error a.wiring) a.wiring.notify e))
+
+read : (b : Bool) (j v : ℕ) (a : Ask) → has_more j a.wiring ≡ b → j < block_of a.wiring → length a.loaded ≡ block_of a.wiring → let k = λ (l : List ℕ). looking (behind look_number 2 (look_steps a.wiring)) a.wiring (record { error = a.error; block = l }) in
+    ask_after (read_told b a.wiring.notify a.error) (read_on b j v a) ≡ load_words (8 + j + 1) (block_of a.wiring - (j + 1)) (take j a.loaded ++ v ∷ []) k
+read true j v a more here long = let k = λ (l : List ℕ). looking (behind look_number 2 (look_steps a.wiring)) a.wiring (record { error = a.error; block = l }) in let m : ℕ = block_of a.wiring - (j + 1) in
+    let t = take_more_set a.loaded j v (omega arith) in λ i. load_words (next_place j i) m (t i) k
+read false j v a more here long = let k = λ (l : List ℕ). looking (behind look_number 2 (look_steps a.wiring)) a.wiring (record { error = a.error; block = l }) in let n : ℕ = block_of a.wiring in let last : n ≤ j + 1 = ltb-false (j + 1) n more in
+    let none : n - (j + 1) ≡ 0 = omega arith in let l : List ℕ = set a.loaded j v in let longs : length l ≡ n = length-set a.loaded j v ∙ long in
+    let t : take j a.loaded ++ v ∷ [] ≡ l = sym (take_more_set a.loaded j v (omega arith)) ∙ all_taken (j + 1) l (omega arith) in
+    blocked a.wiring.notify (record a { loaded = l }) refl ∙ sym (λ i. load_words (8 + j + 1) (none i) (t i) k)
+
+lined : (b : Bool) (a : Ask) → ask_after (line_told b a.error) (line_on b a) ≡ (if b then ends (drains a.error a.loaded) else stores 4 0 (acknowledging a.wiring (ends (drains a.error a.loaded))))
+lined true a = refl
+lined false a = ap (λ (r : Run AskEnd). stores 4 0 (acknowledging a.wiring r)) (over_now a)
+
+line_walks_at : (t n : Bool) (a : Ask) (next : ℕ → Run AskEnd) → n ≡ true
+    → ((v : ℕ) → next v ≡ (if v == 0 then ends (drains a.error a.loaded) else stores 4 0 (acknowledging a.wiring (ends (drains a.error a.loaded)))))
+    → Takes (looking (from look_number 3 (look_table t n)) a.wiring (seen a)) (Load 4) next
+line_walks_at true true a next e h = (refl, h)
+line_walks_at false true a next e h = (refl, h)
+line_walks_at t false a next e h = cc
+
+lowered : (b : Bool) (a : Ask) → let k : Run AskEnd = looking (behind look_number 3 (look_steps a.wiring)) a.wiring (seen a) in ask_after (end_told b a.error) (lowered_on b a) ≡ (if b then masked_write 5 a.wiring.ack k else k)
+lowered true a = refl
+lowered false a = sym (over_now a)
+
+-- ---- every stage
+
+store_walks : (b : Bool) (j : ℕ) (a : Ask) → has_more j a.wiring ≡ b → length a.sent ≡ block_of a.wiring → ask_after None (store_on b j a) ≡ store_words (8 + j + 1) (drop (j + 1) a.sent) (posting (behind post_number 0 (post_steps (style_of a.wiring))) a.wiring a.code a.sent)
+store_walks true j a more long = ap (λ (p : ℕ). store_words p (drop (j + 1) a.sent) (posting (behind post_number 0 (post_steps (style_of a.wiring))) a.wiring a.code a.sent)) (next_place j)
+store_walks false j a more long = let k : Run AskEnd = posting (behind post_number 0 (post_steps (style_of a.wiring))) a.wiring a.code a.sent in let last : block_of a.wiring ≤ j + 1 = ltb-false (j + 1) (block_of a.wiring) more in
+    left_block (look_steps a.wiring) (style_of a.wiring) (record a { stage = after_block (style_of a.wiring) }) ∙ sym (ap (λ (l : List ℕ). store_words (8 + j + 1) l k) (none_left (j + 1) a.sent (omega arith)))
+
+abbrev pub left_at : AskStage → Ask → Run AskEnd
+left_at st a = ask_left_by (post_steps (style_of a.wiring)) (look_steps a.wiring) st a
+
+pub walks : (st : AskStage) (a : Ask) → st ≢ AskRest → AskOk (record a { stage = st }) → Takes (left_at st a) (ask_next_at st a) (λ v. ask_after (ask_told_at st a v) (ask_fed_at st a v))
+walks AskRest a runs ok = absurd (runs refl)
+walks (PostBlock j) a runs ok = let k : Run AskEnd = posting (behind post_number 0 (post_steps (style_of a.wiring))) a.wiring a.code a.sent in let here : j < block_of a.wiring = ok.place in let long : length a.sent ≡ block_of a.wiring = ok.sized.sent in
+    subst (λ (l : List ℕ). Takes (store_words (8 + j) l k) (ask_next_at (PostBlock j) a) (λ v. ask_after None (ask_fed_at (PostBlock j) a v))) (sym (dropped j a.sent (omega arith))) (refl, λ v. store_walks (has_more j a.wiring) j a refl long)
+walks PostHeader a runs ok = header_walks (look_steps a.wiring) (style_of a.wiring) a ok.place
+walks PostUpdateLoad a runs ok = update_walks (look_steps a.wiring) (style_of a.wiring) a ok.place
+walks PostUpdateStore a runs ok = (refl, λ v. left_update (look_steps a.wiring) (style_of a.wiring) (record a { stage = after_update (style_of a.wiring) }) ok.place)
+walks PostMarkLoad a runs ok = mark_walks (look_steps a.wiring) (style_of a.wiring) a ok.place
+walks PostMarkStore a runs ok = (refl, λ v. left_mark (look_steps a.wiring) (style_of a.wiring) (record a { stage = after_mark (style_of a.wiring) }) ok.place)
+walks PostBellLoad a runs ok = bell_walks (look_steps a.wiring) (style_of a.wiring) a ok.place
+walks PostBellStore a runs ok = (refl, λ v. left_bell (look_steps a.wiring) (style_of a.wiring) (record a { stage = after_bell (style_of a.wiring) }) ok.place)
+walks PostLine a runs ok = line_walks (look_steps a.wiring) (style_of a.wiring) a
+walks LookWord a runs ok = word_walks (tells_error a.wiring) a.wiring.notify a (λ v. ask_after (ask_told_at LookWord a v) (ask_fed_at LookWord a v)) (λ v. looked (sees_done a.wiring v) v a)
+walks LookError a runs ok = error_walks (post_steps (style_of a.wiring)) (tells_error a.wiring) a.wiring.notify a ok.place
+walks (LookBlock j) a runs ok = let k = λ (l : List ℕ). looking (behind look_number 2 (look_steps a.wiring)) a.wiring (record { error = a.error; block = l }) in let n : ℕ = block_of a.wiring in let here : j < n = ok.place in let e : suc (n - (j + 1)) ≡ n - j = omega arith in
+    subst (λ (m : ℕ). Takes (load_words (8 + j) m (take j a.loaded) k) (Load (8 + j)) (λ v. ask_after (ask_told_at (LookBlock j) a v) (ask_fed_at (LookBlock j) a v))) e (refl, λ v. read (has_more j a.wiring) j v a refl here ok.sized.loaded)
+walks LookLine a runs ok = line_walks_at (tells_error a.wiring) a.wiring.notify a (λ v. ask_after (ask_told_at LookLine a v) (ask_fed_at LookLine a v)) ok.place (λ v. lined (eqb v 0) a)
+walks LookLineStore a runs ok = (refl, λ v. lowered (acknowledges a.wiring) a)
+walks LookAckLoad a runs ok = (refl, λ v. refl)
+walks LookAckStore a runs ok = (refl, λ v. sym (over_now a))
+
+-- ---- the beginnings
+
+first_block : (s : Style) (w : Wiring) (code : ℕ) (block : List ℕ) → store_words 8 block (posting (behind post_number 0 (post_steps s)) w code block) ≡ posting (post_steps s) w code block
+first_block Headed w code block = refl
+first_block _ w code block = refl
