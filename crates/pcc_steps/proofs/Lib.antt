@@ -12,3 +12,4 @@ pub mod AnswerBegins
 pub mod Starts
 pub mod Agreement
 pub mod AskWalks
+pub mod AnswerWalks
