@@ -17,10 +17,12 @@ use Rattle.pcc_steps.specs.declared.answer.AnswerOutcome.{AnswerOutcome}
 use Rattle.pcc_steps.specs.declared.answer.AnswerOutcome.TheVariants.{Idle, Served}
 use Rattle.pcc_steps.specs.Wires.{style_of, heads_of, block_of, status_of, tells_error, four_by, asks_by, masked_by, update_place}
 use Rattle.pcc_steps.specs.Runs.{Run, ends, loads, stores, swaps, executes, store_words, load_words, masked_write, AnswerStep, takes_bell, acknowledges_bell, takes_header, takes_block, executes_command, replies_space, replies_error, replies_status, replies_update, replies_completion, rings_bell, raises_interrupt, only, taking_steps, completing_steps, answer_table, answer_steps, answering, answer_run, AnswerEnd, finds_none, serves, Got}
-use Rattle.pcc_steps.specs.Asking.{has_more}
-use Rattle.pcc_steps.specs.Answering.{Answer, AnswerOk, AnswerPlace, AnswerUpdates, AnswerSets, answer_next_at, answer_fed_at, answer_told_at, answer_begun, take_on, load_on, reply_on, take_told, served_at, after_ack, after_take, after_error, after_reply, after_close, after_done, update_stage, asks_notify, ran_with}
+use Rattle.pcc_steps.specs.Asking.{has_more, rose}
+use Rattle.pcc_steps.specs.Answering.{Answer, AnswerOk, AnswerPlace, AnswerUpdates, AnswerSets, answer_next_at, answer_fed_at, answer_told_at, answer_begun, answer_stepped, answer_code, take_on, load_on, reply_on, take_told, served_at, after_ack, after_take, after_error, after_reply, after_close, after_done, update_stage, asks_notify, ran_with}
 use Rattle.pcc_steps.specs.Walk.{answer_number, from, behind, got, answer_left_by, answer_left, answer_after, Takes, Gives}
-use Rattle.pcc_steps.proofs.AskWalks.{dropped, none_left, all_taken, next_place}
+use Rattle.pcc_steps.specs.Laws.{AnswersByTable, AnswerStepsByTable, ExecutesByTable}
+use Rattle.pcc_steps.proofs.Spaces.{behind_front}
+use Rattle.pcc_steps.proofs.AskWalks.{dropped, none_left, all_taken, next_place, takes_so}
 
 -- ---- places in the table
 
@@ -261,3 +263,42 @@ walks ReplyMarkStore a runs steps ok = (refl, λ v. done_left (rings a) a refl �
 walks CloseBellLoad a runs steps ok = bell_walks (style_of a.wiring) (acks a) (tells a) (rings a) a ok.place
 walks CloseBellStore a runs steps ok = (refl, λ v. closed (asks_notify a) a ∙ sym (ap (λ (z : List AnswerStep). answering z a.wiring (got a)) (rung_off (style_of a.wiring) (acks a) (tells a) (rings a) ok.place)))
 walks CloseLine a runs steps ok = (refl, λ v. refl)
+
+-- ---- the device, and the beginning
+
+pub gives : (a : Answer) → AnswerOk (record a { stage = RunDevice }) → Gives (left_at RunDevice a) (Execute (answer_code a)) (bytes_of (drop (heads_of (style_of a.wiring)) a.loaded)) (λ bad reply. answer_left (ran_with (record a { space = reply }) bad))
+gives a ok = let w = a.wiring in let k : ℕ = heads_of (style_of w) in let long : length a.loaded ≡ block_of w = ok.sized.loaded in
+    subst (λ (l : List AnswerStep). Gives (answering l w (got a)) (Execute (answer_code a)) (bytes_of (drop k a.loaded)) (λ bad reply. answer_left (ran_with (record a { space = reply }) bad))) (sym (from_four (style_of w) (acks a) (tells a) (rings a)))
+        (refl, refl, λ bad reply. (λ i. store_words (8 + k) (behind_front k a.loaded (words_of reply) (omega arith) i) (answering (drop 1 (from_five (style_of w) (acks a) (tells a) (rings a) i)) w (record { header = a.header; block = a.loaded; bad = bad; reply = reply }))))
+
+-- what an earlier run has left is not used
+fresh : (s : Style) (w : Wiring) (l : List AnswerStep) (b b' : List ℕ) (e e' : Bool) (r r' : List ℕ)
+    → answering (taking_steps s (executes_command ∷ l)) w (record { header = 0; block = b; bad = e; reply = r }) ≡ answering (taking_steps s (executes_command ∷ l)) w (record { header = 0; block = b'; bad = e'; reply = r' })
+fresh Headed w l b b' e e' r r' = refl
+fresh _ w l b b' e e' r r' = refl
+
+fresh_run : (ack : Bool) (s : Style) (w : Wiring) (l : List AnswerStep) (b b' : List ℕ) (e e' : Bool) (r r' : List ℕ)
+    → answering (only ack acknowledges_bell (taking_steps s (executes_command ∷ l))) w (record { header = 0; block = b; bad = e; reply = r }) ≡ answering (only ack acknowledges_bell (taking_steps s (executes_command ∷ l))) w (record { header = 0; block = b'; bad = e'; reply = r' })
+fresh_run true s w l b b' e e' r r' = ap (masked_write 5 w.ack) (fresh s w l b b' e e' r r')
+fresh_run false s w l b b' e e' r r' = fresh s w l b b' e e' r r'
+
+pub answers_by_table : AnswersByTable
+answers_by_table a = let w = a.wiring in ap (λ (r : Run AnswerEnd). swaps 2 0 (λ v. if v == 0 then ends finds_none else r)) (fresh_run (acks a) (style_of w) w (replies_space ∷ replied (style_of w) (tells a) (rings a)) a.loaded [] a.bad false a.space [])
+
+-- the count of steps is no part of a run
+stepped_at : (steps : List AnswerStep) (st : AnswerStage) (a : Answer) (n : ℕ) → answer_left_by steps st (record a { steps = n }) ≡ answer_left_by steps st a
+stepped_at steps AnswerRest a n = refl
+stepped_at steps _ a n = refl
+
+after_stepped : (told : Option AnswerOutcome) (a : Answer) → answer_after told (answer_stepped a) ≡ answer_after told a
+after_stepped None a = stepped_at (answer_steps a.wiring) a.stage a (rose a.steps)
+after_stepped (Some Idle) a = refl
+after_stepped (Some Served) a = refl
+
+pub answer_steps_by_table : AnswerStepsByTable
+answer_steps_by_table a ok runs = takes_so (answer_left a) (answer_next_at a.stage a) (λ v. answer_after (answer_told_at a.stage a v) (answer_fed_at a.stage a v)) (λ v. answer_after (answer_told_at a.stage a v) (answer_stepped (answer_fed_at a.stage a v)))
+    (λ v. after_stepped (answer_told_at a.stage a v) (answer_fed_at a.stage a v)) (walks a.stage a runs.0 runs.1 ok)
+
+pub executes_by_table : ExecutesByTable
+executes_by_table a ok rest = let z : AnswerOk (record a { stage = RunDevice }) = subst (λ (st : AnswerStage). AnswerOk (record a { stage = st })) rest ok in
+    subst (λ (st : AnswerStage). Gives (left_at st a) (answer_next_at st a) (bytes_of (drop (heads_of (style_of a.wiring)) a.loaded)) (λ bad reply. answer_left (ran_with (record a { space = reply }) bad))) (sym rest) (gives a z)

@@ -5,13 +5,19 @@ use borrow.Author.Tests.{ltb-true, ltb-false}
 use Rattle.pcc_steps.specs.declared.wiring.Wiring.{Wiring}
 use Rattle.pcc_steps.specs.declared.wiring.Style.{Style}
 use Rattle.pcc_steps.specs.declared.wiring.Style.TheVariants.{Headed, Joined3, Separate3, Joined4, Separate4, Reduced5}
-use Rattle.std.specs.Prelude.{None}
+use Rattle.std.specs.Prelude.{Option, None, Some}
+use Rattle.pcc_history.specs.Channel.{over}
+use Rattle.shmem_header.specs.Spelling.{words_of}
+use Rattle.pcc_steps.specs.Laws.{AsksByTable, PostsByTable, LooksByTable}
+use Rattle.pcc_steps.specs.declared.ask.AskOutcome.{AskOutcome}
+use Rattle.pcc_steps.specs.declared.ask.AskOutcome.TheVariants.{Posted, Clear, Drained}
+use Rattle.pcc_steps.specs.declared.wiring.Action.{Action}
 use Rattle.pcc_steps.specs.declared.wiring.Action.TheVariants.{Load, Store}
 use Rattle.pcc_steps.specs.declared.ask.AskStage.{AskStage}
 use Rattle.pcc_steps.specs.declared.ask.AskStage.TheVariants.{AskRest, PostBlock, PostHeader, PostUpdateLoad, PostUpdateStore, PostMarkLoad, PostMarkStore, PostBellLoad, PostBellStore, PostLine, LookWord, LookError, LookBlock, LookLine, LookLineStore, LookAckLoad, LookAckStore}
-use Rattle.pcc_steps.specs.Wires.{style_of, heads_of, block_of, sent_header, meets, sees_done, tells_error, header_error, acknowledges, masked_by, without, update_place}
+use Rattle.pcc_steps.specs.Wires.{style_of, heads_of, block_of, sent_header, meets, sees_done, tells_error, header_error, acknowledges, masked_by, without, update_place, block_header}
 use Rattle.pcc_steps.specs.Runs.{Run, ends, loads, stores, swaps, executes, store_words, load_words, PostStep, post_steps, posting, post_run, AskEnd, posts, sees_clear, drains, LookStep, look_table, look_steps, looking, look_run, acknowledging, masked_write, Seen}
-use Rattle.pcc_steps.specs.Asking.{Ask, AskOk, AskUpdates, AskClears, AskRings, has_more, ask_next_at, ask_fed_at, ask_told_at, store_on, look_on, read_on, block_on, line_on, lowered_on, look_told, read_told, end_told, line_told, after_block, after_update, after_mark, after_bell, after_look}
+use Rattle.pcc_steps.specs.Asking.{Ask, AskOk, AskUpdates, AskClears, AskRings, has_more, rose, ask_stepped, ask_next_at, ask_fed_at, ask_told_at, store_on, look_on, read_on, block_on, line_on, lowered_on, look_told, read_told, end_told, line_told, after_block, after_update, after_mark, after_bell, after_look}
 use Rattle.pcc_steps.specs.Walk.{post_number, look_number, from, behind, ask_left_by, ask_left, ask_after, Takes}
 
 -- ---- lists
@@ -213,3 +219,32 @@ walks LookAckStore a runs ok = (refl, λ v. sym (over_now a))
 first_block : (s : Style) (w : Wiring) (code : ℕ) (block : List ℕ) → store_words 8 block (posting (behind post_number 0 (post_steps s)) w code block) ≡ posting (post_steps s) w code block
 first_block Headed w code block = refl
 first_block _ w code block = refl
+
+-- the count of steps is no part of a run
+stepped_at : (post : List PostStep) (look : List LookStep) (st : AskStage) (a : Ask) (n : ℕ) → ask_left_by post look st (record a { steps = n }) ≡ ask_left_by post look st a
+stepped_at post look AskRest a n = refl
+stepped_at post look _ a n = refl
+
+after_stepped : (told : Option AskOutcome) (a : Ask) → ask_after told (ask_stepped a) ≡ ask_after told a
+after_stepped None a = stepped_at (post_steps (style_of a.wiring)) (look_steps a.wiring) a.stage a (rose a.steps)
+after_stepped (Some Posted) a = refl
+after_stepped (Some Clear) a = refl
+after_stepped (Some (Drained e)) a = refl
+
+-- what follows may be told in another way
+pub takes_so : {E : Type 0} (r : Run E) (x : Action) (f g : ℕ → Run E) → ((v : ℕ) → g v ≡ f v) → Takes r x f → Takes r x g
+takes_so (ends e) x f g same t = t
+takes_so (loads p h) x f g same t = (t.0, λ v. same v ∙ t.1 v)
+takes_so (stores p u r) x f g same t = (t.0, λ v. same v ∙ t.1 v)
+takes_so (swaps p u h) x f g same t = (t.0, λ v. same v ∙ t.1 v)
+takes_so (executes code s h) x f g same t = t
+
+pub asks_by_table : AsksByTable
+asks_by_table a ok runs = takes_so (ask_left a) (ask_next_at a.stage a) (λ v. ask_after (ask_told_at a.stage a v) (ask_fed_at a.stage a v)) (λ v. ask_after (ask_told_at a.stage a v) (ask_stepped (ask_fed_at a.stage a v)))
+    (λ v. after_stepped (ask_told_at a.stage a v) (ask_fed_at a.stage a v)) (walks a.stage a runs ok)
+
+pub posts_by_table : PostsByTable
+posts_by_table a code bytes = first_block (style_of a.wiring) a.wiring code (block_header (style_of a.wiring) a.wiring code (length bytes) ++ words_of (over a.space bytes))
+
+pub looks_by_table : LooksByTable
+looks_by_table a = refl

@@ -1,6 +1,6 @@
 -- The runs of both ends, step by step, and which words each step loads, stores and swaps.
 -- A run never looks ahead: each step may use what the steps before it found.
-use Rattle.std.specs.Prelude.{ℕ, bit_or, ◌+◌, ◌-◌, ◌^◌, ◌==◌, zero, suc, Bool, true, false, not, if◌then◌else◌, List, [], ◌∷◌, ◌++◌, length, take, drop}
+use Rattle.std.specs.Prelude.{ℕ, bit_or, ◌+◌, ◌-◌, ◌*◌, ◌^◌, ◌<◌, ◌≡◌, ◌==◌, zero, suc, Bool, true, false, not, if◌then◌else◌, List, [], ◌∷◌, ◌++◌, length, take, drop}
 use Rattle.pcc_gas.specs.declared.mask.Masks.{Masks}
 use Rattle.pcc_steps.specs.declared.wiring.Wiring.{Wiring}
 use Rattle.pcc_steps.specs.declared.wiring.Style.{Style}
@@ -31,6 +31,14 @@ load_words p (suc n) found k = loads p (λ v. load_words (p + 1) n (found ++ v �
 -- a register is read, and written with the bits to preserve as they were and the bits to set
 abbrev pub masked_write : {E : Type 0} → ℕ → Masks → Run E → Run E
 masked_write p m k = loads p (λ v. stores p (masked_by m v) k)
+
+-- the run takes at most so many loads, stores and swaps, where the device leaves a space of the same length
+abbrev pub Within : {E : Type 0} → ℕ → Run E → Type 0
+Within n (ends e) = Unit {0}
+Within n (loads p f) = (0 < n) × ((v : ℕ) → Within (n - 1) (f v))
+Within n (stores p u r) = (0 < n) × Within (n - 1) r
+Within n (swaps p u f) = (0 < n) × ((v : ℕ) → Within (n - 1) (f v))
+Within n (executes code s f) = (bad : Bool) (reply : List ℕ) → length reply ≡ length s → Within n (f bad reply)
 
 -- a step that is taken under a condition
 abbrev pub only : {S : Type 0} → Bool → S → List S → List S
