@@ -13,3 +13,4 @@ pub mod Starts
 pub mod Agreement
 pub mod AskWalks
 pub mod AnswerWalks
+pub mod Bounds

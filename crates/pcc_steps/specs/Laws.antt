@@ -9,7 +9,7 @@ use Rattle.pcc_exec.specs.Execution.{IsSpace, Leaves}
 use Rattle.pcc_steps.specs.declared.wiring.Wiring.{Wiring}
 use Rattle.pcc_steps.specs.declared.ask.AskStage.TheVariants.{AskRest}
 use Rattle.pcc_steps.specs.declared.answer.AnswerStage.TheVariants.{AnswerRest, RunDevice}
-use Rattle.pcc_steps.specs.Wires.{style_of, heads_of, block_of, IsRight, block_header, opening_words}
+use Rattle.pcc_steps.specs.Wires.{style_of, heads_of, block_of, block_header, opening_words}
 use Rattle.pcc_steps.specs.Asking.{Ask, AskOk, IsNewAsk, CodeFits, IsAskRunning, ask_next, ask_fed, ask_told, ask_begun, ask_looking, ask_budgeted}
 use Rattle.pcc_steps.specs.Answering.{Answer, AnswerOk, IsNewAnswer, IsAnswerStepping, answer_next, answer_fed, answer_told, answer_begun, ran_with}
 use Rattle.pcc_steps.specs.Runs.{Within, post_run, look_run, answer_run}
@@ -91,4 +91,4 @@ abbrev pub LooksWithin : Type 0
 LooksWithin = (w : Wiring) → Within (block_of w + 6) (look_run w)
 
 abbrev pub AnswersWithin : Type 0
-AnswersWithin = (w : Wiring) → IsRight w → Within (2 * block_of w + 11) (answer_run w)
+AnswersWithin = (w : Wiring) → Within (2 * block_of w + 11) (answer_run w)
