@@ -14,3 +14,4 @@ pub mod Agreement
 pub mod AskWalks
 pub mod AnswerWalks
 pub mod Bounds
+pub mod Lengths

@@ -92,3 +92,30 @@ LooksWithin = (w : Wiring) → Within (block_of w + 6) (look_run w)
 
 abbrev pub AnswersWithin : Type 0
 AnswersWithin = (w : Wiring) → Within (2 * block_of w + 11) (answer_run w)
+
+-- so many steps of one run of the asking machine, which found these values
+abbrev pub IsAskRun : Ask → List ℕ → Type 0
+IsAskRun a [] = Unit {0}
+IsAskRun a (v ∷ vs) = AskOk a × IsAskRunning a × IsAskRun (ask_fed a v) vs
+
+-- what happens to the answering machine: a word step finds a value, or the device leaves a reply
+pub data Event : Type 0 where
+  finds : ℕ → Event
+  replies : Bool → List ℕ → Event
+
+abbrev pub IsAnswerRun : Answer → List Event → Type 0
+IsAnswerRun a [] = Unit {0}
+IsAnswerRun a (finds v ∷ es) = AnswerOk a × IsAnswerStepping a × IsAnswerRun (answer_fed a v) es
+IsAnswerRun a (replies bad reply ∷ es) = AnswerOk a × (a.stage ≡ RunDevice) × (length reply ≡ a.wiring.room) × IsAnswerRun (ran_with (record a { space = reply }) bad) es
+
+abbrev pub word_steps : List Event → ℕ
+word_steps [] = 0
+word_steps (finds v ∷ es) = word_steps es + 1
+word_steps (replies bad reply ∷ es) = word_steps es
+
+-- a run of a machine is no longer than its table says
+abbrev pub AskRunsWithin : Type 0
+AskRunsWithin = (n : ℕ) (a : Ask) (vs : List ℕ) → Within n (ask_left a) → IsAskRun a vs → length vs ≤ n
+
+abbrev pub AnswerRunsWithin : Type 0
+AnswerRunsWithin = (n : ℕ) (a : Answer) (es : List Event) → Within n (answer_left a) → IsAnswerRun a es → word_steps es ≤ n
