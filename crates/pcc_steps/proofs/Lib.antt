@@ -15,3 +15,4 @@ pub mod AskWalks
 pub mod AnswerWalks
 pub mod Bounds
 pub mod Lengths
+pub mod Nexts

@@ -60,6 +60,14 @@ answer_next_at CloseLine a = Store 4 1
 abbrev pub answer_next : Answer → Action
 answer_next a = answer_next_at a.stage a
 
+-- the device is to run
+abbrev pub IsExecute : Action → Type 0
+IsExecute (Execute code) = Unit {0}
+IsExecute (Load p) = ⊥
+IsExecute (Store p v) = ⊥
+IsExecute (Swap p v) = ⊥
+IsExecute Rest = ⊥
+
 -- ---- the stage after a step
 
 abbrev pub after_ack : Style → AnswerStage

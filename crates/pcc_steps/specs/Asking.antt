@@ -64,6 +64,14 @@ ask_next_at LookAckStore a = Store 5 (masked_by a.wiring.ack a.kept)
 abbrev pub ask_next : Ask → Action
 ask_next a = ask_next_at a.stage a
 
+-- the action's place is one of so many words
+abbrev pub IsWithin : ℕ → Action → Type 0
+IsWithin n (Load p) = p < n
+IsWithin n (Store p v) = p < n
+IsWithin n (Swap p v) = p < n
+IsWithin n (Execute code) = Unit {0}
+IsWithin n Rest = Unit {0}
+
 -- ---- the stage after a step
 
 abbrev pub after_block : Style → AskStage

@@ -1,12 +1,13 @@
 //! The asking machine: it posts commands, and looks for their completion, one word step at a time (ACPI 6.5, 14.5).
 
-ghost use Rattle.std.specs.Prelude.{◌≡◌, ◌<◌, ◌≤◌, ◌+◌, ◌/◌, ◌%◌, ◌^◌, ◌++◌, ◌∷◌, [], length, true, false, IfOk};
+ghost use Rattle.std.specs.Prelude.{◌≡◌, ◌↔◌, ◌<◌, ◌≤◌, ◌+◌, ◌/◌, ◌%◌, ◌^◌, ◌++◌, ◌∷◌, [], length, true, false, IfOk};
 ghost use Rattle.pcc_history.specs.Channel.{over};
 ghost use Rattle.shmem_header.specs.Spelling.{words_of};
 ghost use Rattle.pcc_steps.specs.declared.ask.AskStage.TheVariants.{AskRest};
+ghost use Rattle.pcc_steps.specs.declared.wiring.Action.TheVariants.{Rest};
 ghost use Rattle.pcc_steps.specs.declared.ask.AskOutcome.TheVariants.{Drained};
 ghost use Rattle.pcc_steps.specs.Wires.{IsRight, style_of, block_of, block_header, opening_header, sees_done, meets, masked_by, without, update_place, acknowledges, tells_error, header_error, sent_header};
-ghost use Rattle.pcc_steps.specs.Asking.{Ask, AskOk, IsNewAsk, CodeFits, IsAskRunning, ask_next, ask_fed, ask_told, ask_begun, ask_looking, ask_budgeted, drained, rose, after_block, after_update, after_mark, after_bell, after_look};
+ghost use Rattle.pcc_steps.specs.Asking.{Ask, AskOk, IsNewAsk, CodeFits, IsAskRunning, IsWithin, ask_next, ask_fed, ask_told, ask_begun, ask_looking, ask_budgeted, drained, rose, after_block, after_update, after_mark, after_bell, after_look};
 
 use crate::wiring::{Action, Style, Wiring, place};
 use pcc_gas::masked;
@@ -184,8 +185,11 @@ impl AskState {
 }
 
 /// The next word step: `Rest` exactly where no run is under way.
+#[tactic(auto, using(crate::proofs::Nexts::ask_rests, crate::proofs::Nexts::ask_within))]
 pub fn ask_next(ask: &AskState) -> Action
     ensures action { result ≡ ask_next ask.now }
+    ensures rest { (ask_next ask.now ≡ Rest) ↔ (ask.now.stage ≡ AskRest) }
+    ensures place { IsWithin (8 + block_of ask.now.wiring) (ask_next ask.now) }
     ensures right { AskOk ask.now }
 {
     let wiring = &ask.wiring;
