@@ -24,7 +24,6 @@ use Rattle.pcc_steps.proofs.Lists.{mix_more, mix_all, take_all, loads, set_block
 use Rattle.pcc_steps.proofs.Bits.{reports_headed, status_seen, sets_mark, sets_update, shows_stored, shows_none, code_known}
 use Rattle.pcc_steps.proofs.Spaces.{block_long, same_front, bytes_again, mix_front, some_words, behind_heads}
 use Rattle.pcc_steps.proofs.Legality.{legal_more, state_more, room_more, state_kept}
-
 use Rattle.pcc_steps.proofs.AnswerPlaces.{place_close, place_done}
 use Rattle.pcc_steps.proofs.AnswerKeeps.{staged, at, KeepsAt, while_replying, still, in_flight, moves, steps_on, rests, takes_line, loads_ack, stores_ack, loads_header, loads_block, runs}
 
@@ -80,25 +79,25 @@ module _ (exec : Device) (is_state : List ℕ → Type 0) (room : ℕ) (law : (d
   replied_on true j x y c more g = let ok = g.answer_ok in let w = x.m.wiring in let n : ℕ = block_of w in let here : j < n = ok.place.1 in let from : heads_of (style_of w) ≤ j = ok.place.0 in let t = while_replying exec is_state room law start sound (pose x.m) j x (at (ReplyBlock j) x y) c g.fits in
       let long : length y.m.out ≡ n = ok.sized.out in let long' : length x.m.sent ≡ n = g.ask_ok.sized.sent in let z : Answerer = at (ReplyBlock (j + 1)) x y in let d : Core = record c { block = set c.block j (get_or y.m.out j 0) } in
       moves exec is_state room law start sound x y c d (ReplyBlock j) (ReplyBlock (j + 1)) y.m.kept y.m.header y.m.loaded g (steps_on exec is_state room law start sound (staged (ReplyBlock j) x y) (ReplyBlock (j + 1)) y.m.kept ok ok.kept (omega arith, ltb-true (j + 1) n more)) tt g.irq
-          (in_flight exec is_state room law start sound (replying (j + 1)) x z d t.0 record {
-            row = record { completion = t.1.row.completion; line = t.1.row.line; block = ap (λ (l : List ℕ). set l j (get_or y.m.out j 0)) t.1.row.block ∙ mix_more j y.m.out x.m.sent (omega arith) (omega arith); done = t.1.row.done };
-            header = t.1.header;
-            out = t.1.out;
-            bytes = t.1.bytes;
-            told = tt;
-          })
+      (in_flight exec is_state room law start sound (replying (j + 1)) x z d t.0 record {
+        row = record { completion = t.1.row.completion; line = t.1.row.line; block = ap (λ (l : List ℕ). set l j (get_or y.m.out j 0)) t.1.row.block ∙ mix_more j y.m.out x.m.sent (omega arith) (omega arith); done = t.1.row.done };
+        header = t.1.header;
+        out = t.1.out;
+        bytes = t.1.bytes;
+        told = tt;
+      })
   replied_on false j x y c more g = let ok = g.answer_ok in let w = x.m.wiring in let n : ℕ = block_of w in let here : j < n = ok.place.1 in let t = while_replying exec is_state room law start sound (pose x.m) j x (at (ReplyBlock j) x y) c g.fits in
       let long : length y.m.out ≡ n = ok.sized.out in let long' : length x.m.sent ≡ n = g.ask_ok.sized.sent in let s : Style = style_of w in let b : Bool = tells_error w in let st : AnswerStage = after_reply b s in let z : Answerer = at st x y in
       let last : n ≤ j + 1 = ltb-false (j + 1) n more in let all : j + 1 ≡ n = omega arith in let d : Core = record c { block = set c.block j (get_or y.m.out j 0) } in
       subst (λ (u : Answerer). Agreed exec start x u d) (sym (settled_reply b s z))
-          (moves exec is_state room law start sound x y c d (ReplyBlock j) st y.m.kept y.m.header y.m.loaded g (steps_on exec is_state room law start sound (staged (ReplyBlock j) x y) st y.m.kept ok ok.kept (place_reply b s w refl refl)) (between_reply b s) g.irq
-              (subst (λ (t : Turn). Fits (pose x.m) t x z d) (sym (turn_reply b s z.m)) (in_flight exec is_state room law start sound (replying n) x z d t.0 record {
-                row = record { completion = t.1.row.completion; line = t.1.row.line; block = ap (λ (l : List ℕ). set l j (get_or y.m.out j 0)) t.1.row.block ∙ (mix_more j y.m.out x.m.sent (omega arith) (omega arith) ∙ ap (λ (k : ℕ). mix k y.m.out x.m.sent) all); done = t.1.row.done };
-                header = t.1.header;
-                out = t.1.out;
-                bytes = t.1.bytes;
-                told = told_reply b s w c.error y.m.bad refl;
-              })))
+      (moves exec is_state room law start sound x y c d (ReplyBlock j) st y.m.kept y.m.header y.m.loaded g (steps_on exec is_state room law start sound (staged (ReplyBlock j) x y) st y.m.kept ok ok.kept (place_reply b s w refl refl)) (between_reply b s) g.irq
+      (subst (λ (t : Turn). Fits (pose x.m) t x z d) (sym (turn_reply b s z.m)) (in_flight exec is_state room law start sound (replying n) x z d t.0 record {
+        row = record { completion = t.1.row.completion; line = t.1.row.line; block = ap (λ (l : List ℕ). set l j (get_or y.m.out j 0)) t.1.row.block ∙ (mix_more j y.m.out x.m.sent (omega arith) (omega arith) ∙ ap (λ (k : ℕ). mix k y.m.out x.m.sent) all); done = t.1.row.done };
+        header = t.1.header;
+        out = t.1.out;
+        bytes = t.1.bytes;
+        told = told_reply b s w c.error y.m.bad refl;
+      })))
 
   stores_reply : (j : ℕ) (x : Asker) (y : Answerer) → KeepsAt exec is_state room law start sound (ReplyBlock j) x y
   stores_reply j x y ws v same g f small = let c = g.0 in let o = g.1.0 in let s : ℕ = get_or y.m.out j 0 in (
@@ -115,13 +114,13 @@ module _ (exec : Device) (is_state : List ℕ → Type 0) (room : ℕ) (law : (d
           ap (λ (l : List ℕ). set l 3 e) g.1.1,
           subst (λ (u : Answerer). Agreed exec start x u d) (sym (settled_error s z))
               (moves exec is_state room law start sound x y c d ReplyError st y.m.kept y.m.header y.m.loaded h (steps_on exec is_state room law start sound (staged ReplyError x y) st y.m.kept ok ok.kept (place_error s w refl)) (between_error s) h.irq
-                  (subst (λ (t : Turn). Fits (pose x.m) t x z d) (sym (turn_error s z.m)) (in_flight exec is_state room law start sound (replying n) x z d t.0 record {
-                    row = record { completion = t.1.row.completion; line = t.1.row.line; block = t.1.row.block; done = t.1.row.done };
-                    header = t.1.header;
-                    out = t.1.out;
-                    bytes = t.1.bytes;
-                    told = told_error s w e (both w.reports y.m.bad) (shows_stored w y.m.bad ok.place h.ask_ok.wired);
-                  }))),
+              (subst (λ (t : Turn). Fits (pose x.m) t x z d) (sym (turn_error s z.m)) (in_flight exec is_state room law start sound (replying n) x z d t.0 record {
+                row = record { completion = t.1.row.completion; line = t.1.row.line; block = t.1.row.block; done = t.1.row.done };
+                header = t.1.header;
+                out = t.1.out;
+                bytes = t.1.bytes;
+                told = told_error s w e (both w.reports y.m.bad) (shows_stored w y.m.bad ok.place h.ask_ok.wired);
+              }))),
         ),
       )
 
@@ -164,8 +163,8 @@ module _ (exec : Device) (is_state : List ℕ → Type 0) (room : ℕ) (law : (d
         shows = shows;
       } in
       subst (λ (u : Answerer). Agreed exec start x u d) (sym (settled_done b asks u))
-          (moves exec is_state room law start sound x y c d before st y.m.kept y.m.header y.m.loaded g (steps_on exec is_state room law start sound (staged before x y) st y.m.kept ok ok.kept (place_done b asks w refl)) (between_done b asks) g.irq
-              (subst (λ (t : Turn). Fits (pose x.m) t x u d) (sym (turn_done b asks u.m)) (in_flight exec is_state room law start sound quiet x u d q (inr ((e, y.m.space), k)))))
+      (moves exec is_state room law start sound x y c d before st y.m.kept y.m.header y.m.loaded g (steps_on exec is_state room law start sound (staged before x y) st y.m.kept ok ok.kept (place_done b asks w refl)) (between_done b asks) g.irq
+      (subst (λ (t : Turn). Fits (pose x.m) t x u d) (sym (turn_done b asks u.m)) (in_flight exec is_state room law start sound quiet x u d q (inr ((e, y.m.space), k)))))
 
   -- every error of types 0 to 2 is reported
   all_told : (r bad : Bool) → r ≡ true → both r bad ≡ bad
@@ -183,14 +182,26 @@ module _ (exec : Device) (is_state : List ℕ → Type 0) (room : ℕ) (law : (d
       (record c { completion = z }, (g.1.0, ap (λ (l : List ℕ). set l 0 z) g.1.1, completes ReplyHeader z x y c h t.0 t.1 t.1.told mark))
 
   loads_update : (x : Asker) (y : Answerer) → KeepsAt exec is_state room law start sound ReplyUpdateLoad x y
-  loads_update x y ws v same g f small = let c = g.0 in let h = g.1.2 in let ok = h.answer_ok in let n : ℕ = block_of x.m.wiring in let t = while_replying exec is_state room law start sound (pose x.m) n x (at ReplyUpdateLoad x y) c h.fits in let z : Answerer = record y { m = record y.m { wiring = x.m.wiring; stage = ReplyUpdateStore; kept = v } } in
-      (c, (g.1.0, g.1.1, moves exec is_state room law start sound x y c c ReplyUpdateLoad ReplyUpdateStore v y.m.header y.m.loaded h (steps_on exec is_state room law start sound (staged ReplyUpdateLoad x y) ReplyUpdateStore v ok small ok.place) tt h.irq
-          (in_flight exec is_state room law start sound (replying n) x z c t.0 record { row = t.1.row; header = t.1.header; out = t.1.out; bytes = t.1.bytes; told = t.1.told })))
+  loads_update x y ws v same g f small = let c = g.0 in let h = g.1.2 in let ok = h.answer_ok in let n : ℕ = block_of x.m.wiring in let t = while_replying exec is_state room law start sound (pose x.m) n x (at ReplyUpdateLoad x y) c h.fits in let z : Answerer = record y { m = record y.m { wiring = x.m.wiring; stage = ReplyUpdateStore; kept = v } } in (
+    c,
+    (
+      g.1.0,
+      g.1.1,
+      moves exec is_state room law start sound x y c c ReplyUpdateLoad ReplyUpdateStore v y.m.header y.m.loaded h (steps_on exec is_state room law start sound (staged ReplyUpdateLoad x y) ReplyUpdateStore v ok small ok.place) tt h.irq
+          (in_flight exec is_state room law start sound (replying n) x z c t.0 record { row = t.1.row; header = t.1.header; out = t.1.out; bytes = t.1.bytes; told = t.1.told }),
+    ),
+  )
 
   loads_mark : (x : Asker) (y : Answerer) → KeepsAt exec is_state room law start sound ReplyMarkLoad x y
-  loads_mark x y ws v same g f small = let c = g.0 in let h = g.1.2 in let ok = h.answer_ok in let n : ℕ = block_of x.m.wiring in let t = while_replying exec is_state room law start sound (pose x.m) n x (at ReplyMarkLoad x y) c h.fits in let z : Answerer = record y { m = record y.m { wiring = x.m.wiring; stage = ReplyMarkStore; kept = v } } in
-      (c, (g.1.0, g.1.1, moves exec is_state room law start sound x y c c ReplyMarkLoad ReplyMarkStore v y.m.header y.m.loaded h (steps_on exec is_state room law start sound (staged ReplyMarkLoad x y) ReplyMarkStore v ok small ok.place) tt h.irq
-          (in_flight exec is_state room law start sound (replying n) x z c t.0 record { row = t.1.row; header = t.1.header; out = t.1.out; bytes = t.1.bytes; told = t.1.told })))
+  loads_mark x y ws v same g f small = let c = g.0 in let h = g.1.2 in let ok = h.answer_ok in let n : ℕ = block_of x.m.wiring in let t = while_replying exec is_state room law start sound (pose x.m) n x (at ReplyMarkLoad x y) c h.fits in let z : Answerer = record y { m = record y.m { wiring = x.m.wiring; stage = ReplyMarkStore; kept = v } } in (
+    c,
+    (
+      g.1.0,
+      g.1.1,
+      moves exec is_state room law start sound x y c c ReplyMarkLoad ReplyMarkStore v y.m.header y.m.loaded h (steps_on exec is_state room law start sound (staged ReplyMarkLoad x y) ReplyMarkStore v ok small ok.place) tt h.irq
+          (in_flight exec is_state room law start sound (replying n) x z c t.0 record { row = t.1.row; header = t.1.header; out = t.1.out; bytes = t.1.bytes; told = t.1.told }),
+    ),
+  )
 
   not_headed : (s : Style) → AnswerSets s → s ≢ Headed
   not_headed Headed u e = u
@@ -242,7 +253,7 @@ module _ (exec : Device) (is_state : List ℕ → Type 0) (room : ℕ) (law : (d
       ap (λ (l : List ℕ). set l 1 z) g.1.1,
       subst (λ (u : Answerer). Agreed exec start x u c) (sym (settled_close b u))
           (moves exec is_state room law start sound x y c c CloseBellStore st y.m.kept y.m.header y.m.loaded h (steps_on exec is_state room law start sound (staged CloseBellStore x y) st y.m.kept ok ok.kept (place_close b w)) (between_close b) h.irq
-              (subst (λ (t : Turn). Fits (pose x.m) t x u c) (sym (turn_close b u.m)) (still exec is_state room law start sound (pose x.m) x (at CloseBellStore x y) c u.m h.fits))),
+          (subst (λ (t : Turn). Fits (pose x.m) t x u c) (sym (turn_close b u.m)) (still exec is_state room law start sound (pose x.m) x (at CloseBellStore x y) c u.m h.fits))),
     ),
   )
 

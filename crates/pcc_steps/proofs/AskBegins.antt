@@ -105,7 +105,7 @@ module _ (exec : Device) (start : List ℕ) where
   looks_at : (x : Asker) (y : Answerer) (c : Core) → x.m.in_flight ≡ true → x.m.looks < x.m.budget → Agreed exec start (at AskRest x) y c → Agreed exec start (at LookWord x) y c
   looks_at x y c flies left g = let ok = g.ask_ok in
       moves exec start (at AskRest x) y c c LookWord x.m.kept x.m.error x.m.loaded x.m.looks x.clears g (record { wired = ok.wired; sized = ok.sized; place = tt; flies = flies; looks = left; posts = ok.posts; kept = ok.kept; mask = ok.mask; id = ok.id; code = ok.code }) g.irq
-          (subst (λ (f : Bool). Fits (resting f) (turn y.m) (at AskRest x) y c) flies g.fits)
+      (subst (λ (f : Bool). Fits (resting f) (turn y.m) (at AskRest x) y c) flies g.fits)
 
   -- a run that looks begins
   pub looks_begin : (x : Asker) → x.m.stage ≡ AskRest → x.m.in_flight ≡ true → x.m.looks < x.m.budget → (ws : List ℕ) (y : Answerer) → Agree exec start ws x y → Agree exec start ws (record x { m = ask_looking x.m }) y

@@ -17,7 +17,10 @@ use crate::wiring::{Action, Style, Wiring, place};
 use pcc_exec::{ExecStatus, Executor};
 use pcc_gas::masked;
 use pcc_io::NoMemory;
-use shmem_header::{EXTENDED_NOTIFY_BIT, NOTIFY_BIT, bytes_into, code_in, command_in, is_set, with_status, words_into};
+use shmem_header::{
+    EXTENDED_NOTIFY_BIT, NOTIFY_BIT, bytes_into, code_in, command_in, is_set, with_status,
+    words_into,
+};
 use std::alloc::Global;
 use std::marker::Model;
 
@@ -154,7 +157,9 @@ pub fn answer_next(answer: &AnswerState) -> Action
         }
         AnswerStage::TakeHeader => Action::Load(place::COMPLETION),
         AnswerStage::TakeBlock(at) => Action::Load(place::BLOCK + at),
-        AnswerStage::RunDevice => Action::Execute { code: code_of(wiring, answer.header, &answer.loaded) },
+        AnswerStage::RunDevice => Action::Execute {
+            code: code_of(wiring, answer.header, &answer.loaded),
+        },
         AnswerStage::ReplyBlock(at) => Action::Store(place::BLOCK + at, answer.out[at as usize]),
         AnswerStage::ReplyError => Action::Store(place::ERROR, error_word(wiring, answer.bad)),
         AnswerStage::ReplyHeader => {
@@ -167,7 +172,10 @@ pub fn answer_next(answer: &AnswerState) -> Action
             Action::Store(update_place(wiring.style()), word)
         }
         AnswerStage::ReplyMarkLoad => Action::Load(place::COMPLETION),
-        AnswerStage::ReplyMarkStore => Action::Store(place::COMPLETION, answer.kept | wiring.check_mask),
+        AnswerStage::ReplyMarkStore => Action::Store(
+            place::COMPLETION,
+            answer.kept | wiring.check_mask,
+        ),
         AnswerStage::CloseBellLoad => Action::Load(place::BELL),
         AnswerStage::CloseBellStore => {
             let word = masked(answer.kept, wiring.bell.preserve, wiring.bell.set);
@@ -386,7 +394,11 @@ fn after_ack(style: Style) -> AnswerStage
 fn after_take(acknowledges: bool, style: Style) -> AnswerStage
     ensures { result ≡ after_take acknowledges style }
 {
-    if acknowledges { AnswerStage::TakeAckLoad } else { after_ack(style) }
+    if acknowledges {
+        AnswerStage::TakeAckLoad
+    } else {
+        after_ack(style)
+    }
 }
 
 fn after_error(style: Style) -> AnswerStage
@@ -402,13 +414,21 @@ fn after_error(style: Style) -> AnswerStage
 fn after_reply(tells: bool, style: Style) -> AnswerStage
     ensures { result ≡ after_reply tells style }
 {
-    if tells { AnswerStage::ReplyError } else { after_error(style) }
+    if tells {
+        AnswerStage::ReplyError
+    } else {
+        after_error(style)
+    }
 }
 
 fn after_close(asks: bool) -> AnswerStage
     ensures { result ≡ after_close asks }
 {
-    if asks { AnswerStage::CloseLine } else { AnswerStage::AnswerRest }
+    if asks {
+        AnswerStage::CloseLine
+    } else {
+        AnswerStage::AnswerRest
+    }
 }
 
 fn served_at(stage: AnswerStage) -> Option<AnswerOutcome>

@@ -12,7 +12,10 @@ ghost use Rattle.pcc_steps.specs.Asking.{Ask, AskOk, IsNewAsk, CodeFits, IsAskRu
 use crate::wiring::{Action, Style, Wiring, place};
 use pcc_gas::masked;
 use pcc_io::NoMemory;
-use shmem_header::{COMPLETE_BIT, ERROR_BIT, Extended, Reduced, bytes_into, extended_to, header_word, is_set, reduced_to, signature_of, words_into};
+use shmem_header::{
+    COMPLETE_BIT, ERROR_BIT, Extended, Reduced, bytes_into, extended_to, header_word, is_set,
+    reduced_to, signature_of, words_into,
+};
 use std::alloc::Global;
 use std::marker::Model;
 use std::mem;
@@ -244,7 +247,13 @@ pub fn ask_begin(ask: &mut AskState, code: u32, bytes: &[u8])
     ensures { ask.new ≡ ask_begun ask.old code bytes.now }
 {
     lay(&ask.space, bytes, &mut ask.input);
-    fill_block(&ask.wiring, code, bytes.len() as u32, &ask.input, &mut ask.sent);
+    fill_block(
+        &ask.wiring,
+        code,
+        bytes.len() as u32,
+        &ask.input,
+        &mut ask.sent,
+    );
     ask.code = code;
     ask.stage = AskStage::PostBlock(0);
 }
@@ -271,7 +280,11 @@ pub fn ask_feed(ask: &mut AskState, value: u64) -> Option<AskOutcome>
     match ask.stage {
         AskStage::AskRest => {}
         AskStage::PostBlock(at) => {
-            ask.stage = if at + 1 < ask.wiring.block() { AskStage::PostBlock(at + 1) } else { after_block(style) };
+            ask.stage = if at + 1 < ask.wiring.block() {
+                AskStage::PostBlock(at + 1)
+            } else {
+                after_block(style)
+            };
         }
         AskStage::PostHeader => ask.stage = AskStage::PostBellLoad,
         AskStage::PostUpdateLoad => {
@@ -458,7 +471,11 @@ fn after_bell(style: Style) -> AskStage
 fn after_look(tells: bool) -> AskStage
     ensures { result ≡ after_look tells }
 {
-    if tells { AskStage::LookError } else { AskStage::LookBlock(0) }
+    if tells {
+        AskStage::LookError
+    } else {
+        AskStage::LookBlock(0)
+    }
 }
 
 // The bytes over the front of the space.
@@ -491,10 +508,26 @@ fn fill_block(wiring: &Wiring, code: u32, asked: u32, space: &[u8], block: &mut 
     let signature = signature_of(wiring.id);
     match wiring.style() {
         Style::Headed => fill(&[], space, block),
-        Style::Reduced5 => fill(&[reduced_to(Reduced { signature, command: code })], space, block),
+        Style::Reduced5 => fill(
+            &[reduced_to(Reduced {
+                signature,
+                command: code,
+            })],
+            space,
+            block,
+        ),
         _ => {
             let flags = if wiring.notify { Extended::NOTIFY } else { 0 };
-            fill(&extended_to(Extended { signature, flags, length: 4 + asked, command: code }), space, block)
+            fill(
+                &extended_to(Extended {
+                    signature,
+                    flags,
+                    length: 4 + asked,
+                    command: code,
+                }),
+                space,
+                block,
+            )
         }
     }
 }
