@@ -1,5 +1,6 @@
 //! A device that keeps one space.
 ghost use Rattle.std.specs.Prelude.{◌≡◌, ◌∷◌, replicate, IfOk};
+ghost use Rattle.pcc_bytes.specs.Bytes.{IsBytes};
 
 use crate::{ExecStatus, Executor};
 use pcc_io::NoMemory;
@@ -43,13 +44,18 @@ impl Bank {
 
 impl Executor for Bank {
     ghost use Rattle.pcc_history.specs.Devices.{bank_exec};
-    ghost use Rattle.pcc_exec.specs.Execution.{bank_room};
+    ghost use Rattle.pcc_exec.specs.Execution.{bank_room, IsBank};
+    ghost use Rattle.pcc_exec.specs.Banks.{bank_keeps};
 
     ghost state = { λ b. b };
 
     ghost exec_of = { bank_exec };
 
     ghost room_of = { bank_room };
+
+    ghost is_state = { IsBank };
+
+    ghost keeps = { bank_keeps };
 
     fn exec(&mut self, code: u32, space: &mut [u8]) -> ExecStatus {
         match code {
@@ -66,9 +72,15 @@ impl Executor for Bank {
     }
 
     fn room(&self) -> u32 {
+        are_bytes(&self.held);
         self.room
     }
 }
+
+// What a slice of bytes has is below 256. It does nothing.
+fn are_bytes(bytes: &[u8])
+    ensures { IsBytes bytes.now }
+{}
 
 #[cfg(test)]
 mod tests {

@@ -1,6 +1,22 @@
-//! A whole call on a device: what a command does to the device and to its space, in one step.
+//! Both ends of a channel, one word step at a time, and a whole call on a device in one step.
 #![tactic(auto)]
 
+mod answer;
+mod ask;
+mod laws;
 mod whole;
+mod wiring;
 
+pub use answer::{
+    AnswerOutcome, AnswerStage, AnswerState, answer_execute, answer_feed, answer_next, answer_ran,
+    answer_space, answer_start,
+};
+pub use ask::{
+    AskOutcome, AskStage, AskState, ask_begin, ask_budget, ask_feed, ask_look, ask_next,
+};
+pub use laws::{answering_laws, answering_tables, asking_laws, asking_tables, history_laws};
 pub use whole::whole_call;
+pub use wiring::{Action, Style, Wiring};
+
+#[cfg(test)]
+mod tests;
