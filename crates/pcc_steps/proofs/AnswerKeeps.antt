@@ -1,9 +1,6 @@
 -- Each step of the answering end keeps the relation.
-use Rattle.std.proofs.Common.{◌≡◌, ◌≢◌, ℕ, ◌+◌, ◌/◌, ◌%◌, ◌^◌, ◌<◌, ◌≤◌, Bool, true, false, eqb, List, [], ◌∷◌, ◌++◌, length, get_or, set, take, drop, refl, sym, ap, ◌∙◌, subst, ⊎_elim, inr, arith, length-set}
-use Rattle.std.proofs.lemmas.List.{take-append-drop}
-use Rattle.std.specs.Int.RustNames.{bit_or}
+use Rattle.std.proofs.Common.{◌≡◌, ◌≢◌, ℕ, ◌+◌, ◌%◌, ◌^◌, ◌<◌, ◌≤◌, Bool, true, false, eqb, List, [], ◌∷◌, ◌++◌, length, get_or, set, take, drop, refl, sym, ap, ◌∙◌, subst, ⊎_elim, arith, length-set}
 use borrow.Author.Tests.{ltb-true, ltb-false, eqb-true, eqb-false}
-use Rattle.pcc_bytes.specs.Bytes.{IsBytes}
 use Rattle.pcc_exec.specs.Execution.{IsSpace}
 use Rattle.pcc_history.specs.Devices.{Device, Executed}
 use Rattle.pcc_history.specs.Channel.{Exchange, both, exchange_of}
@@ -12,17 +9,15 @@ use Rattle.pcc_steps.specs.declared.wiring.Wiring.{Wiring}
 use Rattle.pcc_steps.specs.declared.wiring.Style.{Style}
 use Rattle.pcc_steps.specs.declared.wiring.Style.TheVariants.{Headed, Joined3, Separate3, Joined4, Separate4, Reduced5}
 use Rattle.pcc_steps.specs.declared.answer.AnswerStage.{AnswerStage}
-use Rattle.pcc_steps.specs.declared.answer.AnswerStage.TheVariants.{AnswerRest, TakeLine, TakeAckLoad, TakeAckStore, TakeHeader, TakeBlock, RunDevice, ReplyBlock, ReplyError, ReplyHeader, ReplyUpdateLoad, ReplyUpdateStore, ReplyMarkLoad, ReplyMarkStore, CloseBellLoad, CloseBellStore, CloseLine}
-use Rattle.shmem_header.specs.HeaderBits.{with_status}
+use Rattle.pcc_steps.specs.declared.answer.AnswerStage.TheVariants.{AnswerRest, TakeLine, TakeAckLoad, TakeAckStore, TakeHeader, TakeBlock, RunDevice}
 use Rattle.shmem_header.specs.Spelling.{words_of, bytes_of}
-use Rattle.pcc_steps.specs.Wires.{style_of, heads_of, block_of, status_of, tells_by, tells_error, code_by, four_by, masked_by, update_place}
-use Rattle.pcc_steps.specs.Runs.{error_word}
+use Rattle.pcc_steps.specs.Wires.{style_of, heads_of, block_of, code_by, four_by, masked_by}
 use Rattle.pcc_steps.specs.Asking.{has_more}
-use Rattle.pcc_steps.specs.Answering.{Answer, AnswerOk, AnswerSized, AnswerPlace, AnswerUpdates, AnswerSets, answer_next_at, answer_fed_at, take_on, load_on, reply_on, after_ack, after_take, after_error, after_reply, after_close, after_done, asks_notify, done_stage, after_update, ran_with}
-use Rattle.pcc_steps.specs.Agree.{Core, Others, listed, act, Finds, mix, Asker, Answerer, executed, settle_at, settle, Pose, free, writing, cleared, waiting, reading, pose, Turn, quiet, taken, replying, turn_at, closed, finished, Marked, Row, Flight, flight, answered, reply_block, HasHeader, IsTaken, ShowsBy, Shows, Told, IsReplying, IsDone, Waits, Fits, HasRoom, IsBetween, Carries, Agreed, Agree}
-use Rattle.pcc_steps.proofs.Lists.{mix_more, mix_all, take_all, loads, set_block, get_block}
-use Rattle.pcc_steps.proofs.Bits.{reports_headed, status_seen, sets_mark, sets_update, shows_stored, shows_none, code_known}
-use Rattle.pcc_steps.proofs.Spaces.{block_long, same_front, bytes_again, mix_front, some_words, behind_heads}
+use Rattle.pcc_steps.specs.Answering.{Answer, AnswerOk, AnswerPlace, answer_next_at, answer_fed_at, take_on, load_on, after_ack, after_take, ran_with}
+use Rattle.pcc_steps.specs.Agree.{Core, act, Finds, mix, Asker, Answerer, settle_at, settle, Pose, free, writing, cleared, waiting, reading, pose, Turn, quiet, taken, replying, turn_at, closed, Marked, Row, Flight, flight, reply_block, HasHeader, IsTaken, IsReplying, IsDone, Waits, Fits, HasRoom, IsBetween, Agreed, Agree}
+use Rattle.pcc_steps.proofs.Lists.{take_all, loads, get_block}
+use Rattle.pcc_steps.proofs.Bits.{code_known}
+use Rattle.pcc_steps.proofs.Spaces.{block_long, bytes_again, mix_front, some_words, behind_heads}
 use Rattle.pcc_steps.proofs.Legality.{legal_more, state_more, room_more, state_kept}
 
 -- the answering machine at this stage, wired as the asking one

@@ -1,24 +1,23 @@
 -- The answering machine walks its table.
 use Rattle.std.specs.Prelude.{Option, None, Some}
-use Rattle.std.proofs.Common.{◌≡◌, ◌≢◌, ℕ, zero, suc, ◌+◌, ◌-◌, ◌<◌, ◌≤◌, Bool, true, false, eqb, ◌==◌, if◌then◌else◌, List, [], ◌∷◌, ◌++◌, length, get_or, set, take, drop, refl, sym, ap, ◌∙◌, subst, arith, length-set}
+use Rattle.std.proofs.Common.{◌≡◌, ◌≢◌, ℕ, suc, ◌+◌, ◌-◌, ◌<◌, ◌≤◌, Bool, true, false, eqb, ◌==◌, if◌then◌else◌, List, [], ◌∷◌, ◌++◌, length, set, take, drop, refl, sym, ap, ◌∙◌, subst, arith, length-set}
 use Rattle.std.specs.Int.RustNames.{bit_or}
 use Rattle.std.proofs.lemmas.List.{take_more_set}
-use Rattle.std.proofs.Math.Seq.{drop-append_seam}
-use borrow.Author.Tests.{ltb-true, ltb-false}
+use borrow.Author.Tests.{ltb-false}
 use Rattle.shmem_header.specs.Spelling.{words_of, bytes_of}
 use Rattle.pcc_steps.specs.declared.wiring.Wiring.{Wiring}
 use Rattle.pcc_steps.specs.declared.wiring.Style.{Style}
 use Rattle.pcc_steps.specs.declared.wiring.Style.TheVariants.{Headed, Joined3, Separate3, Joined4, Separate4, Reduced5}
 use Rattle.pcc_steps.specs.declared.wiring.Action.{Action}
-use Rattle.pcc_steps.specs.declared.wiring.Action.TheVariants.{Load, Store, Swap, Execute}
+use Rattle.pcc_steps.specs.declared.wiring.Action.TheVariants.{Load, Execute}
 use Rattle.pcc_steps.specs.declared.answer.AnswerStage.{AnswerStage}
 use Rattle.pcc_steps.specs.declared.answer.AnswerStage.TheVariants.{AnswerRest, TakeLine, TakeAckLoad, TakeAckStore, TakeHeader, TakeBlock, RunDevice, ReplyBlock, ReplyError, ReplyHeader, ReplyUpdateLoad, ReplyUpdateStore, ReplyMarkLoad, ReplyMarkStore, CloseBellLoad, CloseBellStore, CloseLine}
 use Rattle.pcc_steps.specs.declared.answer.AnswerOutcome.{AnswerOutcome}
 use Rattle.pcc_steps.specs.declared.answer.AnswerOutcome.TheVariants.{Idle, Served}
-use Rattle.pcc_steps.specs.Wires.{style_of, heads_of, block_of, status_of, tells_error, four_by, asks_by, masked_by, update_place}
-use Rattle.pcc_steps.specs.Runs.{Run, ends, loads, stores, swaps, executes, store_words, load_words, masked_write, AnswerStep, takes_bell, acknowledges_bell, takes_header, takes_block, executes_command, replies_space, replies_error, replies_status, replies_update, replies_completion, rings_bell, raises_interrupt, only, taking_steps, completing_steps, answer_table, answer_steps, answering, answer_run, AnswerEnd, finds_none, serves, Got}
+use Rattle.pcc_steps.specs.Wires.{style_of, heads_of, block_of, tells_error, four_by, masked_by, update_place}
+use Rattle.pcc_steps.specs.Runs.{Run, ends, stores, swaps, store_words, load_words, masked_write, AnswerStep, acknowledges_bell, takes_header, takes_block, executes_command, replies_space, replies_error, replies_status, replies_completion, rings_bell, raises_interrupt, only, taking_steps, completing_steps, answer_table, answer_steps, answering, AnswerEnd, finds_none, serves}
 use Rattle.pcc_steps.specs.Asking.{has_more, rose}
-use Rattle.pcc_steps.specs.Answering.{Answer, AnswerOk, AnswerPlace, AnswerUpdates, AnswerSets, answer_next_at, answer_fed_at, answer_told_at, answer_begun, answer_stepped, answer_code, take_on, load_on, reply_on, take_told, served_at, after_ack, after_take, after_error, after_reply, after_close, after_done, update_stage, asks_notify, ran_with}
+use Rattle.pcc_steps.specs.Answering.{Answer, AnswerOk, AnswerUpdates, AnswerSets, answer_next_at, answer_fed_at, answer_told_at, answer_stepped, answer_code, take_on, load_on, reply_on, take_told, served_at, after_ack, after_take, after_error, after_reply, after_close, after_done, update_stage, asks_notify, ran_with}
 use Rattle.pcc_steps.specs.Walk.{answer_number, from, behind, got, answer_left_by, answer_left, answer_after, Takes, Gives}
 use Rattle.pcc_steps.specs.Laws.{AnswersByTable, AnswerStepsByTable, ExecutesByTable}
 use Rattle.pcc_steps.proofs.Spaces.{behind_front}

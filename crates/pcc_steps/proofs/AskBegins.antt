@@ -1,7 +1,6 @@
 -- What begins a run of the asking end keeps the relation.
-use Rattle.std.proofs.Common.{◌≡◌, ℕ, ◌+◌, ◌*◌, ◌/◌, ◌%◌, ◌^◌, ◌<◌, ◌≤◌, Bool, true, false, List, ◌++◌, length, take, drop, refl, sym, ap, ◌∙◌, subst, arith, length-drop}
+use Rattle.std.proofs.Common.{◌≡◌, ℕ, ◌+◌, ◌*◌, ◌/◌, ◌^◌, ◌<◌, ◌≤◌, Bool, true, false, List, ◌++◌, length, drop, refl, sym, ap, subst, arith, length-drop}
 use Rattle.std.proofs.lemmas.List.{length-append}
-use Rattle.std.proofs.Math.Seq.{drop-append_seam}
 use Rattle.pcc_bytes.specs.Bytes.{IsBytes}
 use Rattle.pcc_history.specs.Devices.{Device}
 use Rattle.pcc_history.specs.Channel.{over}
@@ -10,9 +9,9 @@ use Rattle.pcc_steps.specs.declared.wiring.Wiring.{Wiring}
 use Rattle.pcc_steps.specs.declared.wiring.Style.{Style}
 use Rattle.pcc_steps.specs.declared.wiring.Style.TheVariants.{Headed, Joined3, Separate3, Joined4, Separate4, Reduced5}
 use Rattle.pcc_steps.specs.declared.ask.AskStage.{AskStage}
-use Rattle.pcc_steps.specs.declared.ask.AskStage.TheVariants.{AskRest, PostBlock, LookWord}
-use Rattle.pcc_steps.specs.Wires.{style_of, heads_of, block_of, block_header}
-use Rattle.pcc_steps.specs.Asking.{Ask, AskOk, AskSized, CodeFits, LooksLeft, ask_begun, ask_looking, ask_budgeted, rose}
+use Rattle.pcc_steps.specs.declared.ask.AskStage.TheVariants.{AskRest, LookWord}
+use Rattle.pcc_steps.specs.Wires.{style_of, heads_of, block_header}
+use Rattle.pcc_steps.specs.Asking.{Ask, AskOk, CodeFits, LooksLeft, ask_begun, ask_looking, ask_budgeted, rose}
 use Rattle.shmem_header.specs.Layout.{signature_of}
 use Rattle.shmem_header.proofs.Commands.{signature_of-add}
 use Rattle.pcc_bytes.proofs.Bytes.{IsBytes-drop}

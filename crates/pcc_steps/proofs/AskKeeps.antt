@@ -1,20 +1,16 @@
 -- Each step of the asking end keeps the relation.
-use Rattle.std.proofs.Common.{◌≡◌, ◌≢◌, ℕ, ◌+◌, ◌^◌, ◌<◌, ◌≤◌, Bool, true, false, not, eqb, List, [], ◌∷◌, ◌++◌, length, get_or, set, take, drop, refl, sym, ap, ◌∙◌, subst, ⊎_elim, inl, arith, length-set}
+use Rattle.std.proofs.Common.{◌≡◌, ◌≢◌, ℕ, ◌+◌, ◌^◌, ◌<◌, ◌≤◌, Bool, true, false, List, length, get_or, set, refl, sym, ap, ◌∙◌, subst, inl, arith}
 use borrow.Author.Tests.{ltb-true, ltb-false}
-use Rattle.pcc_bytes.specs.Bytes.{IsBytes}
 use Rattle.pcc_history.specs.Devices.{Device}
-use Rattle.pcc_history.specs.Channel.{Exchange}
-use Rattle.pcc_steps.specs.declared.wiring.Wiring.{Wiring}
 use Rattle.pcc_steps.specs.declared.wiring.Style.{Style}
 use Rattle.pcc_steps.specs.declared.wiring.Style.TheVariants.{Headed, Joined3, Separate3, Joined4, Separate4, Reduced5}
 use Rattle.pcc_steps.specs.declared.ask.AskStage.{AskStage}
-use Rattle.pcc_steps.specs.declared.ask.AskStage.TheVariants.{AskRest, PostBlock, PostHeader, PostUpdateLoad, PostUpdateStore, PostMarkLoad, PostMarkStore, PostBellLoad, PostBellStore, PostLine, LookWord, LookError, LookBlock, LookLine, LookLineStore, LookAckLoad, LookAckStore}
-use Rattle.shmem_header.specs.Spelling.{words_of, bytes_of}
-use Rattle.pcc_steps.specs.Wires.{style_of, heads_of, block_of, sent_header, sees_done, tells_by, tells_error, header_error, acknowledges, masked_by, without, update_place}
-use Rattle.pcc_steps.specs.Asking.{Ask, AskOk, AskSized, AskPlace, AskUpdates, AskClears, AskRings, Flies, LooksLeft, PostsLeft, CodeFits, has_more, ask_next_at, ask_fed_at, store_on, look_on, after_block, after_update, after_mark, after_bell, after_look}
-use Rattle.pcc_steps.specs.Agree.{Core, Others, listed, act, Finds, mix, Asker, Answerer, asker_fed_at, Pose, free, writing, cleared, waiting, reading, resting, bell_pose, pose_at, pose, Turn, quiet, taken, replying, turn, opened, closed, finished, Marked, Row, Flight, flight, answered, reply_block, ShowsBy, IsDone, Waits, IsReading, Fits, Spells, flying, Agreed, Agree}
-use Rattle.pcc_steps.proofs.Lists.{mix_more, mix_all, take_all, loads, set_block, get_block}
-use Rattle.pcc_steps.proofs.Bits.{closed_unset, finished_opened, error_seen, error_shown, clears_mark, clears_update}
+use Rattle.pcc_steps.specs.declared.ask.AskStage.TheVariants.{PostBlock, PostHeader, PostUpdateLoad, PostUpdateStore, PostMarkLoad, PostMarkStore, PostBellLoad, PostBellStore, PostLine}
+use Rattle.pcc_steps.specs.Wires.{style_of, block_of, sent_header, masked_by, without, update_place}
+use Rattle.pcc_steps.specs.Asking.{Ask, AskOk, AskPlace, AskUpdates, AskClears, AskRings, Flies, LooksLeft, PostsLeft, has_more, ask_next_at, store_on, after_block, after_update, after_mark, after_bell}
+use Rattle.pcc_steps.specs.Agree.{Core, act, Finds, mix, Asker, Answerer, asker_fed_at, Pose, writing, cleared, bell_pose, pose_at, pose, Turn, turn, closed, Marked, flight, Waits, Fits, flying, Agreed, Agree}
+use Rattle.pcc_steps.proofs.Lists.{mix_more, mix_all, set_block}
+use Rattle.pcc_steps.proofs.Bits.{clears_mark, clears_update}
 
 -- the asking end at this stage
 abbrev pub at : AskStage → Asker → Asker

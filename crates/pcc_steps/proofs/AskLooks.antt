@@ -1,18 +1,16 @@
 -- Each step of a look keeps the relation.
-use Rattle.std.proofs.Common.{◌≡◌, ℕ, ◌+◌, ◌/◌, ◌^◌, ◌<◌, ◌≤◌, Bool, true, false, eqb, List, [], ◌∷◌, ◌++◌, length, get_or, set, take, drop, refl, sym, ap, ◌∙◌, subst, ⊎_elim, arith, length-set}
+use Rattle.std.proofs.Common.{◌≡◌, ℕ, ◌+◌, ◌<◌, ◌≤◌, Bool, true, false, eqb, List, [], ◌∷◌, ◌++◌, length, get_or, set, take, drop, refl, sym, ap, ◌∙◌, subst, ⊎_elim, arith, length-set}
 use Rattle.std.proofs.lemmas.List.{length-append}
 use borrow.Author.Tests.{ltb-true, ltb-false}
 use Rattle.pcc_bytes.specs.Bytes.{IsBytes}
 use Rattle.pcc_history.specs.Devices.{Device}
-use Rattle.pcc_history.specs.Channel.{Exchange}
-use Rattle.pcc_steps.specs.declared.wiring.Wiring.{Wiring}
 use Rattle.pcc_steps.specs.declared.wiring.Style.{Style}
 use Rattle.pcc_steps.specs.declared.ask.AskStage.{AskStage}
 use Rattle.pcc_steps.specs.declared.ask.AskStage.TheVariants.{AskRest, PostBlock, PostHeader, PostUpdateLoad, PostUpdateStore, PostMarkLoad, PostMarkStore, PostBellLoad, PostBellStore, PostLine, LookWord, LookError, LookBlock, LookLine, LookLineStore, LookAckLoad, LookAckStore}
 use Rattle.shmem_header.specs.Spelling.{words_of, bytes_of}
-use Rattle.pcc_steps.specs.Wires.{style_of, heads_of, block_of, meets, is_complete, sees_done, tells_by, tells_error, header_error, acknowledges, masked_by}
-use Rattle.pcc_steps.specs.Asking.{Ask, AskOk, AskPlace, Flies, LooksLeft, PostsLeft, has_more, look_on, read_on, block_on, line_on, lowered_on, drained, after_look, look_told, read_told, end_told, line_told}
-use Rattle.pcc_steps.specs.Agree.{Core, Others, listed, act, Finds, Asker, Answerer, done_after, clears_after, Pose, reading, resting, pose_at, pose, Turn, quiet, taken, replying, turn, closed, finished, Marked, Row, Flight, flight, answered, reply_block, ShowsBy, IsDone, Waits, Knows, IsReading, Fits, Spells, flying, Agreed, Agree}
+use Rattle.pcc_steps.specs.Wires.{style_of, heads_of, block_of, meets, is_complete, sees_done, tells_error, header_error, acknowledges, masked_by}
+use Rattle.pcc_steps.specs.Asking.{Ask, AskOk, has_more, look_on, read_on, block_on, line_on, lowered_on, drained, after_look, look_told, read_told, end_told, line_told}
+use Rattle.pcc_steps.specs.Agree.{Core, Asker, Answerer, done_after, clears_after, Pose, reading, resting, pose_at, Turn, quiet, taken, replying, turn, closed, Row, flight, answered, reply_block, IsDone, Waits, Knows, Fits, flying, Agreed}
 use Rattle.pcc_steps.proofs.Lists.{take_all, loads, get_block}
 use Rattle.pcc_steps.proofs.Bits.{closed_unset, finished_opened, error_seen, error_shown}
 use Rattle.pcc_steps.proofs.Spaces.{block_long, behind_front, space_again, some_words}

@@ -5,7 +5,6 @@ use Rattle.pcc_history.specs.Devices.{Device}
 use Rattle.pcc_history.specs.Channel.{Exchange, over}
 use Rattle.pcc_history.specs.Histories.{Legal, state_after}
 use Rattle.shmem_header.specs.Spelling.{words_of, bytes_of}
-use Rattle.pcc_exec.specs.Execution.{IsSpace, Leaves}
 use Rattle.pcc_steps.specs.declared.wiring.Wiring.{Wiring}
 use Rattle.pcc_steps.specs.declared.ask.AskStage.TheVariants.{AskRest}
 use Rattle.pcc_steps.specs.declared.answer.AnswerStage.TheVariants.{AnswerRest, RunDevice}

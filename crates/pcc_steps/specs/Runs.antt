@@ -1,6 +1,6 @@
 -- The runs of both ends, step by step, and which words each step loads, stores and swaps.
 -- A run never looks ahead: each step may use what the steps before it found.
-use Rattle.std.specs.Prelude.{ℕ, bit_or, ◌+◌, ◌-◌, ◌*◌, ◌^◌, ◌<◌, ◌≡◌, ◌==◌, zero, suc, Bool, true, false, not, if◌then◌else◌, List, [], ◌∷◌, ◌++◌, length, take, drop}
+use Rattle.std.specs.Prelude.{ℕ, bit_or, ◌+◌, ◌-◌, ◌<◌, ◌≡◌, ◌==◌, zero, suc, Bool, true, false, if◌then◌else◌, List, [], ◌∷◌, ◌++◌, length, drop}
 use Rattle.pcc_gas.specs.declared.mask.Masks.{Masks}
 use Rattle.pcc_steps.specs.declared.wiring.Wiring.{Wiring}
 use Rattle.pcc_steps.specs.declared.wiring.Style.{Style}
