@@ -1,10 +1,8 @@
 -- The laws of both ends, put together from their stages.
-use Rattle.std.proofs.Common.{◌≡◌, ℕ, ◌^◌, ◌<◌, List, sym, ◌∙◌, ap, subst}
+use Rattle.std.proofs.Common.{◌≡◌, ℕ, List, sym, ◌∙◌, subst}
 use Rattle.pcc_history.specs.Devices.{Device}
-use Rattle.pcc_history.specs.Histories.{state_after}
 use Rattle.pcc_exec.specs.Execution.{IsSpace, Leaves}
-use Rattle.pcc_steps.specs.Wires.{style_of}
-use Rattle.pcc_steps.specs.Agree.{Asker, Answerer, asker_fed_at, answerer_fed_at, act, HasRoom, pose, turn, Agree}
+use Rattle.pcc_steps.specs.Agree.{asker_fed_at, answerer_fed_at, act, pose, turn}
 use Rattle.pcc_steps.specs.Asking.{ask_next}
 use Rattle.pcc_steps.specs.Answering.{answer_next}
 use Rattle.pcc_steps.specs.Laws.{StartsAgreed, AskStepAgrees, PostBeginAgrees, LookBeginAgrees, BudgetAgrees, AnswerBeginAgrees, AnswerStepAgrees, DeviceStays, HistoriesAgree}

@@ -1,9 +1,8 @@
 -- What begins a run of the answering end, and its count of steps, keep the relation.
-use Rattle.std.proofs.Common.{◌≡◌, ℕ, Bool, List, [], ◌∷◌, ◌++◌, refl, sym, subst}
+use Rattle.std.proofs.Common.{arith, ◌≡◌, ℕ, List, refl, sym, subst}
 use Rattle.pcc_history.specs.Devices.{Device}
-use Rattle.pcc_history.specs.Channel.{Exchange}
 use Rattle.pcc_steps.specs.declared.answer.AnswerStage.{AnswerStage}
-use Rattle.pcc_steps.specs.declared.answer.AnswerStage.TheVariants.{AnswerRest, TakeLine, RunDevice}
+use Rattle.pcc_steps.specs.declared.answer.AnswerStage.TheVariants.{AnswerRest}
 use Rattle.pcc_steps.specs.Answering.{Answer, answer_begun}
 use Rattle.pcc_steps.specs.Asking.{rose}
 use Rattle.pcc_steps.specs.Agree.{Core, Asker, Answerer, answerer_stepped, Pose, free, writing, cleared, waiting, reading, pose, Turn, quiet, taken, replying, turn, turn_at, flight, Waits, Fits, Agreed, Agree}
@@ -20,7 +19,7 @@ module _ (exec : Device) (start : List ℕ) where
   begins_at : (x : Asker) (y : Answerer) (c : Core) → Agreed exec start x (record y { m = record y.m { stage = AnswerRest } }) c → Agreed exec start x (record y { m = answer_begun y.m }) c
   begins_at x y c g = let ok = g.answer_ok in record {
     ask_ok = g.ask_ok;
-    answer_ok = record { wired = ok.wired; sized = ok.sized; place = tt; kept = ok.kept; header = ok.header };
+    answer_ok = record { wired = ok.wired; sized = ok.sized; place = tt; kept = ok.kept; header = omega arith };
     between = tt;
     same = g.same;
     legal = g.legal;

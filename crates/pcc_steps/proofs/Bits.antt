@@ -1,5 +1,5 @@
 -- What word 0 says, and what the stores of word 0 make of it.
-use Rattle.std.proofs.Common.{List, ◌≡◌, ◌≢◌, ℕ, ◌+◌, ◌-◌, ◌*◌, ◌/◌, ◌%◌, ◌^◌, ◌<◌, ◌≤◌, ◌==◌, Bool, true, false, not, eqb, ltb, if◌then◌else◌, refl, sym, ap, ◌∙◌, arith, ne_eqb, w64, subst}
+use Rattle.std.proofs.Common.{List, ◌≡◌, ◌≢◌, ℕ, ◌-◌, ◌^◌, ◌<◌, ◌≤◌, ◌==◌, Bool, true, false, not, ltb, if◌then◌else◌, refl, sym, ap, ◌∙◌, arith, ne_eqb, w64}
 use Rattle.std.specs.Int.RustNames.{bit_or}
 use borrow.Author.Tests.{eqb-true, ltb-true, ltb-false}
 use lib.Bits.{bit_and}

@@ -11,3 +11,9 @@ pub mod AskBegins
 pub mod AnswerBegins
 pub mod Starts
 pub mod Agreement
+pub mod AskWalks
+pub mod AnswerWalks
+pub mod Bounds
+pub mod Lengths
+pub mod Nexts
+pub mod Asks

@@ -1,5 +1,5 @@
 -- What the words and the two ends of a channel have to do with one another between any two word steps.
-use Rattle.std.specs.Prelude.{◌≡◌, ◌⊎◌, ℕ, ◌+◌, ◌/◌, ◌^◌, ◌<◌, Bool, true, false, List, [], ◌∷◌, ◌++◌, length, get_or, set, take, drop, Option, Some, None}
+use Rattle.std.specs.Prelude.{◌≡◌, ◌⊎◌, ℕ, ◌+◌, ◌<◌, Bool, true, false, List, [], ◌∷◌, ◌++◌, length, get_or, set, take, drop, Option, Some, None}
 use Rattle.pcc_bytes.specs.Bytes.{IsBytes}
 use Rattle.pcc_exec.specs.Execution.{IsSpace}
 use Rattle.pcc_history.specs.Devices.{Device, Executed}
@@ -7,7 +7,7 @@ use Rattle.pcc_history.specs.Channel.{Exchange, both, exchange_of}
 use Rattle.pcc_history.specs.Histories.{Legal, state_after}
 use Rattle.pcc_steps.specs.declared.wiring.Wiring.{Wiring}
 use Rattle.pcc_steps.specs.declared.wiring.Style.{Style}
-use Rattle.pcc_steps.specs.declared.wiring.Style.TheVariants.{Headed, Joined3, Separate3, Joined4, Separate4, Reduced5}
+use Rattle.pcc_steps.specs.declared.wiring.Style.TheVariants.{Headed, Reduced5}
 use Rattle.pcc_steps.specs.declared.wiring.Action.{Action}
 use Rattle.pcc_steps.specs.declared.wiring.Action.TheVariants.{Load, Store, Swap, Execute, Rest}
 use Rattle.pcc_steps.specs.declared.ask.AskStage.{AskStage}

@@ -1,9 +1,9 @@
 -- The answering machine as data, and what one word step makes of it.
-use Rattle.std.specs.Prelude.{◌≡◌, ◌≢◌, ℕ, ◌+◌, ◌^◌, ◌<◌, ◌≤◌, ◌==◌, Bool, true, false, eqb, List, [], ◌++◌, length, get_or, set, take, drop, bit_or, Option, Some, None}
+use Rattle.std.specs.Prelude.{◌≡◌, ◌≢◌, ℕ, ◌+◌, ◌^◌, ◌<◌, ◌≤◌, Bool, true, false, eqb, List, ◌++◌, length, get_or, set, take, drop, bit_or, Option, Some, None}
 use Rattle.pcc_exec.specs.declared.executor.ExecStatus.{ExecStatus}
 use Rattle.pcc_steps.specs.declared.wiring.Wiring.{Wiring}
 use Rattle.pcc_steps.specs.declared.wiring.Style.{Style}
-use Rattle.pcc_steps.specs.declared.wiring.Style.TheVariants.{Headed, Joined3, Separate3, Joined4, Separate4, Reduced5}
+use Rattle.pcc_steps.specs.declared.wiring.Style.TheVariants.{Headed, Joined4, Separate4}
 use Rattle.pcc_steps.specs.declared.wiring.Action.{Action}
 use Rattle.pcc_steps.specs.declared.wiring.Action.TheVariants.{Load, Store, Swap, Execute, Rest}
 use Rattle.pcc_steps.specs.declared.answer.AnswerStage.{AnswerStage}
@@ -59,6 +59,14 @@ answer_next_at CloseLine a = Store 4 1
 
 abbrev pub answer_next : Answer → Action
 answer_next a = answer_next_at a.stage a
+
+-- the device is to run
+abbrev pub IsExecute : Action → Type 0
+IsExecute (Execute code) = Unit {0}
+IsExecute (Load p) = ⊥
+IsExecute (Store p v) = ⊥
+IsExecute (Swap p v) = ⊥
+IsExecute Rest = ⊥
 
 -- ---- the stage after a step
 
@@ -175,7 +183,7 @@ answer_told a v = answer_told_at a.stage a v
 -- ---- what begins a run, and the device's turn
 
 abbrev pub answer_begun : Answer → Answer
-answer_begun a = record a { stage = TakeLine }
+answer_begun a = record a { stage = TakeLine; header = 0 }
 
 -- the device left its reply in the space
 abbrev pub ran_with : Answer → Bool → Answer

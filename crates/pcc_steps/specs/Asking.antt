@@ -1,5 +1,5 @@
 -- The asking machine as data, and what one word step makes of it.
-use Rattle.std.specs.Prelude.{◌≡◌, ◌≢◌, ℕ, ◌+◌, ◌-◌, ◌^◌, ◌<◌, ◌≤◌, ◌==◌, Bool, true, false, cond, eqb, ltb, if◌then◌else◌, List, [], ◌∷◌, ◌++◌, length, get_or, set, take, drop, Option, Some, None}
+use Rattle.std.specs.Prelude.{◌≡◌, ◌≢◌, ℕ, ◌+◌, ◌-◌, ◌^◌, ◌<◌, ◌≤◌, Bool, true, false, cond, eqb, ltb, List, ◌++◌, length, get_or, set, drop, Option, Some, None}
 use Rattle.pcc_history.specs.Channel.{over}
 use Rattle.pcc_steps.specs.declared.wiring.Wiring.{Wiring}
 use Rattle.pcc_steps.specs.declared.wiring.Style.{Style}
@@ -63,6 +63,14 @@ ask_next_at LookAckStore a = Store 5 (masked_by a.wiring.ack a.kept)
 
 abbrev pub ask_next : Ask → Action
 ask_next a = ask_next_at a.stage a
+
+-- the action's place is one of so many words
+abbrev pub IsWithin : ℕ → Action → Type 0
+IsWithin n (Load p) = p < n
+IsWithin n (Store p v) = p < n
+IsWithin n (Swap p v) = p < n
+IsWithin n (Execute code) = Unit {0}
+IsWithin n Rest = Unit {0}
 
 -- ---- the stage after a step
 
@@ -215,6 +223,12 @@ AskClears Headed = ⊥
 AskClears Joined3 = ⊥
 AskClears _ = Unit {0}
 
+-- the styles whose asking side rings a doorbell
+abbrev pub AskRings : Style → Type 0
+AskRings Joined4 = ⊥
+AskRings Separate4 = ⊥
+AskRings _ = Unit {0}
+
 -- what makes this step the next one
 abbrev pub AskPlace : AskStage → Wiring → Type 0
 AskPlace (PostBlock j) w = j < block_of w
@@ -223,6 +237,8 @@ AskPlace PostUpdateLoad w = AskUpdates (style_of w)
 AskPlace PostUpdateStore w = AskUpdates (style_of w)
 AskPlace PostMarkLoad w = AskClears (style_of w)
 AskPlace PostMarkStore w = AskClears (style_of w)
+AskPlace PostBellLoad w = AskRings (style_of w)
+AskPlace PostBellStore w = AskRings (style_of w)
 AskPlace LookError w = tells_error w ≡ true
 AskPlace (LookBlock j) w = j < block_of w
 AskPlace LookLine w = w.notify ≡ true

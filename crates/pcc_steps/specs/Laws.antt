@@ -1,17 +1,18 @@
 -- What the word steps of both ends keep, from any state that has the relation.
-use Rattle.std.specs.Prelude.{◌≡◌, ◌⊎◌, ℕ, ◌≤◌, ◌<◌, ◌^◌, Bool, true, false, List, [], ◌∷◌, ◌++◌, length}
+use Rattle.std.specs.Prelude.{◌≡◌, ◌⊎◌, ℕ, ◌+◌, ◌*◌, ◌≤◌, ◌<◌, ◌^◌, Bool, true, false, List, [], ◌∷◌, ◌++◌, length, drop}
 use Rattle.pcc_bytes.specs.Bytes.{IsBytes}
 use Rattle.pcc_history.specs.Devices.{Device}
-use Rattle.pcc_history.specs.Channel.{Exchange}
+use Rattle.pcc_history.specs.Channel.{Exchange, over}
 use Rattle.pcc_history.specs.Histories.{Legal, state_after}
-use Rattle.shmem_header.specs.Spelling.{words_of}
-use Rattle.pcc_exec.specs.Execution.{IsSpace, Leaves}
+use Rattle.shmem_header.specs.Spelling.{words_of, bytes_of}
 use Rattle.pcc_steps.specs.declared.wiring.Wiring.{Wiring}
 use Rattle.pcc_steps.specs.declared.ask.AskStage.TheVariants.{AskRest}
 use Rattle.pcc_steps.specs.declared.answer.AnswerStage.TheVariants.{AnswerRest, RunDevice}
-use Rattle.pcc_steps.specs.Wires.{style_of, opening_words}
-use Rattle.pcc_steps.specs.Asking.{Ask, AskOk, IsNewAsk, CodeFits, ask_next, ask_begun, ask_looking, ask_budgeted}
-use Rattle.pcc_steps.specs.Answering.{Answer, AnswerOk, IsNewAnswer, answer_next, answer_begun}
+use Rattle.pcc_steps.specs.Wires.{style_of, heads_of, block_of, block_header, opening_words}
+use Rattle.pcc_steps.specs.Asking.{Ask, AskOk, IsNewAsk, CodeFits, IsAskRunning, ask_next, ask_fed, ask_told, ask_begun, ask_looking, ask_budgeted}
+use Rattle.pcc_steps.specs.Answering.{Answer, AnswerOk, IsNewAnswer, IsAnswerStepping, answer_next, answer_fed, answer_told, answer_begun, ran_with}
+use Rattle.pcc_steps.specs.Runs.{Within, post_run, look_run, answer_run}
+use Rattle.pcc_steps.specs.Walk.{ask_left, ask_after, answer_left, answer_after, Takes, Gives}
 use Rattle.pcc_steps.specs.Agree.{act, Finds, Asker, Answerer, asker_fed, answerer_fed, Agree}
 
 -- two new machines, over the opening content
@@ -53,3 +54,67 @@ DeviceStays exec is_state room_of = (start ws : List ℕ) (x : Asker) (y : Answe
 -- the asking end's history is the answering end's, or all of it but the last exchange; the answering end's is legal
 abbrev pub HistoriesAgree : Type 0
 HistoriesAgree = (exec : Device) (start ws : List ℕ) (x : Asker) (y : Answerer) → Agree exec start ws x y → ((y.done ≡ x.done) ⊎ ((e : Exchange) × (y.done ≡ x.done ++ e ∷ []))) × Legal exec x.m.wiring.reports start y.done × (y.device ≡ state_after exec start y.done)
+
+-- ---- the machines and their tables
+
+-- a run that posts begins as its table does, with the header words and the space with the bytes laid over its front
+abbrev pub PostsByTable : Type 0
+PostsByTable = (a : Ask) (code : ℕ) (bytes : List ℕ) → ask_left (ask_begun a code bytes) ≡ post_run a.wiring code (block_header (style_of a.wiring) a.wiring code (length bytes) ++ words_of (over a.space bytes))
+
+-- a look begins as its table does
+abbrev pub LooksByTable : Type 0
+LooksByTable = (a : Ask) → ask_left (ask_looking a) ≡ look_run a.wiring
+
+-- each step of the asking machine is the next one of its run; a run ends exactly where an outcome is told
+abbrev pub AsksByTable : Type 0
+AsksByTable = (a : Ask) → AskOk a → IsAskRunning a → Takes (ask_left a) (ask_next a) (λ v. ask_after (ask_told a v) (ask_fed a v))
+
+-- an answering run begins as its table does
+abbrev pub AnswersByTable : Type 0
+AnswersByTable = (a : Answer) → answer_left (answer_begun a) ≡ answer_run a.wiring
+
+-- each step of the answering machine is the next one of its run
+abbrev pub AnswerStepsByTable : Type 0
+AnswerStepsByTable = (a : Answer) → AnswerOk a → IsAnswerStepping a → Takes (answer_left a) (answer_next a) (λ v. answer_after (answer_told a v) (answer_fed a v))
+
+-- where the device is to run, it finds the space that was loaded, and the run goes on with what it leaves
+abbrev pub ExecutesByTable : Type 0
+ExecutesByTable = (a : Answer) → AnswerOk a → a.stage ≡ RunDevice → Gives (answer_left a) (answer_next a) (bytes_of (drop (heads_of (style_of a.wiring)) a.loaded)) (λ bad reply. answer_left (ran_with (record a { space = reply }) bad))
+
+-- ---- how long runs are
+
+abbrev pub PostsWithin : Type 0
+PostsWithin = (w : Wiring) (code : ℕ) (block : List ℕ) → length block ≡ block_of w → Within (block_of w + 7) (post_run w code block)
+
+abbrev pub LooksWithin : Type 0
+LooksWithin = (w : Wiring) → Within (block_of w + 6) (look_run w)
+
+abbrev pub AnswersWithin : Type 0
+AnswersWithin = (w : Wiring) → Within (2 * block_of w + 11) (answer_run w)
+
+-- so many steps of one run of the asking machine, which found these values
+abbrev pub IsAskRun : Ask → List ℕ → Type 0
+IsAskRun a [] = Unit {0}
+IsAskRun a (v ∷ vs) = AskOk a × IsAskRunning a × IsAskRun (ask_fed a v) vs
+
+-- what happens to the answering machine: a word step finds a value, or the device leaves a reply
+pub data Event : Type 0 where
+  finds : ℕ → Event
+  replies : Bool → List ℕ → Event
+
+abbrev pub IsAnswerRun : Answer → List Event → Type 0
+IsAnswerRun a [] = Unit {0}
+IsAnswerRun a (finds v ∷ es) = AnswerOk a × IsAnswerStepping a × IsAnswerRun (answer_fed a v) es
+IsAnswerRun a (replies bad reply ∷ es) = AnswerOk a × (a.stage ≡ RunDevice) × (length reply ≡ a.wiring.room) × IsAnswerRun (ran_with (record a { space = reply }) bad) es
+
+abbrev pub word_steps : List Event → ℕ
+word_steps [] = 0
+word_steps (finds v ∷ es) = word_steps es + 1
+word_steps (replies bad reply ∷ es) = word_steps es
+
+-- a run of a machine is no longer than its table says
+abbrev pub AskRunsWithin : Type 0
+AskRunsWithin = (n : ℕ) (a : Ask) (vs : List ℕ) → Within n (ask_left a) → IsAskRun a vs → length vs ≤ n
+
+abbrev pub AnswerRunsWithin : Type 0
+AnswerRunsWithin = (n : ℕ) (a : Answer) (es : List Event) → Within n (answer_left a) → IsAnswerRun a es → word_steps es ≤ n

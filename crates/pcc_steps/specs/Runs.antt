@@ -1,6 +1,6 @@
 -- The runs of both ends, step by step, and which words each step loads, stores and swaps.
 -- A run never looks ahead: each step may use what the steps before it found.
-use Rattle.std.specs.Prelude.{ℕ, bit_or, ◌+◌, ◌-◌, ◌^◌, ◌==◌, zero, suc, Bool, true, false, not, if◌then◌else◌, List, [], ◌∷◌, ◌++◌, length, take, drop}
+use Rattle.std.specs.Prelude.{ℕ, bit_or, ◌+◌, ◌-◌, ◌<◌, ◌≡◌, ◌==◌, zero, suc, Bool, true, false, if◌then◌else◌, List, [], ◌∷◌, ◌++◌, length, drop}
 use Rattle.pcc_gas.specs.declared.mask.Masks.{Masks}
 use Rattle.pcc_steps.specs.declared.wiring.Wiring.{Wiring}
 use Rattle.pcc_steps.specs.declared.wiring.Style.{Style}
@@ -31,6 +31,14 @@ load_words p (suc n) found k = loads p (λ v. load_words (p + 1) n (found ++ v �
 -- a register is read, and written with the bits to preserve as they were and the bits to set
 abbrev pub masked_write : {E : Type 0} → ℕ → Masks → Run E → Run E
 masked_write p m k = loads p (λ v. stores p (masked_by m v) k)
+
+-- the run takes at most so many loads, stores and swaps, where the device leaves a space of the same length
+abbrev pub Within : {E : Type 0} → ℕ → Run E → Type 0
+Within n (ends e) = Unit {0}
+Within n (loads p f) = (0 < n) × ((v : ℕ) → Within (n - 1) (f v))
+Within n (stores p u r) = (0 < n) × Within (n - 1) r
+Within n (swaps p u f) = (0 < n) × ((v : ℕ) → Within (n - 1) (f v))
+Within n (executes code s f) = (bad : Bool) (reply : List ℕ) → length reply ≡ length s → Within n (f bad reply)
 
 -- a step that is taken under a condition
 abbrev pub only : {S : Type 0} → Bool → S → List S → List S
@@ -86,8 +94,12 @@ pub data LookStep : Type 0 where
   looks_at_block : LookStep
   lowers_interrupt : LookStep
 
+-- by whether errors are told by a register, and whether commands ask for a notification
+abbrev pub look_table : Bool → Bool → List LookStep
+look_table tells notify = looks_at_completion ∷ only tells looks_at_error (looks_at_block ∷ only notify lowers_interrupt [])
+
 abbrev pub look_steps : Wiring → List LookStep
-look_steps w = looks_at_completion ∷ only (tells_error w) looks_at_error (looks_at_block ∷ only w.notify lowers_interrupt [])
+look_steps w = look_table (tells_error w) w.notify
 
 -- what a look has found so far
 pub record Seen : Type 0 where
@@ -136,9 +148,13 @@ completing_steps Joined4 after = replies_update ∷ after
 completing_steps Separate4 after = replies_update ∷ replies_completion ∷ after
 completing_steps _ after = replies_completion ∷ after
 
+-- by whether the doorbell is acknowledged, whether errors are told by a register, and whether a doorbell is rung
+abbrev pub answer_table : Style → Bool → Bool → Bool → List AnswerStep
+answer_table s acknowledges tells rings =
+    takes_bell ∷ only acknowledges acknowledges_bell (taking_steps s (executes_command ∷ replies_space ∷ only tells replies_error (completing_steps s (only rings rings_bell (raises_interrupt ∷ [])))))
+
 abbrev pub answer_steps : Wiring → List AnswerStep
-answer_steps w = let s : Style = style_of w in
-    takes_bell ∷ only (four_by s w.has_ack) acknowledges_bell (taking_steps s (executes_command ∷ replies_space ∷ only (tells_error w) replies_error (completing_steps s (only (four_by s w.has_bell) rings_bell (raises_interrupt ∷ [])))))
+answer_steps w = let s : Style = style_of w in answer_table s (four_by s w.has_ack) (tells_error w) (four_by s w.has_bell)
 
 -- how a run of the answering side ends
 pub data AnswerEnd : Type 0 where

@@ -1,21 +1,26 @@
 //! The answering machine: it takes commands and answers them, one word step at a time (ACPI 6.5, 14.5).
 
-ghost use Rattle.std.specs.Prelude.{◌≡◌, ◌<◌, ◌≤◌, ◌+◌, ◌/◌, ◌%◌, ◌^◌, ◌++◌, List, length, take, IfOk};
+ghost use Rattle.std.specs.Prelude.{◌≡◌, ◌↔◌, ◌<◌, ◌≤◌, ◌+◌, ◌/◌, ◌%◌, ◌^◌, ◌++◌, List, length, take, IfOk};
 ghost use Rattle.std.specs.Borrow.{sem};
 ghost use Rattle.shmem_header.specs.Spelling.{words_of};
 ghost use Rattle.pcc_steps.specs.declared.answer.AnswerStage.TheVariants.{AnswerRest, RunDevice};
+ghost use Rattle.pcc_steps.specs.declared.wiring.Action.TheVariants.{Rest};
+ghost use Rattle.pcc_steps.specs.Asking.{IsWithin};
 ghost use Rattle.pcc_steps.specs.Wires.{IsRight, style_of, heads_of, block_of, status_of, code_by, asks_by, four_by};
 ghost use Rattle.pcc_steps.specs.Runs.{error_word};
-ghost use Rattle.pcc_steps.specs.Answering.{Answer, AnswerOk, IsNewAnswer, IsAnswerStepping, answer_next, answer_fed, answer_told, answer_begun, answer_ran, answer_code, served_at, after_ack, after_take, after_error, after_reply, after_close, after_done, done_stage, asks_notify, update_stage, AnswerPlace};
+ghost use Rattle.pcc_steps.specs.Answering.{Answer, AnswerOk, IsNewAnswer, IsAnswerStepping, IsExecute, answer_next, answer_fed, answer_told, answer_begun, answer_ran, ran_with, answer_code, served_at, after_ack, after_take, after_error, after_reply, after_close, after_done, done_stage, asks_notify, update_stage, AnswerPlace};
 ghost use Rattle.pcc_exec.specs.Execution.{is_bad};
 ghost use Rattle.pcc_steps.specs.Lending.{LendsSpace};
 
 use crate::ask::{rose, tells_error, update_place};
 use crate::wiring::{Action, Style, Wiring, place};
-use pcc_exec::ExecStatus;
+use pcc_exec::{ExecStatus, Executor};
 use pcc_gas::masked;
 use pcc_io::NoMemory;
-use shmem_header::{EXTENDED_NOTIFY_BIT, NOTIFY_BIT, bytes_into, code_in, command_in, is_set, with_status, words_into};
+use shmem_header::{
+    EXTENDED_NOTIFY_BIT, NOTIFY_BIT, bytes_into, code_in, command_in, is_set, with_status,
+    words_into,
+};
 use std::alloc::Global;
 use std::marker::Model;
 
@@ -128,12 +133,17 @@ pub fn answer_start(answer: &mut AnswerState)
     requires { answer.old.stage ≡ AnswerRest }
     ensures { answer.new ≡ answer_begun answer.old }
 {
+    answer.header = 0;
     answer.stage = AnswerStage::TakeLine;
 }
 
 /// The next word step, `Execute` where the device is to run, `Rest` exactly where no run is under way.
+#[tactic(auto, using(crate::proofs::Nexts::answer_rests, crate::proofs::Nexts::answer_executes, crate::proofs::Nexts::answer_within))]
 pub fn answer_next(answer: &AnswerState) -> Action
     ensures action { result ≡ answer_next answer.now }
+    ensures rest { (answer_next answer.now ≡ Rest) ↔ (answer.now.stage ≡ AnswerRest) }
+    ensures device { IsExecute (answer_next answer.now) ↔ (answer.now.stage ≡ RunDevice) }
+    ensures place { IsWithin (8 + block_of answer.now.wiring) (answer_next answer.now) }
     ensures right { AnswerOk answer.now }
 {
     let wiring = &answer.wiring;
@@ -147,7 +157,9 @@ pub fn answer_next(answer: &AnswerState) -> Action
         }
         AnswerStage::TakeHeader => Action::Load(place::COMPLETION),
         AnswerStage::TakeBlock(at) => Action::Load(place::BLOCK + at),
-        AnswerStage::RunDevice => Action::Execute { code: code_of(wiring, answer.header, &answer.loaded) },
+        AnswerStage::RunDevice => Action::Execute {
+            code: code_of(wiring, answer.header, &answer.loaded),
+        },
         AnswerStage::ReplyBlock(at) => Action::Store(place::BLOCK + at, answer.out[at as usize]),
         AnswerStage::ReplyError => Action::Store(place::ERROR, error_word(wiring, answer.bad)),
         AnswerStage::ReplyHeader => {
@@ -160,7 +172,10 @@ pub fn answer_next(answer: &AnswerState) -> Action
             Action::Store(update_place(wiring.style()), word)
         }
         AnswerStage::ReplyMarkLoad => Action::Load(place::COMPLETION),
-        AnswerStage::ReplyMarkStore => Action::Store(place::COMPLETION, answer.kept | wiring.check_mask),
+        AnswerStage::ReplyMarkStore => Action::Store(
+            place::COMPLETION,
+            answer.kept | wiring.check_mask,
+        ),
         AnswerStage::CloseBellLoad => Action::Load(place::BELL),
         AnswerStage::CloseBellStore => {
             let word = masked(answer.kept, wiring.bell.preserve, wiring.bell.set);
@@ -267,6 +282,19 @@ pub fn answer_ran(answer: &mut AnswerState, status: ExecStatus)
     answer.stage = AnswerStage::ReplyBlock(heads as u32);
 }
 
+/// Runs the device on the space, and takes its status.
+pub fn answer_execute<E: Executor>(answer: &mut AnswerState, device: &mut E)
+    requires stage { answer.old.stage ≡ RunDevice }
+    requires room { E.room_of (E.state device.old) ≡ answer.old.wiring.room }
+    ensures machine { let e = E.exec_of (E.state device.old) (answer_code answer.old) answer.old.space in answer.new ≡ ran_with (record answer.old { space = e.space }) e.bad }
+    ensures device { E.state device.new ≡ (E.exec_of (E.state device.old) (answer_code answer.old) answer.old.space).state }
+    ensures room { E.room_of (E.state device.new) ≡ answer.old.wiring.room }
+{
+    let code = code_of(&answer.wiring, answer.header, &answer.loaded);
+    let status = device.exec(code, answer_space(answer));
+    answer_ran(answer, status);
+}
+
 // The header words stay, and the words of the reply follow.
 fn reply_words(loaded: &[u64], heads: usize, space: &[u8], out: &mut [u64])
     requires same { length out.old ≡ length loaded.now }
@@ -366,7 +394,11 @@ fn after_ack(style: Style) -> AnswerStage
 fn after_take(acknowledges: bool, style: Style) -> AnswerStage
     ensures { result ≡ after_take acknowledges style }
 {
-    if acknowledges { AnswerStage::TakeAckLoad } else { after_ack(style) }
+    if acknowledges {
+        AnswerStage::TakeAckLoad
+    } else {
+        after_ack(style)
+    }
 }
 
 fn after_error(style: Style) -> AnswerStage
@@ -382,13 +414,21 @@ fn after_error(style: Style) -> AnswerStage
 fn after_reply(tells: bool, style: Style) -> AnswerStage
     ensures { result ≡ after_reply tells style }
 {
-    if tells { AnswerStage::ReplyError } else { after_error(style) }
+    if tells {
+        AnswerStage::ReplyError
+    } else {
+        after_error(style)
+    }
 }
 
 fn after_close(asks: bool) -> AnswerStage
     ensures { result ≡ after_close asks }
 {
-    if asks { AnswerStage::CloseLine } else { AnswerStage::AnswerRest }
+    if asks {
+        AnswerStage::CloseLine
+    } else {
+        AnswerStage::AnswerRest
+    }
 }
 
 fn served_at(stage: AnswerStage) -> Option<AnswerOutcome>

@@ -1,17 +1,21 @@
 //! The asking machine: it posts commands, and looks for their completion, one word step at a time (ACPI 6.5, 14.5).
 
-ghost use Rattle.std.specs.Prelude.{◌≡◌, ◌<◌, ◌≤◌, ◌+◌, ◌/◌, ◌%◌, ◌^◌, ◌++◌, ◌∷◌, [], length, true, false, IfOk};
+ghost use Rattle.std.specs.Prelude.{◌≡◌, ◌↔◌, ◌<◌, ◌≤◌, ◌+◌, ◌/◌, ◌%◌, ◌^◌, ◌++◌, ◌∷◌, [], length, true, false, IfOk};
 ghost use Rattle.pcc_history.specs.Channel.{over};
 ghost use Rattle.shmem_header.specs.Spelling.{words_of};
 ghost use Rattle.pcc_steps.specs.declared.ask.AskStage.TheVariants.{AskRest};
+ghost use Rattle.pcc_steps.specs.declared.wiring.Action.TheVariants.{Rest};
 ghost use Rattle.pcc_steps.specs.declared.ask.AskOutcome.TheVariants.{Drained};
 ghost use Rattle.pcc_steps.specs.Wires.{IsRight, style_of, block_of, block_header, opening_header, sees_done, meets, masked_by, without, update_place, acknowledges, tells_error, header_error, sent_header};
-ghost use Rattle.pcc_steps.specs.Asking.{Ask, AskOk, IsNewAsk, CodeFits, IsAskRunning, ask_next, ask_fed, ask_told, ask_begun, ask_looking, ask_budgeted, drained, rose, after_block, after_update, after_mark, after_bell, after_look};
+ghost use Rattle.pcc_steps.specs.Asking.{Ask, AskOk, IsNewAsk, CodeFits, IsAskRunning, IsWithin, ask_next, ask_fed, ask_told, ask_begun, ask_looking, ask_budgeted, drained, rose, after_block, after_update, after_mark, after_bell, after_look};
 
 use crate::wiring::{Action, Style, Wiring, place};
 use pcc_gas::masked;
 use pcc_io::NoMemory;
-use shmem_header::{COMPLETE_BIT, ERROR_BIT, Extended, Reduced, bytes_into, extended_to, header_word, is_set, reduced_to, signature_of, words_into};
+use shmem_header::{
+    COMPLETE_BIT, ERROR_BIT, Extended, Reduced, bytes_into, extended_to, header_word, is_set,
+    reduced_to, signature_of, words_into,
+};
 use std::alloc::Global;
 use std::marker::Model;
 use std::mem;
@@ -184,8 +188,11 @@ impl AskState {
 }
 
 /// The next word step: `Rest` exactly where no run is under way.
+#[tactic(auto, using(crate::proofs::Nexts::ask_rests, crate::proofs::Nexts::ask_within))]
 pub fn ask_next(ask: &AskState) -> Action
     ensures action { result ≡ ask_next ask.now }
+    ensures rest { (ask_next ask.now ≡ Rest) ↔ (ask.now.stage ≡ AskRest) }
+    ensures place { IsWithin (8 + block_of ask.now.wiring) (ask_next ask.now) }
     ensures right { AskOk ask.now }
 {
     let wiring = &ask.wiring;
@@ -240,7 +247,13 @@ pub fn ask_begin(ask: &mut AskState, code: u32, bytes: &[u8])
     ensures { ask.new ≡ ask_begun ask.old code bytes.now }
 {
     lay(&ask.space, bytes, &mut ask.input);
-    fill_block(&ask.wiring, code, bytes.len() as u32, &ask.input, &mut ask.sent);
+    fill_block(
+        &ask.wiring,
+        code,
+        bytes.len() as u32,
+        &ask.input,
+        &mut ask.sent,
+    );
     ask.code = code;
     ask.stage = AskStage::PostBlock(0);
 }
@@ -267,7 +280,11 @@ pub fn ask_feed(ask: &mut AskState, value: u64) -> Option<AskOutcome>
     match ask.stage {
         AskStage::AskRest => {}
         AskStage::PostBlock(at) => {
-            ask.stage = if at + 1 < ask.wiring.block() { AskStage::PostBlock(at + 1) } else { after_block(style) };
+            ask.stage = if at + 1 < ask.wiring.block() {
+                AskStage::PostBlock(at + 1)
+            } else {
+                after_block(style)
+            };
         }
         AskStage::PostHeader => ask.stage = AskStage::PostBellLoad,
         AskStage::PostUpdateLoad => {
@@ -454,7 +471,11 @@ fn after_bell(style: Style) -> AskStage
 fn after_look(tells: bool) -> AskStage
     ensures { result ≡ after_look tells }
 {
-    if tells { AskStage::LookError } else { AskStage::LookBlock(0) }
+    if tells {
+        AskStage::LookError
+    } else {
+        AskStage::LookBlock(0)
+    }
 }
 
 // The bytes over the front of the space.
@@ -487,10 +508,26 @@ fn fill_block(wiring: &Wiring, code: u32, asked: u32, space: &[u8], block: &mut 
     let signature = signature_of(wiring.id);
     match wiring.style() {
         Style::Headed => fill(&[], space, block),
-        Style::Reduced5 => fill(&[reduced_to(Reduced { signature, command: code })], space, block),
+        Style::Reduced5 => fill(
+            &[reduced_to(Reduced {
+                signature,
+                command: code,
+            })],
+            space,
+            block,
+        ),
         _ => {
             let flags = if wiring.notify { Extended::NOTIFY } else { 0 };
-            fill(&extended_to(Extended { signature, flags, length: 4 + asked, command: code }), space, block)
+            fill(
+                &extended_to(Extended {
+                    signature,
+                    flags,
+                    length: 4 + asked,
+                    command: code,
+                }),
+                space,
+                block,
+            )
         }
     }
 }
