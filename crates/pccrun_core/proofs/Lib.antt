@@ -4,5 +4,6 @@ pub mod Calls
 pub mod Steps
 pub mod Actions
 pub mod Wired
+pub mod Weaves
 pub mod Refused
 pub mod Tops

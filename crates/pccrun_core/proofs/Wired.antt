@@ -1,5 +1,6 @@
 -- The wiring of a served structure is right.
-use Rattle.std.proofs.Common.{◌≡◌, ◌≢◌, ℕ, ◌-◌, ◌*◌, ◌/◌, ◌%◌, ◌≤◌, min, true, refl, arith}
+use Rattle.std.proofs.Common.{◌≡◌, ◌≢◌, ℕ, ◌-◌, ◌*◌, ◌/◌, ◌%◌, ◌^◌, ◌<◌, ◌≤◌, min, true, refl, sym, arith}
+use Rattle.std.proofs.Math.Nat.{mod-eq_of_lt, pow-le-pow_right}
 use Rattle.pcc_steps.specs.declared.wiring.Wiring.{Wiring}
 use Rattle.pcc_steps.specs.Wires.{IsRight}
 use Rattle.pcct_table.specs.declared.subspace.Subspace.{Subspace}
@@ -31,3 +32,10 @@ is_right id flags s h =
       sets = λ e. absurd (omega arith);
       quiet = λ e. absurd (omega arith);
     }
+
+-- a register of 64 bits or more has all bits of a mask
+pub wide : (width mask : ℕ) → 64 ≤ width → mask < 2 ^ 64 → mask ≡ mask % 2 ^ width
+wide width mask le small =
+    let more : 2 ^ 64 ≤ 2 ^ width = pow-le-pow_right {n = 2} (omega arith) le in
+    let below : mask < 2 ^ width = omega (arith, more, small) in
+    sym (mod-eq_of_lt below)

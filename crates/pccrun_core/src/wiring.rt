@@ -67,6 +67,7 @@ pub fn is_served(subspace: &Subspace) -> bool
 }
 
 // A mask without the bits that a register of this width doesn't have.
+#[tactic(auto, using(crate::proofs::Wired::wide))]
 fn cut(width: u8, mask: u64) -> u64
     ensures { result ≡ cut width mask }
 {

@@ -8,5 +8,5 @@ returns-in_err-table-clause-script c =
     passed (λ x. IsServedScript c.args.command c.args.text.now x.scenario x.table) (IsRefusedFor (ScriptRefused c.args.command c.args.text.now)) _ _ c.from_residual-in_err-table.ensures.1
     (no_table c.args.command c.args.text.now c.in_ok-scenario.scenario c.in_err-table.field-0.0 c.in_ok-scenario.ensures.0 (rw c.as_slice.ensures at c.in_err-table.ensures))
 
-pub returns-clause-script : goal.returns-clause-script
-returns-clause-script c = (not_served c.args.command c.args.text.now c.in_ok-scenario.scenario c.in_ok-table.table c.as_slice.result.now c.in_ok-scenario.ensures.0 c.as_slice.ensures c.in_ok-table.ensures c.in-None.ensures, tt)
+pub returns-in-None-clause-script : goal.returns-in-None-clause-script
+returns-in-None-clause-script c = (not_served c.args.command c.args.text.now c.in_ok-scenario.scenario c.in_ok-table.table c.as_slice.result.now c.in_ok-scenario.ensures.0 c.as_slice.ensures c.in_ok-table.ensures c.in-None.ensures, tt)

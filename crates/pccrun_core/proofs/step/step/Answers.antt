@@ -1,0 +1,7 @@
+use Rattle.pccrun_core.proofs.Tops.{stepped}
+use Rattle.pccrun_core.proofs.step.step.Goals as goal
+
+pub returns-in_ok-run_text-in-Ok : goal.returns-in_ok-run_text-in-Ok
+returns-in_ok-run_text-in-Ok c =
+    stepped c.args.text.now c.in-Ok.served.scenario c.in-Ok.served.table c.in-Ok.served.subspace c.in_ok-run_text-in-Ok.field-0.items
+    c.in-Ok.ensures.script c.in-Ok.ensures.first.0 (c.in_ok-run_text-in-Ok.ensures c.in-Ok.served.table c.in-Ok.ensures.first.0)
