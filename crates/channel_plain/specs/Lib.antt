@@ -1,0 +1,4 @@
+pub mod TraceText
+pub mod Picks
+pub mod WordRuns
+pub mod WorkedPicks

@@ -1,0 +1,207 @@
+-- A channel on a plain list of words, and what a pick of one of its ends makes of it.
+use Rattle.std.specs.Prelude.{◌≡◌, ◌==◌, ℕ, ◌+◌, ◌<◌, ltb, Bool, true, false, if◌then◌else◌, List, [], ◌∷◌, ◌++◌, length, map, get_or, Option, Some, None}
+use Rattle.std.specs.List.{slice_get}
+use Rattle.pcc_history.specs.Devices.{Device}
+use Rattle.pcc_history.specs.Channel.{Exchange, over}
+use Rattle.rate_limit.specs.declared.Limits.{Limits}
+use Rattle.rate_limit.specs.RateLimits.{earliest_of}
+use Rattle.pcc_journal.specs.declared.record.Record.{Record}
+use Rattle.pcc_journal.specs.declared.record.Pending.{Pending}
+use Rattle.pcc_journal.specs.declared.command.Command.{Command}
+use Rattle.pcc_journal.specs.Records.{times_of}
+use Rattle.pcc_steps.specs.declared.wiring.Wiring.{Wiring}
+use Rattle.pcc_steps.specs.declared.wiring.Action.{Action}
+use Rattle.pcc_steps.specs.declared.wiring.Action.TheVariants.{Load, Store, Swap, Execute, Rest}
+use Rattle.pcc_steps.specs.declared.ask.AskStage.{AskStage}
+use Rattle.pcc_steps.specs.declared.ask.AskStage.TheVariants.{AskRest}
+use Rattle.pcc_steps.specs.declared.ask.AskOutcome.{AskOutcome}
+use Rattle.pcc_steps.specs.declared.ask.AskOutcome.TheVariants.{Posted, Clear, Drained}
+use Rattle.pcc_steps.specs.declared.answer.AnswerStage.{AnswerStage}
+use Rattle.pcc_steps.specs.declared.answer.AnswerStage.TheVariants.{AnswerRest}
+use Rattle.pcc_steps.specs.declared.answer.AnswerOutcome.{AnswerOutcome}
+use Rattle.pcc_steps.specs.declared.answer.AnswerOutcome.TheVariants.{Idle, Served}
+use Rattle.pcc_steps.specs.Asking.{Ask, ask_next, ask_fed, ask_told, ask_begun, ask_looking, ask_budgeted}
+use Rattle.pcc_steps.specs.Answering.{Answer, answer_next, answer_told, answer_begun}
+use Rattle.pcc_steps.specs.Agree.{act, Answerer, answerer_fed, flying}
+use Rattle.channel_plain.specs.declared.sent.Sent.{Sent}
+use Rattle.channel_plain.specs.declared.trace.Side.{Side}
+use Rattle.channel_plain.specs.declared.trace.Side.TheVariants.{System, Platform}
+use Rattle.channel_plain.specs.declared.trace.Asked.{Asked}
+use Rattle.channel_plain.specs.declared.trace.TraceEnd.{TraceEnd}
+use Rattle.channel_plain.specs.declared.trace.TraceEnd.TheVariants as end
+use Rattle.channel_plain.specs.declared.trace.TraceLine.{TraceLine}
+
+pub record PlainState : Type 0 where
+  pub limits : Limits
+  pub words : List ℕ
+  -- both machines, and the device with the state from which it began
+  pub ask : Ask
+  pub answer : Answer
+  pub device : List ℕ
+  pub start : List ℕ
+  pub records : List Record
+  pub executed : List Command
+  -- the command that is posted or in flight
+  pub sent : Option Sent
+  -- the calls that have ended, and whether the one behind them is begun
+  pub ended : ℕ
+  pub begun : Bool
+
+-- what a pick makes of the channel, its word step with the value that this found, what ended with it, and whether it took a reading
+pub record Picked : Type 0 where
+  pub state : PlainState
+  pub action : Action
+  pub value : ℕ
+  pub end : TraceEnd
+  pub reads : Bool
+
+-- the side that asks
+abbrev pub asks_by : ℕ → Side → Bool
+asks_by kind System = if kind == 4 then false else true
+asks_by kind Platform = kind == 4
+
+-- the value that a word step loads or finds
+abbrev pub found : Action → List ℕ → ℕ
+found (Load place) words = get_or words place 0
+found (Swap place word) words = get_or words place 0
+found (Store place word) words = 0
+found (Execute code) words = 0
+found Rest words = 0
+
+-- ---- the asking side: what ends
+
+-- how a step leaves the channel, what ended with it, and whether a reading was taken
+pub record Ended : Type 0 where
+  pub state : PlainState
+  pub end : TraceEnd
+  pub reads : Bool
+
+abbrev pub call_ended : PlainState → PlainState
+call_ended s = record s { ended = s.ended + 1; begun = false }
+
+abbrev pub is_late : Option Sent → Bool
+is_late None = false
+is_late (Some c) = c.late
+
+abbrev pub given_up : Option Sent → Option Sent
+given_up None = None
+given_up (Some c) = Some (record c { late = true })
+
+-- the command in flight was an earlier one, or that of the call itself
+abbrev pub given_up_end : Bool → ℕ → TraceEnd
+given_up_end true looks = end.StillPending looks
+given_up_end false looks = end.TimedOut looks
+
+-- a look saw the command incomplete: was it the last that the call has?
+abbrev pub clear_ended : Bool → PlainState → Ended
+clear_ended true s = record { state = call_ended (record s { sent = given_up s.sent }); end = given_up_end (is_late s.sent) s.ask.looks; reads = false }
+clear_ended false s = record { state = s; end = end.Clear s.ask.looks; reads = false }
+
+abbrev pub record_of : Sent → Bool → List ℕ → ℕ → Record
+record_of c error output done = let p = c.command in record { caller = p.caller; code = p.code; input = p.input; error = error; output = output; post = p.post; done = done; late = c.late }
+
+abbrev pub recorded : Option Sent → Bool → List ℕ → ℕ → List Record
+recorded None error output done = []
+recorded (Some c) error output done = record_of c error output done ∷ []
+
+-- the reply was taken: was the command given up before?
+abbrev pub drain_ended : Bool → Bool → PlainState → Ended
+drain_ended true error s = record { state = s; end = end.Late error; reads = true }
+drain_ended false error s = record { state = call_ended s; end = end.Done error; reads = true }
+
+-- the reading is that of a completion
+abbrev pub ask_ended : Option AskOutcome → ℕ → PlainState → Ended
+ask_ended None reading s = record { state = s; end = end.Open; reads = false }
+ask_ended (Some Posted) reading s = record { state = s; end = end.Posted; reads = false }
+ask_ended (Some Clear) reading s = clear_ended (s.ask.looks == s.ask.budget) s
+ask_ended (Some (Drained error)) reading s = drain_ended (is_late s.sent) error (record s { records = s.records ++ recorded s.sent error s.ask.space reading; sent = None })
+
+-- ---- the asking side: what it does
+
+-- one word step of the run that is under way
+abbrev pub ask_stepped : ℕ → PlainState → Picked
+ask_stepped reading s = let action = ask_next s.ask in let value : ℕ = found action s.words in
+    let e = ask_ended (ask_told s.ask value) reading (record s { words = act action s.words; ask = ask_fed s.ask value }) in
+    record { state = e.state; action = action; value = value; end = e.end; reads = e.reads }
+
+-- no word step
+abbrev pub rested : PlainState → TraceEnd → Bool → Picked
+rested s e reads = record { state = s; action = Rest; value = 0; end = e; reads = reads }
+
+-- a run that posts the call's command begins, at a reading
+abbrev pub posting : Asked → ℕ → PlainState → PlainState
+posting c reading s = record s { ask = ask_begun s.ask c.code c.bytes; sent = Some (record { command = record { caller = c.caller; code = c.code; input = over s.ask.space c.bytes; post = reading }; late = false }) }
+
+abbrev pub earliest_now : PlainState → ℕ
+earliest_now s = earliest_of s.limits (times_of s.records)
+
+-- is the reading below the earliest?
+abbrev pub post_or_soon : Bool → Asked → ℕ → PlainState → Picked
+post_or_soon true c reading s = rested (call_ended s) (end.TooSoon reading (earliest_now s)) true
+post_or_soon false c reading s = record (ask_stepped reading (posting c reading s)) { reads = true }
+
+-- a call is begun and no run is under way: is a command in flight?
+abbrev pub served : Bool → Asked → ℕ → PlainState → Picked
+served true c reading s = ask_stepped reading (record s { ask = ask_looking s.ask })
+served false c reading s = post_or_soon (ltb reading (earliest_now s)) c reading s
+
+-- what refuses a call before it is begun: the header of types 0 to 2 has one byte for the code
+abbrev pub refusal_of : Asked → PlainState → Option TraceEnd
+refusal_of c s =
+    if (if ltb s.ask.wiring.kind 3 then ltb 255 c.code else false) then Some (end.BadCode c.code)
+    else if ltb s.ask.wiring.room (length c.bytes) then Some (end.TooLong (length c.bytes) s.ask.wiring.room)
+    else if length s.records + flying s.ask.in_flight == 4096 then Some end.JournalFull
+    else None
+
+abbrev pub begun : Option TraceEnd → Asked → ℕ → PlainState → Picked
+begun (Some e) c reading s = rested (call_ended s) e false
+begun None c reading s = let s' = record s { ask = ask_budgeted s.ask c.polls; begun = true } in served s'.ask.in_flight c reading s'
+
+-- no run is under way: is a call begun, and which call is it, or is next?
+abbrev pub from_rest : Bool → Option Asked → ℕ → PlainState → Picked
+from_rest b None reading s = rested s end.Open false
+from_rest true (Some c) reading s = served s.ask.in_flight c reading s
+from_rest false (Some c) reading s = begun (refusal_of c s) c reading s
+
+abbrev pub ask_picked_at : AskStage → List Asked → ℕ → PlainState → Picked
+ask_picked_at AskRest calls reading s = from_rest s.begun (slice_get calls s.ended) reading s
+ask_picked_at _ calls reading s = ask_stepped reading s
+
+-- ---- the answering side
+
+abbrev pub answer_end : Option AnswerOutcome → TraceEnd
+answer_end None = end.Open
+answer_end (Some Served) = end.Served
+answer_end (Some Idle) = end.Idle
+
+-- a run begins where none is under way
+abbrev pub started_at : AnswerStage → Answer → Answer
+started_at AnswerRest b = answer_begun b
+started_at _ b = b
+
+abbrev pub command_of : Exchange → Command
+command_of x = record { code = x.code; input = x.input; error = x.error; output = x.output }
+
+module _ (exec : Device) where
+  -- one word step; a command that is loaded by it is executed
+  abbrev pub answer_picked : PlainState → Picked
+  answer_picked s = let b : Answer = started_at s.answer.stage s.answer in let action = answer_next b in let value : ℕ = found action s.words in
+      let y : Answerer = answerer_fed exec (record { m = b; device = s.device; done = [] }) value in
+      record {
+        state = record s { words = act action s.words; answer = y.m; device = y.device; executed = s.executed ++ map command_of y.done };
+        action = action;
+        value = value;
+        end = answer_end (answer_told b value);
+        reads = false;
+      }
+
+  abbrev pub picked_by : Bool → List Asked → ℕ → PlainState → Picked
+  picked_by true calls reading s = ask_picked_at s.ask.stage calls reading s
+  picked_by false calls reading s = answer_picked s
+
+  -- what a pick of a side makes of the channel; where it takes a reading, that is the one given
+  abbrev pub picked : List Asked → Side → ℕ → PlainState → Picked
+  picked calls side reading s = picked_by (asks_by s.ask.wiring.kind side) calls reading s
+
+abbrev pub line_of : Side → Picked → TraceLine
+line_of side p = record { side = side; action = p.action; value = p.value; end = p.end }
