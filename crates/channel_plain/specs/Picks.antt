@@ -31,21 +31,25 @@ use Rattle.channel_plain.specs.declared.trace.TraceEnd.{TraceEnd}
 use Rattle.channel_plain.specs.declared.trace.TraceEnd.TheVariants as end
 use Rattle.channel_plain.specs.declared.trace.TraceLine.{TraceLine}
 
-pub record PlainState : Type 0 where
+-- the calls, and what came of their commands
+pub record CallBook : Type 0 where
   pub limits : Limits
+  pub records : List Record
+  -- the command that is posted or in flight
+  pub sent : Option Sent
+  -- the calls that have ended, and whether the one behind them is begun
+  pub ended : ℕ
+  pub begun : Bool
+
+pub record PlainState : Type 0 where
   pub words : List ℕ
   -- both machines, and the device with the state from which it began
   pub ask : Ask
   pub answer : Answer
   pub device : List ℕ
   pub start : List ℕ
-  pub records : List Record
+  pub calls : CallBook
   pub executed : List Command
-  -- the command that is posted or in flight
-  pub sent : Option Sent
-  -- the calls that have ended, and whether the one behind them is begun
-  pub ended : ℕ
-  pub begun : Bool
 
 -- what a pick makes of the channel, its word step with the value that this found, what ended with it, and whether it took a reading
 pub record Picked : Type 0 where
@@ -68,16 +72,13 @@ found (Store place word) words = 0
 found (Execute code) words = 0
 found Rest words = 0
 
--- ---- the asking side: what ends
+-- ---- the calls
 
--- how a step leaves the channel, what ended with it, and whether a reading was taken
-pub record Ended : Type 0 where
-  pub state : PlainState
-  pub end : TraceEnd
-  pub reads : Bool
+abbrev pub call_ended : CallBook → CallBook
+call_ended b = record b { ended = b.ended + 1; begun = false }
 
-abbrev pub call_ended : PlainState → PlainState
-call_ended s = record s { ended = s.ended + 1; begun = false }
+abbrev pub call_begun : CallBook → CallBook
+call_begun b = record b { begun = true }
 
 abbrev pub is_late : Option Sent → Bool
 is_late None = false
@@ -87,15 +88,20 @@ abbrev pub given_up : Option Sent → Option Sent
 given_up None = None
 given_up (Some c) = Some (record c { late = true })
 
+-- how an end of a run leaves the calls, and what ended with it
+pub record Ended : Type 0 where
+  pub calls : CallBook
+  pub end : TraceEnd
+
 -- the command in flight was an earlier one, or that of the call itself
 abbrev pub given_up_end : Bool → ℕ → TraceEnd
 given_up_end true looks = end.StillPending looks
 given_up_end false looks = end.TimedOut looks
 
--- a look saw the command incomplete: was it the last that the call has?
-abbrev pub clear_ended : Bool → PlainState → Ended
-clear_ended true s = record { state = call_ended (record s { sent = given_up s.sent }); end = given_up_end (is_late s.sent) s.ask.looks; reads = false }
-clear_ended false s = record { state = s; end = end.Clear s.ask.looks; reads = false }
+-- a look saw the command incomplete, after so many: was it the last that the call has?
+abbrev pub clear_ended : Bool → ℕ → CallBook → Ended
+clear_ended true looks b = record { calls = call_ended (record b { sent = given_up b.sent }); end = given_up_end (is_late b.sent) looks }
+clear_ended false looks b = record { calls = b; end = end.Clear looks }
 
 abbrev pub record_of : Sent → Bool → List ℕ → ℕ → Record
 record_of c error output done = let p = c.command in record { caller = p.caller; code = p.code; input = p.input; error = error; output = output; post = p.post; done = done; late = c.late }
@@ -104,67 +110,89 @@ abbrev pub recorded : Option Sent → Bool → List ℕ → ℕ → List Record
 recorded None error output done = []
 recorded (Some c) error output done = record_of c error output done ∷ []
 
--- the reply was taken: was the command given up before?
-abbrev pub drain_ended : Bool → Bool → PlainState → Ended
-drain_ended true error s = record { state = s; end = end.Late error; reads = true }
-drain_ended false error s = record { state = call_ended s; end = end.Done error; reads = true }
+-- was the command given up before?
+abbrev pub drained_calls : Bool → CallBook → CallBook
+drained_calls true b = b
+drained_calls false b = call_ended b
 
--- the reading is that of a completion
-abbrev pub ask_ended : Option AskOutcome → ℕ → PlainState → Ended
-ask_ended None reading s = record { state = s; end = end.Open; reads = false }
-ask_ended (Some Posted) reading s = record { state = s; end = end.Posted; reads = false }
-ask_ended (Some Clear) reading s = clear_ended (s.ask.looks == s.ask.budget) s
-ask_ended (Some (Drained error)) reading s = drain_ended (is_late s.sent) error (record s { records = s.records ++ recorded s.sent error s.ask.space reading; sent = None })
+abbrev pub drained_end : Bool → Bool → TraceEnd
+drained_end true error = end.Late error
+drained_end false error = end.Done error
 
--- ---- the asking side: what it does
+-- the reply was taken, at a reading
+abbrev pub drain_ended : Bool → List ℕ → ℕ → CallBook → Ended
+drain_ended error output done b = record { calls = drained_calls (is_late b.sent) (record b { records = b.records ++ recorded b.sent error output done; sent = None }); end = drained_end (is_late b.sent) error }
+
+-- the command of a call that is posted at a reading, over the space that was drained last
+abbrev pub sent_by : Asked → List ℕ → ℕ → Sent
+sent_by c space reading = record { command = record { caller = c.caller; code = c.code; input = over space c.bytes; post = reading }; late = false }
+
+abbrev pub call_posted : Asked → List ℕ → ℕ → CallBook → CallBook
+call_posted c space reading b = record b { sent = Some (sent_by c space reading) }
+
+abbrev pub earliest_call : CallBook → ℕ
+earliest_call b = earliest_of b.limits (times_of b.records)
+
+-- what refuses a call before it is begun: the header of types 0 to 2 has one byte for the code
+abbrev pub refusal_of : Wiring → Asked → ℕ → ℕ → Option TraceEnd
+refusal_of w c records flights =
+    if (if ltb w.kind 3 then ltb 255 c.code else false) then Some (end.BadCode c.code)
+    else if ltb w.room (length c.bytes) then Some (end.TooLong (length c.bytes) w.room)
+    else if records + flights == 4096 then Some end.JournalFull
+    else None
+
+-- ---- the asking side
+
+-- how a run ended, if it did: the reading is that of a completion
+abbrev pub ask_ended : Option AskOutcome → ℕ → Ask → CallBook → Ended
+ask_ended None reading a b = record { calls = b; end = end.Open }
+ask_ended (Some Posted) reading a b = record { calls = b; end = end.Posted }
+ask_ended (Some Clear) reading a b = clear_ended (a.looks == a.budget) a.looks b
+ask_ended (Some (Drained error)) reading a b = drain_ended error a.space reading b
+
+abbrev pub takes_reading : Option AskOutcome → Bool
+takes_reading (Some (Drained error)) = true
+takes_reading (Some Posted) = false
+takes_reading (Some Clear) = false
+takes_reading None = false
 
 -- one word step of the run that is under way
 abbrev pub ask_stepped : ℕ → PlainState → Picked
-ask_stepped reading s = let action = ask_next s.ask in let value : ℕ = found action s.words in
-    let e = ask_ended (ask_told s.ask value) reading (record s { words = act action s.words; ask = ask_fed s.ask value }) in
-    record { state = e.state; action = action; value = value; end = e.end; reads = e.reads }
+ask_stepped reading s = let action = ask_next s.ask in let value : ℕ = found action s.words in let told = ask_told s.ask value in let a : Ask = ask_fed s.ask value in
+    let e = ask_ended told reading a s.calls in
+    record { state = record s { words = act action s.words; ask = a; calls = e.calls }; action = action; value = value; end = e.end; reads = takes_reading told }
 
 -- no word step
-abbrev pub rested : PlainState → TraceEnd → Bool → Picked
-rested s e reads = record { state = s; action = Rest; value = 0; end = e; reads = reads }
+abbrev pub rested : PlainState → CallBook → TraceEnd → Bool → Picked
+rested s b e reads = record { state = record s { calls = b }; action = Rest; value = 0; end = e; reads = reads }
 
 -- a run that posts the call's command begins, at a reading
 abbrev pub posting : Asked → ℕ → PlainState → PlainState
-posting c reading s = record s { ask = ask_begun s.ask c.code c.bytes; sent = Some (record { command = record { caller = c.caller; code = c.code; input = over s.ask.space c.bytes; post = reading }; late = false }) }
-
-abbrev pub earliest_now : PlainState → ℕ
-earliest_now s = earliest_of s.limits (times_of s.records)
+posting c reading s = record s { ask = ask_begun s.ask c.code c.bytes; calls = call_posted c s.ask.space reading s.calls }
 
 -- is the reading below the earliest?
 abbrev pub post_or_soon : Bool → Asked → ℕ → PlainState → Picked
-post_or_soon true c reading s = rested (call_ended s) (end.TooSoon reading (earliest_now s)) true
+post_or_soon true c reading s = rested s (call_ended s.calls) (end.TooSoon reading (earliest_call s.calls)) true
 post_or_soon false c reading s = record (ask_stepped reading (posting c reading s)) { reads = true }
 
 -- a call is begun and no run is under way: is a command in flight?
 abbrev pub served : Bool → Asked → ℕ → PlainState → Picked
 served true c reading s = ask_stepped reading (record s { ask = ask_looking s.ask })
-served false c reading s = post_or_soon (ltb reading (earliest_now s)) c reading s
+served false c reading s = post_or_soon (ltb reading (earliest_call s.calls)) c reading s
 
--- what refuses a call before it is begun: the header of types 0 to 2 has one byte for the code
-abbrev pub refusal_of : Asked → PlainState → Option TraceEnd
-refusal_of c s =
-    if (if ltb s.ask.wiring.kind 3 then ltb 255 c.code else false) then Some (end.BadCode c.code)
-    else if ltb s.ask.wiring.room (length c.bytes) then Some (end.TooLong (length c.bytes) s.ask.wiring.room)
-    else if length s.records + flying s.ask.in_flight == 4096 then Some end.JournalFull
-    else None
-
-abbrev pub begun : Option TraceEnd → Asked → ℕ → PlainState → Picked
-begun (Some e) c reading s = rested (call_ended s) e false
-begun None c reading s = let s' = record s { ask = ask_budgeted s.ask c.polls; begun = true } in served s'.ask.in_flight c reading s'
+-- a call is next: is it refused?
+abbrev pub begins : Option TraceEnd → Asked → ℕ → PlainState → Picked
+begins (Some e) c reading s = rested s (call_ended s.calls) e false
+begins None c reading s = served s.ask.in_flight c reading (record s { ask = ask_budgeted s.ask c.polls; calls = call_begun s.calls })
 
 -- no run is under way: is a call begun, and which call is it, or is next?
 abbrev pub from_rest : Bool → Option Asked → ℕ → PlainState → Picked
-from_rest b None reading s = rested s end.Open false
+from_rest b None reading s = rested s s.calls end.Open false
 from_rest true (Some c) reading s = served s.ask.in_flight c reading s
-from_rest false (Some c) reading s = begun (refusal_of c s) c reading s
+from_rest false (Some c) reading s = begins (refusal_of s.ask.wiring c (length s.calls.records) (flying s.ask.in_flight)) c reading s
 
 abbrev pub ask_picked_at : AskStage → List Asked → ℕ → PlainState → Picked
-ask_picked_at AskRest calls reading s = from_rest s.begun (slice_get calls s.ended) reading s
+ask_picked_at AskRest calls reading s = from_rest s.calls.begun (slice_get calls s.calls.ended) reading s
 ask_picked_at _ calls reading s = ask_stepped reading s
 
 -- ---- the answering side

@@ -23,7 +23,7 @@ use Rattle.channel_plain.specs.declared.trace.Asked.{Asked}
 use Rattle.channel_plain.specs.declared.trace.TraceEnd.{TraceEnd}
 use Rattle.channel_plain.specs.declared.trace.TraceEnd.TheVariants as end
 use Rattle.channel_plain.specs.declared.trace.TraceLine.{TraceLine}
-use Rattle.channel_plain.specs.Picks.{asks_by, found, is_late, given_up, given_up_end, record_of}
+use Rattle.channel_plain.specs.Picks.{asks_by, found, is_late, given_up_end, record_of, refusal_of, sent_by, drained_end}
 
 -- ---- the words
 
@@ -88,17 +88,8 @@ abbrev pub in_flight : Option Sent → ℕ
 in_flight None = 0
 in_flight (Some c) = 1
 
--- what refuses a call before it is begun: the header of types 0 to 2 has one byte for the code
 abbrev pub refusal_at : Wiring → Asked → Calls → Option TraceEnd
-refusal_at w c s =
-    if (if ltb w.kind 3 then ltb 255 c.code else false) then Some (end.BadCode c.code)
-    else if ltb w.room (length c.bytes) then Some (end.TooLong (length c.bytes) w.room)
-    else if length s.records + in_flight s.sent == 4096 then Some end.JournalFull
-    else None
-
--- the command of a call that is posted at a reading
-abbrev pub sent_by : Asked → List ℕ → ℕ → Sent
-sent_by c space r = record { command = record { caller = c.caller; code = c.code; input = over space c.bytes; post = r }; late = false }
+refusal_at w c s = refusal_of w c (length s.records) (in_flight s.sent)
 
 -- the run that posts it: its code, and the space that was drained last with its bytes laid over
 abbrev pub posts_call : Wiring → Asked → List ℕ → Run AskEnd
@@ -109,13 +100,9 @@ abbrev pub Rests : TraceLine → TraceEnd → Type 0
 Rests l e = (l.action ≡ Rest) × (l.end ≡ e)
 
 -- the reply of a command was taken: was it given up before?
-abbrev pub drained_end : Bool → Bool → TraceEnd
-drained_end true error = end.Late error
-drained_end false error = end.Done error
-
-abbrev pub drained_calls : Bool → Calls → Calls
-drained_calls true s = s
-drained_calls false s = end_call s
+abbrev pub goes_on_if : Bool → Calls → Calls
+goes_on_if true s = s
+goes_on_if false s = end_call s
 
 abbrev pub replied : Wiring → List ℕ → List ℕ
 replied w block = bytes_of (drop (heads_of (style_of w)) block)
@@ -148,7 +135,7 @@ module _ (w : Wiring) (limits : Limits) (calls : List Asked) where
         → Turn s (ls ++ l ∷ []) (end_call (record s' { looks = s'.looks + 1; sent = Some (record p { late = true }) }))
     -- the command is complete: its reply is taken, at a reading
     takes : (s s' : Calls) (c : Asked) (p : Sent) (r : ℕ) (error : Bool) (block : List ℕ) (ls : List TraceLine) (l : TraceLine) → Serves s c s' → s'.sent ≡ Some p → IsRun (look_run w) ls l (drains error block) → l.end ≡ drained_end p.late error
-        → Turn s (ls ++ l ∷ []) (drained_calls p.late (record (take_reading s' r) { sent = None; space = replied w block; records = s'.records ++ record_of p error (replied w block) r ∷ [] }))
+        → Turn s (ls ++ l ∷ []) (goes_on_if p.late (record (take_reading s' r) { sent = None; space = replied w block; records = s'.records ++ record_of p error (replied w block) r ∷ [] }))
 
   -- runs, one after the other
   pub data Turns (from : Calls) : List TraceLine → Calls → Type 0 where

@@ -42,17 +42,13 @@ no_bytes = 0 ∷ 0 ∷ 0 ∷ 0 ∷ 0 ∷ 0 ∷ 0 ∷ 0 ∷ []
 -- nothing was asked of it
 abbrev pub fresh : Wiring → PlainState
 fresh w = record {
-  limits = record { turnaround = 0; per_minute = 0 };
   words = opening_words w (0 ∷ []);
   ask = record { wiring = w; stage = AskRest; kept = 0; code = 0; error = false; sent = 0 ∷ []; shown = 0 ∷ []; loaded = 0 ∷ []; input = no_bytes; space = no_bytes; in_flight = false; looks = 0; budget = 0; posts = 0; steps = 0 };
   answer = record { wiring = w; stage = AnswerRest; kept = 0; header = 0; bad = false; loaded = 0 ∷ []; out = 0 ∷ []; space = no_bytes; steps = 0 };
   device = 0 ∷ no_bytes;
   start = 0 ∷ no_bytes;
-  records = [];
+  calls = record { limits = record { turnaround = 0; per_minute = 0 }; records = []; sent = None; ended = 0; begun = false };
   executed = [];
-  sent = None;
-  ended = 0;
-  begun = false;
 }
 
 pub record Woven : Type 0 where
@@ -65,7 +61,7 @@ before l v = record v { trace = l ∷ v.trace }
 
 -- the picks, with the next reading
 abbrev pub woven : List Asked → List Side → ℕ → PlainState → Woven
-woven calls [] reading s = record { trace = []; records = s.records; sent = s.sent }
+woven calls [] reading s = record { trace = []; records = s.calls.records; sent = s.calls.sent }
 woven calls (side ∷ sides) reading s = let p = picked bank_exec calls side reading s in before (line_of side p) (woven calls sides (if p.reads then reading + 10 else reading) p.state)
 
 abbrev pub line : Side → Action → ℕ → TraceEnd → TraceLine
