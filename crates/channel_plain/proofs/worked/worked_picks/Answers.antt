@@ -1,5 +1,5 @@
 use Rattle.std.proofs.Common.{refl}
-use Rattle.shmem_header.specs.Bits.{header_word}
+use Rattle.shmem_header.specs.HeaderBits.{header_word}
 use Rattle.shmem_header.specs.Spelling.{word_of, word_bytes}
 use Rattle.channel_plain.proofs.worked.worked_picks.Goals as goal
 
