@@ -2,3 +2,4 @@ pub mod TraceText
 pub mod Picks
 pub mod WordRuns
 pub mod WorkedPicks
+pub mod Holding

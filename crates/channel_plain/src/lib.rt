@@ -1,10 +1,13 @@
 //! A channel whose two ends take turns on a plain list of words, one word step a pick: the core with nothing shared (ACPI 6.5, chapter 14).
 #![tactic(auto)]
 
+mod book;
+mod memory;
+mod register;
 mod sent;
 mod trace;
 mod worked;
 
-pub use sent::Sent;
+pub use sent::{Flight, Sent};
 pub use trace::{Asked, Side, Trace, TraceEnd, TraceLine};
 pub use worked::worked_picks;

@@ -9,3 +9,10 @@ pub struct Sent {
     /// Whether its caller has given it up.
     pub late: bool,
 }
+
+/// It with the memory for its reply.
+#[derive(Debug, Drop)]
+pub struct Flight {
+    pub sent: Sent,
+    pub reply: Vec<u8>,
+}
