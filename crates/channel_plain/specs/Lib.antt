@@ -3,3 +3,5 @@ pub mod Picks
 pub mod WordRuns
 pub mod WorkedPicks
 pub mod Holding
+pub mod Standing
+pub mod Steps

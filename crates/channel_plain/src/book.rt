@@ -1,6 +1,7 @@
 //! The calls, and what came of their commands.
 
 ghost use Rattle.std.specs.Prelude.{◌≡◌, ◌≤◌, ◌<◌, ◌-◌, ◌^◌, ◌++◌, ℕ, [], true, false, None, length, IfOk, OnErr};
+ghost use Rattle.std.specs.Option.{option_copied, option_map};
 ghost use Rattle.pcc_history.specs.Channel.{over};
 ghost use Rattle.pcc_steps.specs.Agree.{flying};
 ghost use Rattle.channel_plain.specs.Picks.{ask_ended, call_begun, call_ended, clear_ended, drain_ended, earliest_call, refusal_of, takes_reading};
@@ -60,6 +61,16 @@ impl Book {
         ensures { result.now.items ≡ self.now.records }
     {
         &self.journal
+    }
+
+    /// The command that is posted or in flight.
+    pub fn sent(&self) -> Option<&Pending>
+        ensures { option_copied result.entry ≡ option_map (λ s. s.command) self.now.sent }
+    {
+        match &self.flight {
+            None => None,
+            Some(flight) => Some(&flight.sent.command),
+        }
     }
 
     pub fn ended(&self) -> usize

@@ -2,12 +2,22 @@
 #![tactic(auto)]
 
 mod book;
+mod ends;
 mod memory;
+mod opening;
+mod plain;
 mod register;
 mod sent;
+mod step;
+mod text;
 mod trace;
 mod worked;
 
+pub use plain::{Plain, weave};
 pub use sent::{Flight, Sent};
+pub use text::trace_lines;
 pub use trace::{Asked, Side, Trace, TraceEnd, TraceLine};
 pub use worked::worked_picks;
+
+#[cfg(test)]
+mod tests;

@@ -1,8 +1,12 @@
 //! The commands that the answering end has executed.
 
 ghost use Rattle.std.specs.Prelude.{◌≡◌, ◌++◌, ◌∷◌, [], true, false, length, OnOk, OnErr};
+ghost use Rattle.pcc_history.specs.Channel.{exchange_of};
+ghost use Rattle.pcc_exec.specs.Execution.{Executes};
+ghost use Rattle.channel_plain.specs.Picks.{command_of};
 
-use crate::memory::{zeros};
+use crate::memory::zeros;
+use pcc_exec::{ExecStatus, Executor};
 use pcc_io::{Bytes, NoMemory};
 use pcc_journal::{Command, Commands};
 use std::alloc::Global;
@@ -65,23 +69,33 @@ impl Register {
         Ok(())
     }
 
-    /// Puts an executed command last, into the memory that was taken.
-    pub fn append(&mut self, code: u32, input: &[u8], error: bool, output: &[u8])
+    /// Has the device execute a command on a space, and puts it last, into the memory that was taken. A bad command is told as an
+    /// error where errors are reported.
+    pub fn execute<E: Executor>(
+        &mut self,
+        device: &mut E,
+        code: u32,
+        reports: bool,
+        space: &mut [u8],
+    ) -> ExecStatus
         requires ready { self.old.ready ≡ true }
-        requires input { length input.now ≡ self.old.room }
-        requires output { length output.now ≡ self.old.room }
-        ensures { self.new ≡ record self.old { commands = self.old.commands ++ record { code = code; input = input.now; error = error; output = output.now } ∷ []; ready = false } }
+        requires long { length space.old ≡ self.old.room }
+        requires room { E.room_of (E.state device.old) ≡ self.old.room }
+        ensures executes { Executes E.exec_of (E.state device.old) code space.old result (E.state device.new) space.new }
+        ensures register { self.new ≡ record self.old { commands = self.old.commands ++ command_of (exchange_of E.exec_of reports (E.state device.old) code space.old) ∷ []; ready = false } }
     {
         match self.ahead.take() {
             Some(mut ahead) => {
-                ahead.input.copy_from_slice(input);
-                ahead.output.copy_from_slice(output);
+                ahead.input.copy_from_slice(space);
+                let status = device.exec(code, space);
+                ahead.output.copy_from_slice(space);
                 self.commands.append(Command {
                     code,
                     input: Bytes::from_vec(ahead.input),
-                    error,
+                    error: reports && status == ExecStatus::Bad,
                     output: Bytes::from_vec(ahead.output),
                 });
+                status
             }
             None => unreachable!(),
         }

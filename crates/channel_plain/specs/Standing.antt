@@ -1,0 +1,70 @@
+-- What holds of a channel on plain words between two picks.
+use Rattle.std.specs.Prelude.{◌≡◌, ◌≢◌, ◌<◌, ◌+◌, ℕ, Bool, true, false, List, length, Option, Some, None}
+use Rattle.pcc_history.specs.Devices.{Device}
+use Rattle.pcc_journal.specs.Records.{exchanges_of, exchanges_of_commands}
+use Rattle.pcc_steps.specs.declared.ask.AskStage.{AskStage}
+use Rattle.pcc_steps.specs.declared.ask.AskStage.TheVariants.{AskRest, PostBlock, PostHeader, PostUpdateLoad, PostUpdateStore, PostMarkLoad, PostMarkStore, PostBellLoad, PostBellStore, PostLine, LookWord, LookError, LookBlock, LookLine, LookLineStore, LookAckLoad, LookAckStore}
+use Rattle.pcc_steps.specs.Asking.{Ask}
+use Rattle.pcc_steps.specs.Wires.{block_of}
+use Rattle.pcc_steps.specs.Agree.{Asker, Answerer, Agree}
+use Rattle.channel_plain.specs.declared.sent.Sent.{Sent}
+use Rattle.channel_plain.specs.Picks.{PlainState}
+
+-- both ends with their histories: what was drained is in the records, what was executed is in the commands
+abbrev pub asker_of : PlainState → ℕ → Asker
+asker_of s clears = record { m = s.ask; done = exchanges_of s.calls.records; clears = clears }
+
+abbrev pub answerer_of : PlainState → Answerer
+answerer_of s = record { m = s.answer; device = s.device; done = exchanges_of_commands s.executed }
+
+-- a command is being posted, or is in flight
+abbrev pub carried_at : AskStage → Bool → Bool
+carried_at AskRest flies = flies
+carried_at (PostBlock j) flies = true
+carried_at PostHeader flies = true
+carried_at PostUpdateLoad flies = true
+carried_at PostUpdateStore flies = true
+carried_at PostMarkLoad flies = true
+carried_at PostMarkStore flies = true
+carried_at PostBellLoad flies = true
+carried_at PostBellStore flies = true
+carried_at PostLine flies = true
+carried_at LookWord flies = flies
+carried_at LookError flies = flies
+carried_at (LookBlock j) flies = flies
+carried_at LookLine flies = flies
+carried_at LookLineStore flies = flies
+carried_at LookAckLoad flies = flies
+carried_at LookAckStore flies = flies
+
+abbrev pub carried : Ask → Bool
+carried a = carried_at a.stage a.in_flight
+
+-- the command of the calls is the one that the asking machine has
+abbrev pub IsCarried : Bool → Option Sent → ℕ → List ℕ → Type 0
+IsCarried false sent code input = sent ≡ None
+IsCarried true None code input = ⊥
+IsCarried true (Some c) code input = (c.command.code ≡ code) × (c.command.input ≡ input)
+
+-- a call that is begun has looks left, where no run is under way and a command is in flight
+abbrev pub LooksBegun : AskStage → Bool → ℕ → ℕ → Type 0
+LooksBegun AskRest true looks budget = looks < budget
+LooksBegun _ flies looks budget = 0 < budget
+
+module _ (exec : Device) (is_state : List ℕ → Type 0) (room_of : List ℕ → ℕ) where
+  pub record Stands (s : PlainState) : Type 0 where
+    -- the relation of the words with both ends
+    pub clears : ℕ
+    pub agree : Agree exec s.start s.words (asker_of s clears) (answerer_of s)
+    pub long : length s.words ≡ 8 + block_of s.ask.wiring
+    pub start : is_state s.start
+    pub room : room_of s.start ≡ s.ask.wiring.room
+    pub carries : IsCarried (carried s.ask) s.calls.sent s.ask.code s.ask.input
+    -- a run of the asking side belongs to a call that is begun
+    pub runs : s.ask.stage ≢ AskRest → s.calls.begun ≡ true
+    pub looks : s.calls.begun ≡ true → LooksBegun s.ask.stage s.ask.in_flight s.ask.looks s.ask.budget
+
+  -- a command that is being posted or in flight, and isn't executed yet, has the memory for that
+  pub record IsReady (s : PlainState) (ready : Bool) (room : ℕ) : Type 0 where
+    pub fits : room ≡ s.ask.wiring.room
+    pub taken : carried s.ask ≡ true → length s.executed ≡ length s.calls.records → ready ≡ true

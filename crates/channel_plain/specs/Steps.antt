@@ -1,0 +1,35 @@
+-- What one word step needs, and what the device's turn leaves.
+use Rattle.std.specs.Prelude.{◌≡◌, ◌<◌, ◌^◌, ◌++◌, ℕ, Bool, true, false, List, [], ◌∷◌, length, map}
+use Rattle.pcc_journal.specs.declared.command.Command.{Command}
+use Rattle.pcc_steps.specs.declared.wiring.Action.{Action}
+use Rattle.pcc_steps.specs.declared.wiring.Action.TheVariants.{Load, Store, Swap, Execute, Rest}
+use Rattle.pcc_steps.specs.declared.answer.AnswerStage.{AnswerStage}
+use Rattle.pcc_steps.specs.declared.answer.AnswerStage.TheVariants.{AnswerRest, RunDevice}
+use Rattle.pcc_steps.specs.Answering.{Answer}
+use Rattle.pcc_steps.specs.Agree.{Answerer}
+use Rattle.channel_plain.specs.Picks.{command_of}
+use Rattle.channel_plain.specs.Holding.{Executions}
+
+-- the place is one of the words
+abbrev pub IsWithin : Action → ℕ → Type 0
+IsWithin (Load place) n = place < n
+IsWithin (Store place word) n = place < n
+IsWithin (Swap place word) n = place < n
+IsWithin (Execute code) n = Unit {0}
+IsWithin Rest n = Unit {0}
+
+-- the memory for an executed command is there, where one is to be executed
+abbrev pub SettlesIf : AnswerStage → Bool → Type 0
+SettlesIf RunDevice ready = ready ≡ true
+SettlesIf _ ready = Unit {0}
+
+-- that memory is used up where a command was executed
+abbrev pub ready_after : AnswerStage → Bool → Bool
+ready_after RunDevice ready = false
+ready_after _ ready = ready
+
+-- the answering end and the list of the executed commands, after the device's turn
+pub record IsSettled (y : Answerer) (stage : AnswerStage) (before : Executions) (b : Answer) (d : List ℕ) (after : Executions) : Type 0 where
+  pub answer : b ≡ y.m
+  pub device : d ≡ y.device
+  pub register : after ≡ record before { commands = before.commands ++ map command_of y.done; ready = ready_after stage before.ready }

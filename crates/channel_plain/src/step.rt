@@ -1,0 +1,55 @@
+//! One word step on a list of words, and the device's turn.
+
+ghost use Rattle.std.specs.Prelude.{◌≡◌, [], length};
+ghost use Rattle.pcc_steps.specs.Agree.{act, settle};
+ghost use Rattle.channel_plain.specs.Picks.{found, started_at};
+ghost use Rattle.channel_plain.specs.Steps.{IsSettled, IsWithin, SettlesIf};
+
+use crate::register::Register;
+use pcc_exec::Executor;
+use pcc_steps::{Action, AnswerState, answer_next, answer_ran, answer_space, answer_start};
+
+/// Makes a word step. Answers the value that was loaded or found, and 0 where there is none.
+pub(crate) fn perform(words: &mut [u64], action: Action) -> u64
+    requires { IsWithin action (length words.old) }
+    ensures words { words.new ≡ act action words.old }
+    ensures value { result ≡ found action words.old }
+{
+    match action {
+        Action::Load(place) => words[place as usize],
+        Action::Store(place, word) => {
+            words[place as usize] = word;
+            0
+        }
+        Action::Swap(place, word) => {
+            let value = words[place as usize];
+            words[place as usize] = word;
+            value
+        }
+        Action::Execute { .. } | Action::Rest => 0,
+    }
+}
+
+/// Begins an answering run where none is under way.
+pub(crate) fn start(answer: &mut AnswerState)
+    ensures { answer.new ≡ started_at answer.old.stage answer.old }
+{
+    if answer_next(answer) == Action::Rest {
+        answer_start(answer);
+    }
+}
+
+/// Has the device execute the command that the answering machine has loaded, if it has.
+pub(crate) fn settle<E: Executor>(answer: &mut AnswerState, device: &mut E, register: &mut Register, reports: bool)
+    requires ready { SettlesIf answer.old.stage register.old.ready }
+    requires long { register.old.room ≡ length answer.old.space }
+    requires room { E.room_of (E.state device.old) ≡ length answer.old.space }
+    requires reports { reports ≡ answer.old.wiring.reports }
+    ensures { IsSettled (settle E.exec_of (record { m = answer.old; device = E.state device.old; done = [] })) answer.old.stage register.old answer.new (E.state device.new) register.new }
+{
+    let Action::Execute { code } = answer_next(answer) else {
+        return;
+    };
+    let status = register.execute(device, code, reports, answer_space(answer));
+    answer_ran(answer, status);
+}
