@@ -84,6 +84,10 @@ abbrev pub is_late : Option Sent → Bool
 is_late None = false
 is_late (Some c) = c.late
 
+abbrev pub command_in : Option Sent → Option Pending
+command_in None = None
+command_in (Some c) = Some c.command
+
 abbrev pub given_up : Option Sent → Option Sent
 given_up None = None
 given_up (Some c) = Some (record c { late = true })

@@ -1,14 +1,20 @@
 -- What holds of a channel on plain words between two picks.
-use Rattle.std.specs.Prelude.{◌≡◌, ◌≢◌, ◌<◌, ◌+◌, ℕ, Bool, true, false, List, length, Option, Some, None}
+use Rattle.std.specs.Prelude.{◌≡◌, ◌<◌, ◌≤◌, ◌+◌, ℕ, Bool, true, false, not, List, length, Option, Some, None}
+use Rattle.std.specs.List.{slice_get}
 use Rattle.pcc_history.specs.Devices.{Device}
-use Rattle.pcc_journal.specs.Records.{exchanges_of, exchanges_of_commands}
+use Rattle.pcc_history.specs.Channel.{both}
+use Rattle.rate_limit.specs.RateLimits.{WithinLimits}
+use Rattle.pcc_journal.specs.Records.{exchanges_of, exchanges_of_commands, times_of}
 use Rattle.pcc_steps.specs.declared.ask.AskStage.{AskStage}
 use Rattle.pcc_steps.specs.declared.ask.AskStage.TheVariants.{AskRest, PostBlock, PostHeader, PostUpdateLoad, PostUpdateStore, PostMarkLoad, PostMarkStore, PostBellLoad, PostBellStore, PostLine, LookWord, LookError, LookBlock, LookLine, LookLineStore, LookAckLoad, LookAckStore}
-use Rattle.pcc_steps.specs.Asking.{Ask}
-use Rattle.pcc_steps.specs.Wires.{block_of}
-use Rattle.pcc_steps.specs.Agree.{Asker, Answerer, Agree}
+use Rattle.pcc_steps.specs.declared.wiring.Wiring.{Wiring}
+use Rattle.pcc_steps.specs.Asking.{Ask, CodeFits}
+use Rattle.pcc_steps.specs.Wires.{style_of, block_of}
+use Rattle.pcc_steps.specs.Agree.{Asker, Answerer, Agree, flying}
 use Rattle.channel_plain.specs.declared.sent.Sent.{Sent}
-use Rattle.channel_plain.specs.Picks.{PlainState}
+use Rattle.channel_plain.specs.declared.trace.Asked.{Asked}
+use Rattle.channel_plain.specs.Picks.{CallBook, PlainState}
+use Rattle.channel_plain.specs.Holding.{post_of}
 
 -- both ends with their histories: what was drained is in the records, what was executed is in the commands
 abbrev pub asker_of : PlainState → ℕ → Asker
@@ -16,6 +22,26 @@ asker_of s clears = record { m = s.ask; done = exchanges_of s.calls.records; cle
 
 abbrev pub answerer_of : PlainState → Answerer
 answerer_of s = record { m = s.answer; device = s.device; done = exchanges_of_commands s.executed }
+
+-- no run is under way
+abbrev pub is_rest : AskStage → Bool
+is_rest AskRest = true
+is_rest (PostBlock j) = false
+is_rest PostHeader = false
+is_rest PostUpdateLoad = false
+is_rest PostUpdateStore = false
+is_rest PostMarkLoad = false
+is_rest PostMarkStore = false
+is_rest PostBellLoad = false
+is_rest PostBellStore = false
+is_rest PostLine = false
+is_rest LookWord = false
+is_rest LookError = false
+is_rest (LookBlock j) = false
+is_rest LookLine = false
+is_rest LookLineStore = false
+is_rest LookAckLoad = false
+is_rest LookAckStore = false
 
 -- a command is being posted, or is in flight
 abbrev pub carried_at : AskStage → Bool → Bool
@@ -47,9 +73,37 @@ IsCarried true None code input = ⊥
 IsCarried true (Some c) code input = (c.command.code ≡ code) × (c.command.input ≡ input)
 
 -- a call that is begun has looks left, where no run is under way and a command is in flight
-abbrev pub LooksBegun : AskStage → Bool → ℕ → ℕ → Type 0
-LooksBegun AskRest true looks budget = looks < budget
-LooksBegun _ flies looks budget = 0 < budget
+abbrev pub LooksBegun : Bool → ℕ → ℕ → Type 0
+LooksBegun true looks budget = looks < budget
+LooksBegun false looks budget = 0 < budget
+
+-- the command of the call that is begun is posted
+abbrev pub owns : Option Sent → Bool
+owns None = false
+owns (Some c) = not c.late
+
+-- the call that is begun: nothing refuses it
+pub record Serving (calls : List Asked) (w : Wiring) (budget records flights : ℕ) (b : CallBook) : Type 0 where
+  pub call : Asked
+  pub at : slice_get calls b.ended ≡ Some call
+  pub code : CodeFits (style_of w) call.code
+  pub fits : length call.bytes ≤ w.room
+  pub polls : budget ≡ call.polls
+  -- as long as its command isn't posted, there is room for one more
+  pub room : owns b.sent ≡ false → records + flights < 4096
+
+-- a call that is begun is one of these, and nothing refuses it
+abbrev pub IsServing : List Asked → PlainState → Type 0
+IsServing calls s = s.calls.begun ≡ true → Serving calls s.ask.wiring s.ask.budget (length s.calls.records) (flying s.ask.in_flight) s.calls
+
+-- each call has a look at least
+pub record HavePolls (calls : List Asked) : Type 0 where
+  pub least : (i : ℕ) (c : Asked) → slice_get calls i ≡ Some c → 0 < c.polls
+
+-- a command that is being posted or in flight, and isn't executed yet, has the memory for that
+pub record IsReady (s : PlainState) (ready : Bool) (room : ℕ) : Type 0 where
+  pub fits : room ≡ s.ask.wiring.room
+  pub taken : carried s.ask ≡ true → length s.executed ≡ length s.calls.records → ready ≡ true
 
 module _ (exec : Device) (is_state : List ℕ → Type 0) (room_of : List ℕ → ℕ) where
   pub record Stands (s : PlainState) : Type 0 where
@@ -61,10 +115,9 @@ module _ (exec : Device) (is_state : List ℕ → Type 0) (room_of : List ℕ �
     pub room : room_of s.start ≡ s.ask.wiring.room
     pub carries : IsCarried (carried s.ask) s.calls.sent s.ask.code s.ask.input
     -- a run of the asking side belongs to a call that is begun
-    pub runs : s.ask.stage ≢ AskRest → s.calls.begun ≡ true
-    pub looks : s.calls.begun ≡ true → LooksBegun s.ask.stage s.ask.in_flight s.ask.looks s.ask.budget
+    pub runs : is_rest s.ask.stage ≡ false → s.calls.begun ≡ true
+    pub looks : s.calls.begun ≡ true → LooksBegun (both (is_rest s.ask.stage) s.ask.in_flight) s.ask.looks s.ask.budget
+    pub limits : WithinLimits s.calls.limits (times_of s.calls.records) (post_of s.calls.sent)
 
-  -- a command that is being posted or in flight, and isn't executed yet, has the memory for that
-  pub record IsReady (s : PlainState) (ready : Bool) (room : ℕ) : Type 0 where
-    pub fits : room ≡ s.ask.wiring.room
-    pub taken : carried s.ask ≡ true → length s.executed ≡ length s.calls.records → ready ≡ true
+  abbrev pub Holds : PlainState → Bool → ℕ → Type 0
+  Holds s ready room = Stands s × IsReady s ready room

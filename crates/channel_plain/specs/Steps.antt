@@ -1,14 +1,16 @@
 -- What one word step needs, and what the device's turn leaves.
-use Rattle.std.specs.Prelude.{◌≡◌, ◌<◌, ◌^◌, ◌++◌, ℕ, Bool, true, false, List, [], ◌∷◌, length, map}
+use Rattle.std.specs.Prelude.{◌≡◌, ◌<◌, ◌^◌, ◌++◌, ℕ, Bool, true, false, List, [], ◌∷◌, length, map, Option}
 use Rattle.pcc_journal.specs.declared.command.Command.{Command}
 use Rattle.pcc_steps.specs.declared.wiring.Action.{Action}
 use Rattle.pcc_steps.specs.declared.wiring.Action.TheVariants.{Load, Store, Swap, Execute, Rest}
 use Rattle.pcc_steps.specs.declared.answer.AnswerStage.{AnswerStage}
 use Rattle.pcc_steps.specs.declared.answer.AnswerStage.TheVariants.{AnswerRest, RunDevice}
+use Rattle.pcc_steps.specs.Asking.{Ask, ask_budgeted}
 use Rattle.pcc_steps.specs.Answering.{Answer}
 use Rattle.pcc_steps.specs.Agree.{Answerer}
-use Rattle.channel_plain.specs.Picks.{command_of}
-use Rattle.channel_plain.specs.Holding.{Executions}
+use Rattle.channel_plain.specs.declared.ends.Pick.{Pick}
+use Rattle.channel_plain.specs.Picks.{CallBook, PlainState, Picked, call_begun, command_of}
+use Rattle.channel_plain.specs.Holding.{Executions, Takes}
 
 -- the place is one of the words
 abbrev pub IsWithin : Action → ℕ → Type 0
@@ -33,3 +35,23 @@ pub record IsSettled (y : Answerer) (stage : AnswerStage) (before : Executions) 
   pub answer : b ≡ y.m
   pub device : d ≡ y.device
   pub register : after ≡ record before { commands = before.commands ++ map command_of y.done; ready = ready_after stage before.ready }
+
+-- a pick of an end did what is said, and left this
+abbrev pub IsPick : Picked → PlainState → Pick → Type 0
+IsPick p s pick = (s ≡ p.state) × (pick ≡ record { action = p.action; value = p.value; end = p.end })
+
+-- it did so at a reading, which the clock gave where it took one
+abbrev pub Reads : {K : Type 0} → (K → ℕ) → (K → ℕ → Option ℕ) → K → K → (ℕ → Picked) → PlainState → Pick → Type 0
+Reads taken tells old new at s pick = (r : ℕ) × Takes taken tells old new (at r).reads r × IsPick (at r) s pick
+
+-- a call begins: its looks are counted
+abbrev pub budget_by : Bool → ℕ → Ask → Ask
+budget_by true polls a = ask_budgeted a polls
+budget_by false polls a = a
+
+abbrev pub begun_by : Bool → CallBook → CallBook
+begun_by true b = call_begun b
+begun_by false b = b
+
+abbrev pub begun_with : Bool → ℕ → PlainState → PlainState
+begun_with begins polls s = record s { ask = budget_by begins polls s.ask; calls = begun_by begins s.calls }

@@ -1,7 +1,6 @@
 -- The text of a trace: a line for each pick.
 use Rattle.std.specs.Prelude.{ℕ, Bool, true, false, List, [], ◌∷◌, ◌++◌, codes}
 use Rattle.std.specs.Int.{w64, to_be_bytes}
-use Rattle.std.specs.List.{flat_map}
 use Rattle.pcc_text.specs.Pieces.{Spelled, Words, Decimal, HexOf, spelled}
 use Rattle.pcc_steps.specs.declared.wiring.Action.{Action}
 use Rattle.pcc_steps.specs.declared.wiring.Action.TheVariants.{Load, Store, Swap, Execute, Rest}
@@ -57,5 +56,6 @@ end_words end.Idle = Words (codes " -> idle") ∷ []
 unfoldable pub trace_line_text : TraceLine → List ℕ
 trace_line_text l = letter l.side ++ (spelled (step_words l) ++ (spelled (end_words l.end) ++ codes "\n"))
 
-unfoldable pub trace_text : List TraceLine → List ℕ
-trace_text lines = flat_map trace_line_text lines
+abbrev pub trace_text : List TraceLine → List ℕ
+trace_text [] = []
+trace_text (l ∷ ls) = trace_line_text l ++ trace_text ls

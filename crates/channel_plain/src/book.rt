@@ -1,10 +1,10 @@
 //! The calls, and what came of their commands.
 
 ghost use Rattle.std.specs.Prelude.{◌≡◌, ◌≤◌, ◌<◌, ◌-◌, ◌^◌, ◌++◌, ℕ, [], true, false, None, length, IfOk, OnErr};
-ghost use Rattle.std.specs.Option.{option_copied, option_map};
+ghost use Rattle.std.specs.Option.{option_copied};
 ghost use Rattle.pcc_history.specs.Channel.{over};
 ghost use Rattle.pcc_steps.specs.Agree.{flying};
-ghost use Rattle.channel_plain.specs.Picks.{ask_ended, call_begun, call_ended, clear_ended, drain_ended, earliest_call, refusal_of, takes_reading};
+ghost use Rattle.channel_plain.specs.Picks.{ask_ended, call_begun, call_ended, clear_ended, command_in, drain_ended, earliest_call, refusal_of, takes_reading};
 ghost use Rattle.channel_plain.specs.Holding.{FliesIf, FliesWith, Takes, tried};
 
 use crate::memory::zeros;
@@ -65,7 +65,7 @@ impl Book {
 
     /// The command that is posted or in flight.
     pub fn sent(&self) -> Option<&Pending>
-        ensures { option_copied result.entry ≡ option_map (λ s. s.command) self.now.sent }
+        ensures { option_copied result ≡ command_in self.now.sent }
     {
         match &self.flight {
             None => None,

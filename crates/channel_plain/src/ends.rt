@@ -8,8 +8,6 @@ ghost use Rattle.pcc_steps.specs.Asking.{IsNewAsk};
 ghost use Rattle.pcc_steps.specs.Answering.{IsNewAnswer};
 ghost use Rattle.pcc_steps.specs.Wires.{IsRight, opening_words};
 ghost use Rattle.shmem_header.specs.Spelling.{words_of};
-ghost use Rattle.channel_plain.specs.Picks.{answer_picked, ask_picked_at, ask_stepped, begins, budget_by, served};
-ghost use Rattle.channel_plain.specs.Holding.{Picks};
 
 use crate::book::Book;
 use crate::memory::zeros;

@@ -10,7 +10,9 @@ use pcc_steps::Action;
 use pcc_text::{Piece, put, put_pieces};
 use std::alloc::Global;
 
-fn letter(side: Side) -> &'static [u8] {
+fn letter(side: Side) -> &'static [u8]
+    ensures { result.now ≡ letter side }
+{
     match side {
         Side::System => b"o",
         Side::Platform => b"p",
@@ -115,13 +117,21 @@ fn put_line(out: &mut Vec<u8>, line: &TraceLine) -> Result<(), NoMemory>
     put(out, b"\n")
 }
 
-/// The text of a trace, a line for each pick. No line's action is `Execute`, and a call that ends without a word step stands at `Rest`.
+#[tactic(auto, using(crate::proofs::Written::written_start, crate::proofs::Written::written_end))]
+fn put_trace(out: &mut Vec<u8>, lines: &[TraceLine]) -> Result<(), NoMemory>
+    ensures { OnOk result (out.new.items ≡ out.old.items ++ trace_text lines.now) }
+{
+    for place in 0..lines.len() {
+        put_line(out, &lines[place])?;
+    }
+    Ok(())
+}
+
+/// The text of a trace, a line for each pick. A call that ends without a word step is told in place of one.
 pub fn trace_lines(alloc: Global, trace: &Trace) -> Result<Vec<u8>, NoMemory>
     ensures { IfOk result (λ text. text.items ≡ trace_text trace.now) }
 {
     let mut text = Vec::new(alloc);
-    for line in trace.as_slice() {
-        put_line(&mut text, line)?;
-    }
+    put_trace(&mut text, trace.as_slice())?;
     Ok(text)
 }

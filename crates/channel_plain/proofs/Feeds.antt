@@ -1,0 +1,252 @@
+-- What a step of the asking machine keeps, and where it leads, by its stage.
+use Rattle.std.proofs.Common.{◌≡◌, ◌≢◌, ℕ, ◌+◌, ◌^◌, ◌<◌, ◌≤◌, ◌-◌, Bool, true, false, eqb, List, [], ◌∷◌, ◌++◌, length, refl, sym, ap, ◌∙◌, subst, arith}
+use Rattle.std.specs.Prelude.{Option, Some, None}
+use Rattle.pcc_steps.specs.declared.wiring.Wiring.{Wiring}
+use Rattle.pcc_steps.specs.declared.wiring.Style.{Style}
+use Rattle.pcc_steps.specs.declared.wiring.Style.TheVariants.{Headed, Joined3, Separate3, Joined4, Separate4, Reduced5}
+use Rattle.pcc_steps.specs.declared.ask.AskStage.{AskStage}
+use Rattle.pcc_steps.specs.declared.ask.AskStage.TheVariants.{AskRest, PostBlock, PostHeader, PostUpdateLoad, PostUpdateStore, PostMarkLoad, PostMarkStore, PostBellLoad, PostBellStore, PostLine, LookWord, LookError, LookBlock, LookLine, LookLineStore, LookAckLoad, LookAckStore}
+use Rattle.pcc_steps.specs.declared.ask.AskOutcome.{AskOutcome}
+use Rattle.pcc_steps.specs.declared.ask.AskOutcome.TheVariants.{Posted, Clear, Drained}
+use Rattle.pcc_steps.specs.Wires.{style_of, block_of, sees_done, tells_error, acknowledges, update_place}
+use Rattle.pcc_steps.specs.Asking.{Ask, AskOk, AskPlace, Flies, has_more, ask_next_at, ask_fed_at, ask_told_at, after_block, after_update, after_mark, after_bell, after_look, store_on, look_on, read_on, block_on, line_on, lowered_on, drained, look_told, read_told, end_told, line_told}
+use Rattle.channel_plain.specs.Standing.{carried_at, carried, is_rest}
+use Rattle.channel_plain.specs.Steps.{IsWithin}
+
+pub rest_is : (st : AskStage) → is_rest st ≡ true → st ≡ AskRest
+rest_is AskRest e = refl
+rest_is (PostBlock j) e = absurd (cc e)
+rest_is PostHeader e = absurd (cc e)
+rest_is PostUpdateLoad e = absurd (cc e)
+rest_is PostUpdateStore e = absurd (cc e)
+rest_is PostMarkLoad e = absurd (cc e)
+rest_is PostMarkStore e = absurd (cc e)
+rest_is PostBellLoad e = absurd (cc e)
+rest_is PostBellStore e = absurd (cc e)
+rest_is PostLine e = absurd (cc e)
+rest_is LookWord e = absurd (cc e)
+rest_is LookError e = absurd (cc e)
+rest_is (LookBlock j) e = absurd (cc e)
+rest_is LookLine e = absurd (cc e)
+rest_is LookLineStore e = absurd (cc e)
+rest_is LookAckLoad e = absurd (cc e)
+rest_is LookAckStore e = absurd (cc e)
+
+pub not_rest : (st : AskStage) → st ≢ AskRest → is_rest st ≡ false
+not_rest AskRest n = absurd (n refl)
+not_rest (PostBlock j) n = refl
+not_rest PostHeader n = refl
+not_rest PostUpdateLoad n = refl
+not_rest PostUpdateStore n = refl
+not_rest PostMarkLoad n = refl
+not_rest PostMarkStore n = refl
+not_rest PostBellLoad n = refl
+not_rest PostBellStore n = refl
+not_rest PostLine n = refl
+not_rest LookWord n = refl
+not_rest LookError n = refl
+not_rest (LookBlock j) n = refl
+not_rest LookLine n = refl
+not_rest LookLineStore n = refl
+not_rest LookAckLoad n = refl
+not_rest LookAckStore n = refl
+
+-- ---- what a step tells of a run
+
+abbrev pub ends_run : Option AskOutcome → Bool
+ends_run None = false
+ends_run (Some o) = true
+
+abbrev pub carried_after : Option AskOutcome → Bool → Bool
+carried_after None c = c
+carried_after (Some Posted) c = true
+carried_after (Some Clear) c = c
+carried_after (Some (Drained e)) c = false
+
+abbrev pub flies_after : Option AskOutcome → Bool → Bool
+flies_after None f = f
+flies_after (Some Posted) f = true
+flies_after (Some Clear) f = f
+flies_after (Some (Drained e)) f = false
+
+abbrev pub looks_after : Option AskOutcome → ℕ → ℕ
+looks_after None n = n
+looks_after (Some Posted) n = 0
+looks_after (Some Clear) n = n + 1
+looks_after (Some (Drained e)) n = n
+
+-- a run that ends was for a command, and one that looked for a command in flight
+abbrev pub Sure : Option AskOutcome → Bool → Bool → Type 0
+Sure None c f = Unit {0}
+Sure (Some Posted) c f = (c ≡ true) × (f ≡ false)
+Sure (Some Clear) c f = (c ≡ true) × (f ≡ true)
+Sure (Some (Drained e)) c f = (c ≡ true) × (f ≡ true)
+
+pub record Fed (st : AskStage) (a b : Ask) (told : Option AskOutcome) : Type 0 where
+  pub wiring : b.wiring ≡ a.wiring
+  pub code : b.code ≡ a.code
+  pub input : b.input ≡ a.input
+  pub budget : b.budget ≡ a.budget
+  pub looks : b.looks ≡ looks_after told a.looks
+  pub flies : b.in_flight ≡ flies_after told a.in_flight
+  pub carried : carried b ≡ carried_after told (carried_at st a.in_flight)
+  pub rests : is_rest b.stage ≡ ends_run told
+  pub sure : Sure told (carried_at st a.in_flight) a.in_flight
+
+carried_block : (s : Style) (f : Bool) → carried_at (after_block s) f ≡ true
+carried_block Headed f = refl
+carried_block Joined3 f = refl
+carried_block Separate3 f = refl
+carried_block Joined4 f = refl
+carried_block Separate4 f = refl
+carried_block Reduced5 f = refl
+
+goes_block : (s : Style) → is_rest (after_block s) ≡ false
+goes_block Headed = refl
+goes_block Joined3 = refl
+goes_block Separate3 = refl
+goes_block Joined4 = refl
+goes_block Separate4 = refl
+goes_block Reduced5 = refl
+
+carried_update : (s : Style) (f : Bool) → carried_at (after_update s) f ≡ true
+carried_update Separate3 f = refl
+carried_update Headed f = refl
+carried_update Joined3 f = refl
+carried_update Joined4 f = refl
+carried_update Separate4 f = refl
+carried_update Reduced5 f = refl
+
+goes_update : (s : Style) → is_rest (after_update s) ≡ false
+goes_update Separate3 = refl
+goes_update Headed = refl
+goes_update Joined3 = refl
+goes_update Joined4 = refl
+goes_update Separate4 = refl
+goes_update Reduced5 = refl
+
+carried_mark : (s : Style) (f : Bool) → carried_at (after_mark s) f ≡ true
+carried_mark Separate3 f = refl
+carried_mark Headed f = refl
+carried_mark Joined3 f = refl
+carried_mark Joined4 f = refl
+carried_mark Separate4 f = refl
+carried_mark Reduced5 f = refl
+
+goes_mark : (s : Style) → is_rest (after_mark s) ≡ false
+goes_mark Separate3 = refl
+goes_mark Headed = refl
+goes_mark Joined3 = refl
+goes_mark Joined4 = refl
+goes_mark Separate4 = refl
+goes_mark Reduced5 = refl
+
+carried_bell : (s : Style) (f : Bool) → carried_at (after_bell s) f ≡ true
+carried_bell Reduced5 f = refl
+carried_bell Headed f = refl
+carried_bell Joined3 f = refl
+carried_bell Separate3 f = refl
+carried_bell Joined4 f = refl
+carried_bell Separate4 f = refl
+
+goes_bell : (s : Style) → is_rest (after_bell s) ≡ false
+goes_bell Reduced5 = refl
+goes_bell Headed = refl
+goes_bell Joined3 = refl
+goes_bell Separate3 = refl
+goes_bell Joined4 = refl
+goes_bell Separate4 = refl
+
+carried_look : (b f : Bool) → carried_at (after_look b) f ≡ f
+carried_look true f = refl
+carried_look false f = refl
+
+goes_look : (b : Bool) → is_rest (after_look b) ≡ false
+goes_look true = refl
+goes_look false = refl
+
+-- ---- one lemma for each conditional
+
+stored : (b : Bool) (j : ℕ) (a : Ask) → Fed (PostBlock j) a (store_on b j a) None
+stored true j a = record { wiring = refl; code = refl; input = refl; budget = refl; looks = refl; flies = refl; carried = refl; rests = refl; sure = tt }
+stored false j a = record { wiring = refl; code = refl; input = refl; budget = refl; looks = refl; flies = refl; carried = carried_block (style_of a.wiring) a.in_flight; rests = goes_block (style_of a.wiring); sure = tt }
+
+looked : (b : Bool) (a : Ask) (v : ℕ) → a.in_flight ≡ true → Fed LookWord a (look_on b v a) (look_told b)
+looked true a v f = record { wiring = refl; code = refl; input = refl; budget = refl; looks = refl; flies = refl; carried = carried_look (tells_error a.wiring) a.in_flight; rests = goes_look (tells_error a.wiring); sure = tt }
+looked false a v f = record { wiring = refl; code = refl; input = refl; budget = refl; looks = refl; flies = refl; carried = refl; rests = refl; sure = (f, f) }
+
+drain : (st : AskStage) (a b : Ask) → carried_at st a.in_flight ≡ true → a.in_flight ≡ true → b.wiring ≡ a.wiring → b.code ≡ a.code → b.input ≡ a.input → b.budget ≡ a.budget → b.looks ≡ a.looks → b.error ≡ a.error → Fed st a (drained b) (Some (Drained a.error))
+drain st a b c f w k i u l e = record { wiring = w; code = k; input = i; budget = u; looks = l; flies = refl; carried = refl; rests = refl; sure = (c, f) }
+
+read_end : (n : Bool) (j : ℕ) (a b : Ask) → a.in_flight ≡ true → b.in_flight ≡ a.in_flight → b.wiring ≡ a.wiring → b.code ≡ a.code → b.input ≡ a.input → b.budget ≡ a.budget → b.looks ≡ a.looks → b.error ≡ a.error → Fed (LookBlock j) a (block_on n b) (end_told n a.error)
+read_end true j a b f g w k i u l e = record { wiring = w; code = k; input = i; budget = u; looks = l; flies = g; carried = g; rests = refl; sure = tt }
+read_end false j a b f g w k i u l e = drain (LookBlock j) a b f f w k i u l e
+
+reads : (m : Bool) (j : ℕ) (a : Ask) (v : ℕ) → a.in_flight ≡ true → Fed (LookBlock j) a (read_on m j v a) (read_told m a.wiring.notify a.error)
+reads true j a v f = record { wiring = refl; code = refl; input = refl; budget = refl; looks = refl; flies = refl; carried = refl; rests = refl; sure = tt }
+reads false j a v f = read_end a.wiring.notify j a (record a { loaded = (read_on true j v a).loaded }) f refl refl refl refl refl refl refl
+
+lines : (b : Bool) (a : Ask) → a.in_flight ≡ true → Fed LookLine a (line_on b a) (line_told b a.error)
+lines true a f = drain LookLine a a f f refl refl refl refl refl refl
+lines false a f = record { wiring = refl; code = refl; input = refl; budget = refl; looks = refl; flies = refl; carried = refl; rests = refl; sure = tt }
+
+lowers : (b : Bool) (a : Ask) → a.in_flight ≡ true → Fed LookLineStore a (lowered_on b a) (end_told b a.error)
+lowers true a f = record { wiring = refl; code = refl; input = refl; budget = refl; looks = refl; flies = refl; carried = refl; rests = refl; sure = tt }
+lowers false a f = drain LookLineStore a a f f refl refl refl refl refl refl
+
+pub fed : (st : AskStage) (a : Ask) (v : ℕ) → is_rest st ≡ false → Flies st a.in_flight → Fed st a (ask_fed_at st a v) (ask_told_at st a v)
+fed AskRest a v e f = absurd (cc e)
+fed (PostBlock j) a v e f = stored (has_more j a.wiring) j a
+fed PostHeader a v e f = record { wiring = refl; code = refl; input = refl; budget = refl; looks = refl; flies = refl; carried = refl; rests = refl; sure = tt }
+fed PostUpdateLoad a v e f = record { wiring = refl; code = refl; input = refl; budget = refl; looks = refl; flies = refl; carried = refl; rests = refl; sure = tt }
+fed PostUpdateStore a v e f = record { wiring = refl; code = refl; input = refl; budget = refl; looks = refl; flies = refl; carried = carried_update (style_of a.wiring) a.in_flight; rests = goes_update (style_of a.wiring); sure = tt }
+fed PostMarkLoad a v e f = record { wiring = refl; code = refl; input = refl; budget = refl; looks = refl; flies = refl; carried = refl; rests = refl; sure = tt }
+fed PostMarkStore a v e f = record { wiring = refl; code = refl; input = refl; budget = refl; looks = refl; flies = refl; carried = carried_mark (style_of a.wiring) a.in_flight; rests = goes_mark (style_of a.wiring); sure = tt }
+fed PostBellLoad a v e f = record { wiring = refl; code = refl; input = refl; budget = refl; looks = refl; flies = refl; carried = refl; rests = refl; sure = tt }
+fed PostBellStore a v e f = record { wiring = refl; code = refl; input = refl; budget = refl; looks = refl; flies = refl; carried = carried_bell (style_of a.wiring) a.in_flight; rests = goes_bell (style_of a.wiring); sure = tt }
+fed PostLine a v e f = record { wiring = refl; code = refl; input = refl; budget = refl; looks = refl; flies = refl; carried = refl; rests = refl; sure = (refl, f) }
+fed LookWord a v e f = looked (sees_done a.wiring v) a v f
+fed LookError a v e f = record { wiring = refl; code = refl; input = refl; budget = refl; looks = refl; flies = refl; carried = refl; rests = refl; sure = tt }
+fed (LookBlock j) a v e f = reads (has_more j a.wiring) j a v f
+fed LookLine a v e f = lines (eqb v 0) a f
+fed LookLineStore a v e f = lowers (acknowledges a.wiring) a f
+fed LookAckLoad a v e f = record { wiring = refl; code = refl; input = refl; budget = refl; looks = refl; flies = refl; carried = refl; rests = refl; sure = tt }
+fed LookAckStore a v e f = drain LookAckStore a a f f refl refl refl refl refl refl
+
+-- ---- each step is within the words
+
+update_low : (s : Style) → update_place s < 8
+update_low Headed = omega arith
+update_low Joined3 = omega arith
+update_low Separate3 = omega arith
+update_low Joined4 = omega arith
+update_low Separate4 = omega arith
+update_low Reduced5 = omega arith
+
+low : (p n : ℕ) → p < 8 → p < 8 + n
+low p n h = omega (arith, h)
+
+far : (j n : ℕ) → j < n → 8 + j < 8 + n
+far j n h = omega (arith, h)
+
+pub ask_within : (st : AskStage) (a : Ask) → AskPlace st a.wiring → IsWithin (ask_next_at st a) (8 + block_of a.wiring)
+ask_within AskRest a p = tt
+ask_within (PostBlock j) a p = far j (block_of a.wiring) p
+ask_within PostHeader a p = low 0 (block_of a.wiring) (omega arith)
+ask_within PostUpdateLoad a p = low (update_place (style_of a.wiring)) (block_of a.wiring) (update_low (style_of a.wiring))
+ask_within PostUpdateStore a p = low (update_place (style_of a.wiring)) (block_of a.wiring) (update_low (style_of a.wiring))
+ask_within PostMarkLoad a p = low 0 (block_of a.wiring) (omega arith)
+ask_within PostMarkStore a p = low 0 (block_of a.wiring) (omega arith)
+ask_within PostBellLoad a p = low 1 (block_of a.wiring) (omega arith)
+ask_within PostBellStore a p = low 1 (block_of a.wiring) (omega arith)
+ask_within PostLine a p = low 2 (block_of a.wiring) (omega arith)
+ask_within LookWord a p = low 0 (block_of a.wiring) (omega arith)
+ask_within LookError a p = low 3 (block_of a.wiring) (omega arith)
+ask_within (LookBlock j) a p = far j (block_of a.wiring) p
+ask_within LookLine a p = low 4 (block_of a.wiring) (omega arith)
+ask_within LookLineStore a p = low 4 (block_of a.wiring) (omega arith)
+ask_within LookAckLoad a p = low 5 (block_of a.wiring) (omega arith)
+ask_within LookAckStore a p = low 5 (block_of a.wiring) (omega arith)
+
+pub stepped : (st : AskStage) (a b : Ask) (told : Option AskOutcome) (n : ℕ) → Fed st a b told → Fed st a (record b { steps = n }) told
+stepped st a b told n f = record { wiring = f.wiring; code = f.code; input = f.input; budget = f.budget; looks = f.looks; flies = f.flies; carried = f.carried; rests = f.rests; sure = f.sure }
