@@ -8,10 +8,9 @@ use Rattle.pcc_steps.specs.declared.ask.AskStage.{AskStage}
 use Rattle.pcc_steps.specs.declared.ask.AskStage.TheVariants.{AskRest, PostBlock, PostHeader, PostUpdateLoad, PostUpdateStore, PostMarkLoad, PostMarkStore, PostBellLoad, PostBellStore, PostLine, LookWord, LookError, LookBlock, LookLine, LookLineStore, LookAckLoad, LookAckStore}
 use Rattle.pcc_steps.specs.declared.ask.AskOutcome.{AskOutcome}
 use Rattle.pcc_steps.specs.declared.ask.AskOutcome.TheVariants.{Posted, Clear, Drained}
-use Rattle.pcc_steps.specs.Wires.{style_of, block_of, sees_done, tells_error, acknowledges, update_place}
-use Rattle.pcc_steps.specs.Asking.{Ask, AskOk, AskPlace, Flies, has_more, ask_next_at, ask_fed_at, ask_told_at, after_block, after_update, after_mark, after_bell, after_look, store_on, look_on, read_on, block_on, line_on, lowered_on, drained, look_told, read_told, end_told, line_told}
+use Rattle.pcc_steps.specs.Wires.{style_of, sees_done, tells_error, acknowledges}
+use Rattle.pcc_steps.specs.Asking.{Ask, AskOk, Flies, has_more, ask_fed_at, ask_told_at, after_block, after_update, after_mark, after_bell, after_look, store_on, look_on, read_on, block_on, line_on, lowered_on, drained, look_told, read_told, end_told, line_told}
 use Rattle.channel_plain.specs.Standing.{carried_at, carried, is_rest}
-use Rattle.channel_plain.specs.Steps.{IsWithin}
 
 pub rest_is : (st : AskStage) → is_rest st ≡ true → st ≡ AskRest
 rest_is AskRest e = refl
@@ -212,41 +211,6 @@ fed LookLine a v e f = lines (eqb v 0) a f
 fed LookLineStore a v e f = lowers (acknowledges a.wiring) a f
 fed LookAckLoad a v e f = record { wiring = refl; code = refl; input = refl; budget = refl; looks = refl; flies = refl; carried = refl; rests = refl; sure = tt }
 fed LookAckStore a v e f = drain LookAckStore a a f f refl refl refl refl refl refl
-
--- ---- each step is within the words
-
-update_low : (s : Style) → update_place s < 8
-update_low Headed = omega arith
-update_low Joined3 = omega arith
-update_low Separate3 = omega arith
-update_low Joined4 = omega arith
-update_low Separate4 = omega arith
-update_low Reduced5 = omega arith
-
-low : (p n : ℕ) → p < 8 → p < 8 + n
-low p n h = omega (arith, h)
-
-far : (j n : ℕ) → j < n → 8 + j < 8 + n
-far j n h = omega (arith, h)
-
-pub ask_within : (st : AskStage) (a : Ask) → AskPlace st a.wiring → IsWithin (ask_next_at st a) (8 + block_of a.wiring)
-ask_within AskRest a p = tt
-ask_within (PostBlock j) a p = far j (block_of a.wiring) p
-ask_within PostHeader a p = low 0 (block_of a.wiring) (omega arith)
-ask_within PostUpdateLoad a p = low (update_place (style_of a.wiring)) (block_of a.wiring) (update_low (style_of a.wiring))
-ask_within PostUpdateStore a p = low (update_place (style_of a.wiring)) (block_of a.wiring) (update_low (style_of a.wiring))
-ask_within PostMarkLoad a p = low 0 (block_of a.wiring) (omega arith)
-ask_within PostMarkStore a p = low 0 (block_of a.wiring) (omega arith)
-ask_within PostBellLoad a p = low 1 (block_of a.wiring) (omega arith)
-ask_within PostBellStore a p = low 1 (block_of a.wiring) (omega arith)
-ask_within PostLine a p = low 2 (block_of a.wiring) (omega arith)
-ask_within LookWord a p = low 0 (block_of a.wiring) (omega arith)
-ask_within LookError a p = low 3 (block_of a.wiring) (omega arith)
-ask_within (LookBlock j) a p = far j (block_of a.wiring) p
-ask_within LookLine a p = low 4 (block_of a.wiring) (omega arith)
-ask_within LookLineStore a p = low 4 (block_of a.wiring) (omega arith)
-ask_within LookAckLoad a p = low 5 (block_of a.wiring) (omega arith)
-ask_within LookAckStore a p = low 5 (block_of a.wiring) (omega arith)
 
 pub stepped : (st : AskStage) (a b : Ask) (told : Option AskOutcome) (n : ℕ) → Fed st a b told → Fed st a (record b { steps = n }) told
 stepped st a b told n f = record { wiring = f.wiring; code = f.code; input = f.input; budget = f.budget; looks = f.looks; flies = f.flies; carried = f.carried; rests = f.rests; sure = f.sure }

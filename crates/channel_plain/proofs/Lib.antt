@@ -1,2 +1,3 @@
 pub mod Feeds
+pub mod Keeps
 pub mod Written

@@ -3,8 +3,7 @@ use Rattle.std.specs.Prelude.{◌≡◌, ◌<◌, ◌≤◌, ◌+◌, ℕ, Bool,
 use Rattle.std.specs.List.{slice_get}
 use Rattle.pcc_history.specs.Devices.{Device}
 use Rattle.pcc_history.specs.Channel.{both}
-use Rattle.rate_limit.specs.RateLimits.{WithinLimits}
-use Rattle.pcc_journal.specs.Records.{exchanges_of, exchanges_of_commands, times_of}
+use Rattle.pcc_journal.specs.Records.{exchanges_of, exchanges_of_commands}
 use Rattle.pcc_steps.specs.declared.ask.AskStage.{AskStage}
 use Rattle.pcc_steps.specs.declared.ask.AskStage.TheVariants.{AskRest, PostBlock, PostHeader, PostUpdateLoad, PostUpdateStore, PostMarkLoad, PostMarkStore, PostBellLoad, PostBellStore, PostLine, LookWord, LookError, LookBlock, LookLine, LookLineStore, LookAckLoad, LookAckStore}
 use Rattle.pcc_steps.specs.declared.wiring.Wiring.{Wiring}
@@ -14,7 +13,6 @@ use Rattle.pcc_steps.specs.Agree.{Asker, Answerer, Agree, flying}
 use Rattle.channel_plain.specs.declared.sent.Sent.{Sent}
 use Rattle.channel_plain.specs.declared.trace.Asked.{Asked}
 use Rattle.channel_plain.specs.Picks.{CallBook, PlainState}
-use Rattle.channel_plain.specs.Holding.{post_of}
 
 -- both ends with their histories: what was drained is in the records, what was executed is in the commands
 abbrev pub asker_of : PlainState → ℕ → Asker
@@ -117,7 +115,8 @@ module _ (exec : Device) (is_state : List ℕ → Type 0) (room_of : List ℕ �
     -- a run of the asking side belongs to a call that is begun
     pub runs : is_rest s.ask.stage ≡ false → s.calls.begun ≡ true
     pub looks : s.calls.begun ≡ true → LooksBegun (both (is_rest s.ask.stage) s.ask.in_flight) s.ask.looks s.ask.budget
-    pub limits : WithinLimits s.calls.limits (times_of s.calls.records) (post_of s.calls.sent)
+    -- a command that is being posted is that of the call
+    pub own : carried s.ask ≡ true → s.ask.in_flight ≡ false → owns s.calls.sent ≡ true
 
   abbrev pub Holds : PlainState → Bool → ℕ → Type 0
   Holds s ready room = Stands s × IsReady s ready room

@@ -1,24 +1,14 @@
 -- What one word step needs, and what the device's turn leaves.
 use Rattle.std.specs.Prelude.{◌≡◌, ◌<◌, ◌^◌, ◌++◌, ℕ, Bool, true, false, List, [], ◌∷◌, length, map, Option}
 use Rattle.pcc_journal.specs.declared.command.Command.{Command}
-use Rattle.pcc_steps.specs.declared.wiring.Action.{Action}
-use Rattle.pcc_steps.specs.declared.wiring.Action.TheVariants.{Load, Store, Swap, Execute, Rest}
 use Rattle.pcc_steps.specs.declared.answer.AnswerStage.{AnswerStage}
 use Rattle.pcc_steps.specs.declared.answer.AnswerStage.TheVariants.{AnswerRest, RunDevice}
 use Rattle.pcc_steps.specs.Asking.{Ask, ask_budgeted}
 use Rattle.pcc_steps.specs.Answering.{Answer}
 use Rattle.pcc_steps.specs.Agree.{Answerer}
-use Rattle.channel_plain.specs.declared.ends.Pick.{Pick}
+use Rattle.channel_plain.specs.declared.pick.Pick.{Pick}
 use Rattle.channel_plain.specs.Picks.{CallBook, PlainState, Picked, call_begun, command_of}
 use Rattle.channel_plain.specs.Holding.{Executions, Takes}
-
--- the place is one of the words
-abbrev pub IsWithin : Action → ℕ → Type 0
-IsWithin (Load place) n = place < n
-IsWithin (Store place word) n = place < n
-IsWithin (Swap place word) n = place < n
-IsWithin (Execute code) n = Unit {0}
-IsWithin Rest n = Unit {0}
 
 -- the memory for an executed command is there, where one is to be executed
 abbrev pub SettlesIf : AnswerStage → Bool → Type 0

@@ -2,10 +2,9 @@
 #![tactic(auto)]
 
 mod book;
-mod ends;
 mod memory;
 mod opening;
-mod plain;
+mod pick;
 mod register;
 mod sent;
 mod step;
@@ -13,11 +12,7 @@ mod text;
 mod trace;
 mod worked;
 
-pub use plain::{Plain, weave};
 pub use sent::{Flight, Sent};
 pub use text::trace_lines;
 pub use trace::{Asked, Side, Trace, TraceEnd, TraceLine};
 pub use worked::worked_picks;
-
-#[cfg(test)]
-mod tests;

@@ -2,8 +2,9 @@
 
 ghost use Rattle.std.specs.Prelude.{◌≡◌, [], length};
 ghost use Rattle.pcc_steps.specs.Agree.{act, settle};
+ghost use Rattle.pcc_steps.specs.Asking.{IsWithin};
 ghost use Rattle.channel_plain.specs.Picks.{found, started_at};
-ghost use Rattle.channel_plain.specs.Steps.{IsSettled, IsWithin, SettlesIf};
+ghost use Rattle.channel_plain.specs.Steps.{IsSettled, SettlesIf};
 
 use crate::register::Register;
 use pcc_exec::Executor;
@@ -11,7 +12,7 @@ use pcc_steps::{Action, AnswerState, answer_next, answer_ran, answer_space, answ
 
 /// Makes a word step. Answers the value that was loaded or found, and 0 where there is none.
 pub(crate) fn perform(words: &mut [u64], action: Action) -> u64
-    requires { IsWithin action (length words.old) }
+    requires { IsWithin (length words.old) action }
     ensures words { words.new ≡ act action words.old }
     ensures value { result ≡ found action words.old }
 {
