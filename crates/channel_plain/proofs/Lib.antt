@@ -1,3 +1,5 @@
 pub mod Feeds
 pub mod Keeps
+pub mod AnswerHolds
+pub mod Posts
 pub mod Written

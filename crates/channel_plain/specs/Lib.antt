@@ -5,3 +5,4 @@ pub mod WorkedPicks
 pub mod Holding
 pub mod Standing
 pub mod Steps
+pub mod News

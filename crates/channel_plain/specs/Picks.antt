@@ -88,6 +88,11 @@ abbrev pub command_in : Option Sent → Option Pending
 command_in None = None
 command_in (Some c) = Some c.command
 
+-- the command in flight, if one is
+abbrev pub pending_by : Bool → Option Sent → Option Pending
+pending_by true sent = command_in sent
+pending_by false sent = None
+
 abbrev pub given_up : Option Sent → Option Sent
 given_up None = None
 given_up (Some c) = Some (record c { late = true })

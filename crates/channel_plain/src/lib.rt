@@ -2,6 +2,7 @@
 #![tactic(auto)]
 
 mod book;
+mod ends;
 mod memory;
 mod opening;
 mod pick;

@@ -1,6 +1,7 @@
 //! One word step on a list of words, and the device's turn.
 
 ghost use Rattle.std.specs.Prelude.{◌≡◌, [], length};
+ghost use Rattle.pcc_bytes.specs.Bytes.{IsBytes};
 ghost use Rattle.pcc_steps.specs.Agree.{act, settle};
 ghost use Rattle.pcc_steps.specs.Asking.{IsWithin};
 ghost use Rattle.channel_plain.specs.Picks.{found, started_at};
@@ -31,6 +32,13 @@ pub(crate) fn perform(words: &mut [u64], action: Action) -> u64
     }
 }
 
+/// A slice of bytes has bytes. It does nothing.
+pub(crate) fn fit(bytes: &[u8])
+    ensures { IsBytes bytes.now }
+{
+    let _ = bytes;
+}
+
 /// Begins an answering run where none is under way.
 pub(crate) fn start(answer: &mut AnswerState)
     ensures { answer.new ≡ started_at answer.old.stage answer.old }
@@ -43,8 +51,8 @@ pub(crate) fn start(answer: &mut AnswerState)
 /// Has the device execute the command that the answering machine has loaded, if it has.
 pub(crate) fn settle<E: Executor>(answer: &mut AnswerState, device: &mut E, register: &mut Register, reports: bool)
     requires ready { SettlesIf answer.old.stage register.old.ready }
-    requires long { register.old.room ≡ length answer.old.space }
-    requires room { E.room_of (E.state device.old) ≡ length answer.old.space }
+    requires long { register.old.room ≡ answer.old.wiring.room }
+    requires room { E.room_of (E.state device.old) ≡ answer.old.wiring.room }
     requires reports { reports ≡ answer.old.wiring.reports }
     ensures { IsSettled (settle E.exec_of (record { m = answer.old; device = E.state device.old; done = [] })) answer.old.stage register.old answer.new (E.state device.new) register.new }
 {
