@@ -1,6 +1,7 @@
 //! Both ends of a channel on a plain list of words: each pick of an end is one word step.
 
-ghost use Rattle.std.specs.Prelude.{◌≡◌, ◌≢◌, ◌≤◌, ◌<◌, ◌-◌, ◌^◌, ℕ, [], true, false, None, List, length, replicate, IfOk, OnErr};
+ghost use Rattle.std.specs.Prelude.{◌≡◌, ◌≢◌, ◌≤◌, ◌<◌, ◌-◌, ◌^◌, ℕ, [], true, false, None, List, length, replicate, IfOk, IsSome, OnErr};
+ghost use Rattle.std.specs.List.{slice_get};
 ghost use Rattle.std.specs.Option.{option_copied};
 ghost use Rattle.rate_limit.specs.RateLimits.{WithinLimits};
 ghost use Rattle.pcc_journal.specs.Records.{times_of};
@@ -9,7 +10,7 @@ ghost use Rattle.pcc_steps.specs.declared.wiring.Wiring.{Wiring};
 ghost use Rattle.pcc_steps.specs.Wires.{IsRight, style_of};
 ghost use Rattle.pcc_steps.specs.Asking.{CodeFits};
 ghost use Rattle.channel_plain.specs.declared.trace.Asked.{Asked};
-ghost use Rattle.channel_plain.specs.Picks.{answer_end, answer_picked, ask_picked_at, ask_stepped, begins, pending_by, served};
+ghost use Rattle.channel_plain.specs.Picks.{answer_end, answer_picked, ask_picked_at, ask_stepped, begins, from_rest, pending_by, served};
 ghost use Rattle.channel_plain.specs.Holding.{post_of};
 ghost use Rattle.channel_plain.specs.Standing.{HavePolls, IsServing, Stands, is_rest};
 ghost use Rattle.channel_plain.specs.Steps.{IsPick, Reads, begun_with, budget_by, looking};
@@ -20,7 +21,7 @@ use crate::memory::zeros;
 use crate::opening::opening_words;
 use crate::pick::Pick;
 use crate::register::Register;
-use crate::step::{fit, perform, settle, start};
+use crate::step::{fit, fit_code, perform, settle, start};
 use crate::trace::{Asked, TraceEnd};
 use pcc_exec::Executor;
 use pcc_io::{Clock, NoMemory};
@@ -154,10 +155,25 @@ impl<E: Executor> Ends<E> {
         ensures ok { IfOk result (λ pick. Reads K.taken K.tells clock.old clock.new (λ r. ask_picked_at self.old.ask.stage calls.now r self.old) self.new pick) }
         ensures err { OnErr result ((self.new ≡ self.old) × (clock.new ≡ clock.old)) }
     {
-        if ask_next(&self.ask) != Action::Rest {
+        if !rests(&self.ask) {
             return Ok(self.step(clock));
         }
-        let Some(call) = calls.get(self.book.ended()) else {
+        self.from_rest(calls, clock)
+    }
+
+    // No run is under way.
+    fn from_rest<K: Clock>(
+        &mut self,
+        calls: &[Asked],
+        clock: &mut K,
+    ) -> Result<Pick, NoMemory>
+        requires rests { self.old.ask.stage ≡ AskRest }
+        requires polls { HavePolls calls.now }
+        requires serving { IsServing calls.now self.old }
+        ensures ok { IfOk result (λ pick. Reads K.taken K.tells clock.old clock.new (λ r. from_rest self.old.calls.begun (slice_get calls.now self.old.calls.ended) r self.old) self.new pick) }
+        ensures err { OnErr result ((self.new ≡ self.old) × (clock.new ≡ clock.old)) }
+    {
+        let Some(call) = call_at(calls, self.book.ended()) else {
             return Ok(Pick::rest(TraceEnd::Open));
         };
         if self.book.begun() {
@@ -165,10 +181,14 @@ impl<E: Executor> Ends<E> {
         }
         match self.book.refusal(call, self.ask.wiring(), self.ask.in_flight()) {
             Some(end) => {
+                asking_laws();
                 self.book.end_call();
                 Ok(Pick::rest(end))
             }
-            None => self.begin(call, clock),
+            None => {
+                fit_code(call);
+                self.begin(call, clock)
+            }
         }
     }
 
@@ -266,6 +286,21 @@ impl<E: Executor> Ends<E> {
         let end = self.book.told(told, &self.ask, clock);
         Pick { action, value, end }
     }
+}
+
+// No run of the asking machine is under way.
+fn rests(ask: &AskState) -> bool
+    ensures yes { result ≡ true → ask.now.stage ≡ AskRest }
+    ensures no { result ≡ false → ask.now.stage ≢ AskRest }
+{
+    ask_next(ask) == Action::Rest
+}
+
+fn call_at(calls: &[Asked], place: usize) -> Option<&Asked>
+    ensures call { option_copied result ≡ slice_get calls.now place }
+    ensures counted { IsSome result → place < 2 ^ 64 - 1 }
+{
+    calls.get(place)
 }
 
 fn set_budget(ask: &mut AskState, begins: bool, polls: u32)

@@ -1,6 +1,6 @@
 //! One word step on a list of words, and the device's turn.
 
-ghost use Rattle.std.specs.Prelude.{◌≡◌, [], length};
+ghost use Rattle.std.specs.Prelude.{◌≡◌, ◌<◌, ◌^◌, [], length};
 ghost use Rattle.pcc_bytes.specs.Bytes.{IsBytes};
 ghost use Rattle.pcc_steps.specs.Agree.{act, settle};
 ghost use Rattle.pcc_steps.specs.Asking.{IsWithin};
@@ -8,6 +8,7 @@ ghost use Rattle.channel_plain.specs.Picks.{found, started_at};
 ghost use Rattle.channel_plain.specs.Steps.{IsSettled, SettlesIf};
 
 use crate::register::Register;
+use crate::trace::Asked;
 use pcc_exec::Executor;
 use pcc_steps::{Action, AnswerState, answer_next, answer_ran, answer_space, answer_start};
 
@@ -37,6 +38,13 @@ pub(crate) fn fit(bytes: &[u8])
     ensures { IsBytes bytes.now }
 {
     let _ = bytes;
+}
+
+/// A code has 32 bits. It does nothing.
+pub(crate) fn fit_code(call: &Asked)
+    ensures { call.now.code < 2 ^ 32 }
+{
+    let _code = call.code;
 }
 
 /// Begins an answering run where none is under way.
