@@ -1,6 +1,7 @@
 -- A pick of the asking side, by the run that is under way and by the call that is served.
 use Rattle.std.proofs.Common.{◌≡◌, ◌≢◌, ℕ, ◌+◌, ◌<◌, ◌≤◌, ◌^◌, Bool, true, false, cond, eqb, ltb, if◌then◌else◌, ◌==◌, List, length, refl, sym, ap, ◌∙◌, subst, arith}
 use Rattle.std.specs.Prelude.{Option, Some, None}
+use Rattle.std.specs.List.{slice_get}
 use Rattle.std.proofs.lemmas.Bool.Decides.{nat_tests}
 use Rattle.pcc_steps.specs.declared.wiring.Wiring.{Wiring}
 use Rattle.pcc_steps.specs.declared.ask.AskStage.{AskStage}
@@ -12,7 +13,8 @@ use Rattle.pcc_steps.specs.Asking.{CodeFits}
 use Rattle.channel_plain.specs.declared.trace.Asked.{Asked}
 use Rattle.channel_plain.specs.declared.trace.TraceEnd.{TraceEnd}
 use Rattle.channel_plain.specs.declared.trace.TraceEnd.TheVariants as end
-use Rattle.channel_plain.specs.Picks.{PlainState, Picked, ask_picked_at, ask_stepped, refusal_of}
+use Rattle.channel_plain.specs.Picks.{PlainState, Picked, ask_picked_at, ask_stepped, is_wide, refusal_of}
+use Rattle.channel_plain.specs.Standing.{IsServing, Serving}
 
 pub running : (st : AskStage) → (st ≡ AskRest → ⊥) → (calls : List Asked) (r : ℕ) (s : PlainState) → ask_picked_at st calls r s ≡ ask_stepped r s
 running AskRest n calls r s = absurd (n refl)
@@ -38,6 +40,16 @@ other false true true code h = h
 other false true false code h = h
 other false false j code h = h
 
+pub code_fits : (w : Wiring) (c : Asked) → c.code < 2 ^ 32 → is_wide w c ≡ false → CodeFits (style_of w) c.code
+code_fits w c small h = headed_or (ltb w.kind 3) (if w.kind == 3 then (if w.joined then Joined3 else Separate3) else if w.kind == 4 then (if w.joined then Joined4 else Separate4) else Reduced5) c.code
+    (other (w.kind == 3) (w.kind == 4) w.joined c.code small) h
+
 pub code_ok : (w : Wiring) (c : Asked) (n f : ℕ) → c.code < 2 ^ 32 → refusal_of w c n f ≡ None → CodeFits (style_of w) c.code
-code_ok w c n f small h = headed_or (ltb w.kind 3) (if w.kind == 3 then (if w.joined then Joined3 else Separate3) else if w.kind == 4 then (if w.joined then Joined4 else Separate4) else Reduced5) c.code
-    (other (w.kind == 3) (w.kind == 4) w.joined c.code small) (none_some (if ltb w.kind 3 then ltb 255 c.code else false) (end.BadCode c.code) _ h).0
+code_ok w c n f small h = code_fits w c small (none_some (is_wide w c) (end.BadCode c.code) _ h).0
+
+same_call : (x y : Asked) → Some x ≡ Some y → x ≡ y
+same_call x y e = cc
+
+-- a call that is begun is the one that is looked up
+pub code_serving : (calls : List Asked) (s : PlainState) (c : Asked) → IsServing calls s → s.calls.begun ≡ true → slice_get calls s.calls.ended ≡ Some c → c.code < 2 ^ 32 → CodeFits (style_of s.ask.wiring) c.code
+code_serving calls s c h begun at small = let v = h begun in code_fits s.ask.wiring c small (subst (λ (x : Asked). is_wide s.ask.wiring x ≡ false) (same_call v.call c (sym v.at ∙ at)) v.code)

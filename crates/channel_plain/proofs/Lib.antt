@@ -4,4 +4,5 @@ pub mod AnswerHolds
 pub mod Posts
 pub mod AskPicks
 pub mod Starts
+pub mod ServeKeeps
 pub mod Written

@@ -176,6 +176,7 @@ impl<E: Executor> Ends<E> {
         let Some(call) = call_at(calls, self.book.ended()) else {
             return Ok(Pick::rest(TraceEnd::Open));
         };
+        fit_code(call);
         if self.book.begun() {
             return self.serve(call, clock);
         }
@@ -185,10 +186,7 @@ impl<E: Executor> Ends<E> {
                 self.book.end_call();
                 Ok(Pick::rest(end))
             }
-            None => {
-                fit_code(call);
-                self.begin(call, clock)
-            }
+            None => self.begin(call, clock),
         }
     }
 
