@@ -5,4 +5,5 @@ pub mod Posts
 pub mod AskPicks
 pub mod Starts
 pub mod ServeKeeps
+pub mod Weaves
 pub mod Written

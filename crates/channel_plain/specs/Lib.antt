@@ -6,3 +6,4 @@ pub mod Holding
 pub mod Standing
 pub mod Steps
 pub mod News
+pub mod Weaving
