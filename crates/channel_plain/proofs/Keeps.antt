@@ -1,8 +1,8 @@
 -- What a pick of the asking side keeps.
-use Rattle.std.proofs.Common.{◌≡◌, ◌≢◌, ℕ, ◌+◌, ◌^◌, ◌<◌, ◌≤◌, ◌-◌, Bool, true, false, not, nat_eq, List, [], ◌∷◌, ◌++◌, length, map, refl, sym, ap, ◌∙◌, subst, arith, length-set, length-append, get_or}
+use Rattle.std.proofs.Common.{◌≡◌, ◌≢◌, ℕ, ◌+◌, ◌^◌, ◌<◌, ◌≤◌, ◌-◌, Bool, true, false, not, nat_eq, List, [], ◌∷◌, ◌++◌, length, map, take, drop, refl, sym, ap, ◌∙◌, subst, arith, length-set, length-append, get_or}
 use Rattle.std.specs.Prelude.{Option, Some, None, ltb, max}
 use Rattle.std.specs.List.{slice_get}
-use Rattle.std.proofs.lemmas.List.{map-append}
+use Rattle.std.proofs.lemmas.List.{map-append, append-nil, drop_all, take_all}
 use Rattle.std.proofs.lemmas.Bool.Decides.{nat_tests}
 use Rattle.pcc_bytes.specs.Bytes.{IsBytes}
 use Rattle.pcc_history.specs.Devices.{Device}
@@ -23,7 +23,7 @@ use Rattle.pcc_steps.specs.Agree.{act, Finds, Asker, Answerer, Agree, done_after
 use Rattle.pcc_steps.specs.Laws.{AskStepAgrees, PostBeginAgrees, LookBeginAgrees, BudgetAgrees}
 use Rattle.channel_plain.specs.declared.sent.Sent.{Sent}
 use Rattle.channel_plain.specs.declared.trace.Asked.{Asked}
-use Rattle.channel_plain.specs.Picks.{CallBook, PlainState, found, ask_ended, call_ended, call_begun, call_posted, clear_ended, drain_ended, drained_calls, recorded, is_late, given_up, sent_by}
+use Rattle.channel_plain.specs.Picks.{CallBook, PlainState, Ended, found, ask_ended, call_ended, call_begun, call_posted, clear_ended, drain_ended, drained_calls, recorded, is_late, given_up, sent_by}
 use Rattle.channel_plain.specs.Holding.{FliesIf, FliesWith, post_of}
 use Rattle.channel_plain.specs.Standing.{asker_of, answerer_of, carried, carried_at, is_rest, IsCarried, LooksBegun, Stands, IsReady, Holds, IsServing, Serving, owns}
 use Rattle.channel_plain.specs.Steps.{budget_by}
@@ -271,3 +271,52 @@ module _ (exec : Device) (is_state : List ℕ → Type 0) (room_of : List ℕ �
     },
     record { fits = h.1.fits; taken = λ q n. refl }
   )
+
+-- ---- in the words of the code
+
+flies_fed : (st : AskStage) (a b : Ask) (told : Option AskOutcome) (sent : Option Sent) (n : ℕ) → Fed st a b told → IsCarried (carried_at st a.in_flight) sent a.code a.input → length a.input ≡ n → length b.space ≡ n → FliesIf told sent (length b.space)
+flies_fed st a b None sent n f h i o = tt
+flies_fed st a b (Some Posted) sent n f h i o = tt
+flies_fed st a b (Some Clear) sent n f h i o = tt
+flies_fed st a b (Some (Drained e)) sent n f h i o = has (carried_at st a.in_flight) sent f.sure.0 h
+  where
+    has : (w : Bool) (sent : Option Sent) → w ≡ true → IsCarried w sent a.code a.input → FliesWith sent (length b.space)
+    has true None q h = absurd h
+    has true (Some c) q h = ap (λ (l : List ℕ). length l) h.1 ∙ (i ∙ sym o)
+    has false sent q h = absurd (cc q)
+
+-- a slice of the whole list
+pub whole : (n : ℕ) (t : Action) (new now items : List ℕ) → new ≡ act t now → now ≡ items → n ≡ length items → take n (new ++ drop (length new) items) ≡ act t items
+whole n t new now items e q l = let same : new ≡ act t items = e ∙ ap (act t) q in let long : length new ≡ length items = ap (λ (x : List ℕ). length x) same ∙ long_act t items in
+    ap (λ (k : ℕ). take n (new ++ drop k items)) long ∙ (ap (λ (x : List ℕ). take n (new ++ x)) (drop_all (length items) items (same_least (length items))) ∙ (ap (take n) (append-nil new) ∙ (take_all n new (below_long n (length new) (l ∙ sym long)) ∙ same)))
+  where
+    same_least : (k : ℕ) → k ≤ k
+    same_least k = omega arith
+    below_long : (n k : ℕ) → n ≡ k → k ≤ n
+    below_long n k e = omega (arith, e)
+
+module _ (exec : Device) (is_state : List ℕ → Type 0) (room_of : List ℕ → ℕ) where
+  pub told_flies : AskStepAgrees → (s : PlainState) (ready : Bool) (room : ℕ) (t : Action) (v : ℕ) (b : Ask) (told : Option AskOutcome) → t ≡ ask_next s.ask → v ≡ found t s.words → v < 2 ^ 64 → s.ask.stage ≢ AskRest → b ≡ ask_fed s.ask v → told ≡ ask_told s.ask v
+      → Holds exec is_state room_of s ready room → FliesIf told s.calls.sent (length b.space)
+  told_flies law s ready room t v b told e q small runs fb ft h = let k = h.0 in let a : Ask = s.ask in let st : AskStage = a.stage in let z : Ask = ask_fed_at st a v in
+      let f : Fed st a (ask_fed a v) (ask_told a v) = stepped st a z (ask_told a v) (ask_fed a v).steps (fed st a v (not_rest st runs) k.agree.1.2.ask_ok.flies) in
+      let g = law exec s.start s.words (asker_of s k.clears) (answerer_of s) v k.agree (subst (λ (n : ℕ). Finds (ask_next a) s.words n) (sym (q ∙ ap (λ (t : Action). found t s.words) e)) (finds_found (ask_next a) s.words)) small in
+      let i : length a.input ≡ a.wiring.room = k.agree.1.2.ask_ok.sized.input in
+      let o : length (ask_fed a v).space ≡ a.wiring.room = g.1.2.ask_ok.sized.space ∙ ap (λ (w : Wiring). w.room) f.wiring in
+      subst (λ (p : Option AskOutcome × Ask). FliesIf p.0 s.calls.sent (length p.1.space)) (λ i. (sym ft i, sym fb i)) (flies_fed st a (ask_fed a v) (ask_told a v) s.calls.sent a.wiring.room f k.carries i o)
+
+  pub told_holds : AskStepAgrees → (s : PlainState) (ready : Bool) (room r : ℕ) (t : Action) (v : ℕ) (b : Ask) (told : Option AskOutcome) (ws : List ℕ) (d : Ended) → t ≡ ask_next s.ask → v ≡ found t s.words → v < 2 ^ 64 → s.ask.stage ≢ AskRest → b ≡ ask_fed s.ask v → told ≡ ask_told s.ask v
+      → ws ≡ act t s.words → d ≡ ask_ended told r b s.calls → Holds exec is_state room_of s ready room → Holds exec is_state room_of (record s { words = ws; ask = b; calls = d.calls }) ready room
+  told_holds law s ready room r t v b told ws d e q small runs fb ft w c h =
+      let l : (record s { words = ws; ask = b; calls = d.calls }) ≡ stepped_with v r s = ap (λ (p : List ℕ × Ask × CallBook). record s { words = p.0; ask = p.1; calls = p.2 }) (λ i. ((w ∙ ap (λ (t : Action). act t s.words) e) i, fb i, (ap (λ (d : Ended). d.calls) c ∙ ap (λ (p : Option AskOutcome × Ask). (ask_ended p.0 r p.1 s.calls).calls) (λ i. (ft i, fb i))) i)) in
+      subst (λ (s' : PlainState). Holds exec is_state room_of s' ready room) (sym l) (step_holds exec is_state room_of law r v s ready room (q ∙ ap (λ (t : Action). found t s.words) e) small runs h)
+
+  -- the memory for one more command is taken
+  pub ready_more : (s : PlainState) (ready : Bool) (room : ℕ) → Holds exec is_state room_of s ready room → Holds exec is_state room_of s true room
+  ready_more s ready room h = (h.0, record { fits = h.1.fits; taken = λ q n. refl })
+
+  -- a post begins, whether the call begins with it or was begun before
+  pub posted_holds : BudgetAgrees → PostBeginAgrees → (begins : Bool) (polls : ℕ) (s : PlainState) (ready : Bool) (room : ℕ) (c : Asked) (r : ℕ) → s.ask.stage ≡ AskRest → s.ask.in_flight ≡ false → length c.bytes ≤ s.ask.wiring.room → s.ask.posts < 4096 → CodeFits (style_of s.ask.wiring) c.code → IsBytes c.bytes → 0 < (budget_by begins polls s.ask).budget
+      → Holds exec is_state room_of s ready room → Holds exec is_state room_of (record s { ask = ask_begun (budget_by begins polls s.ask) c.code c.bytes; calls = call_posted c s.ask.space r (call_begun s.calls) }) true room
+  posted_holds law law' true polls s ready room c r rest free fits posts code bytes least h = post_holds exec is_state room_of law' (record s { ask = ask_budgeted s.ask polls }) ready room c r rest free fits posts code bytes least (rest_holds exec is_state room_of law s ready room true polls s.calls rest refl refl (λ e. (refl, least)) h)
+  posted_holds law law' false polls s ready room c r rest free fits posts code bytes least h = post_holds exec is_state room_of law' s ready room c r rest free fits posts code bytes least h

@@ -5,3 +5,5 @@ pub mod WorkedPicks
 pub mod Holding
 pub mod Standing
 pub mod Steps
+pub mod News
+pub mod Weaving

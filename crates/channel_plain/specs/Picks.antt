@@ -88,6 +88,11 @@ abbrev pub command_in : Option Sent → Option Pending
 command_in None = None
 command_in (Some c) = Some c.command
 
+-- the command in flight, if one is
+abbrev pub pending_by : Bool → Option Sent → Option Pending
+pending_by true sent = command_in sent
+pending_by false sent = None
+
 abbrev pub given_up : Option Sent → Option Sent
 given_up None = None
 given_up (Some c) = Some (record c { late = true })
@@ -137,10 +142,14 @@ call_posted c space reading b = record b { sent = Some (sent_by c space reading)
 abbrev pub earliest_call : CallBook → ℕ
 earliest_call b = earliest_of b.limits (times_of b.records)
 
--- what refuses a call before it is begun: the header of types 0 to 2 has one byte for the code
+-- the header of types 0 to 2 has one byte for the code
+abbrev pub is_wide : Wiring → Asked → Bool
+is_wide w c = if ltb w.kind 3 then ltb 255 c.code else false
+
+-- what refuses a call before it is begun
 abbrev pub refusal_of : Wiring → Asked → ℕ → ℕ → Option TraceEnd
 refusal_of w c records flights =
-    if (if ltb w.kind 3 then ltb 255 c.code else false) then Some (end.BadCode c.code)
+    if is_wide w c then Some (end.BadCode c.code)
     else if ltb w.room (length c.bytes) then Some (end.TooLong (length c.bytes) w.room)
     else if records + flights == 4096 then Some end.JournalFull
     else None

@@ -7,12 +7,12 @@ use Rattle.pcc_journal.specs.Records.{exchanges_of, exchanges_of_commands}
 use Rattle.pcc_steps.specs.declared.ask.AskStage.{AskStage}
 use Rattle.pcc_steps.specs.declared.ask.AskStage.TheVariants.{AskRest, PostBlock, PostHeader, PostUpdateLoad, PostUpdateStore, PostMarkLoad, PostMarkStore, PostBellLoad, PostBellStore, PostLine, LookWord, LookError, LookBlock, LookLine, LookLineStore, LookAckLoad, LookAckStore}
 use Rattle.pcc_steps.specs.declared.wiring.Wiring.{Wiring}
-use Rattle.pcc_steps.specs.Asking.{Ask, CodeFits}
-use Rattle.pcc_steps.specs.Wires.{style_of, block_of}
+use Rattle.pcc_steps.specs.Asking.{Ask}
+use Rattle.pcc_steps.specs.Wires.{block_of}
 use Rattle.pcc_steps.specs.Agree.{Asker, Answerer, Agree, flying}
 use Rattle.channel_plain.specs.declared.sent.Sent.{Sent}
 use Rattle.channel_plain.specs.declared.trace.Asked.{Asked}
-use Rattle.channel_plain.specs.Picks.{CallBook, PlainState}
+use Rattle.channel_plain.specs.Picks.{CallBook, PlainState, is_wide}
 
 -- both ends with their histories: what was drained is in the records, what was executed is in the commands
 abbrev pub asker_of : PlainState → ℕ → Asker
@@ -84,7 +84,7 @@ owns (Some c) = not c.late
 pub record Serving (calls : List Asked) (w : Wiring) (budget records flights : ℕ) (b : CallBook) : Type 0 where
   pub call : Asked
   pub at : slice_get calls b.ended ≡ Some call
-  pub code : CodeFits (style_of w) call.code
+  pub code : is_wide w call ≡ false
   pub fits : length call.bytes ≤ w.room
   pub polls : budget ≡ call.polls
   -- as long as its command isn't posted, there is room for one more

@@ -3,7 +3,7 @@ use Rattle.std.specs.Prelude.{◌≡◌, ◌<◌, ◌^◌, ◌++◌, ℕ, Bool, 
 use Rattle.pcc_journal.specs.declared.command.Command.{Command}
 use Rattle.pcc_steps.specs.declared.answer.AnswerStage.{AnswerStage}
 use Rattle.pcc_steps.specs.declared.answer.AnswerStage.TheVariants.{AnswerRest, RunDevice}
-use Rattle.pcc_steps.specs.Asking.{Ask, ask_budgeted}
+use Rattle.pcc_steps.specs.Asking.{Ask, ask_budgeted, ask_looking}
 use Rattle.pcc_steps.specs.Answering.{Answer}
 use Rattle.pcc_steps.specs.Agree.{Answerer}
 use Rattle.channel_plain.specs.declared.pick.Pick.{Pick}
@@ -45,3 +45,6 @@ begun_by false b = b
 
 abbrev pub begun_with : Bool → ℕ → PlainState → PlainState
 begun_with begins polls s = record s { ask = budget_by begins polls s.ask; calls = begun_by begins s.calls }
+
+abbrev pub looking : PlainState → PlainState
+looking s = record s { ask = ask_looking s.ask }

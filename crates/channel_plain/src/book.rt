@@ -2,10 +2,12 @@
 
 ghost use Rattle.std.specs.Prelude.{◌≡◌, ◌≤◌, ◌<◌, ◌-◌, ◌^◌, ◌++◌, ℕ, [], true, false, None, length, IfOk, OnErr};
 ghost use Rattle.std.specs.Option.{option_copied};
+ghost use Rattle.rate_limit.specs.RateLimits.{WithinLimits};
+ghost use Rattle.pcc_journal.specs.Records.{times_of};
 ghost use Rattle.pcc_history.specs.Channel.{over};
 ghost use Rattle.pcc_steps.specs.Agree.{flying};
 ghost use Rattle.channel_plain.specs.Picks.{ask_ended, call_begun, call_ended, clear_ended, command_in, drain_ended, earliest_call, refusal_of, takes_reading};
-ghost use Rattle.channel_plain.specs.Holding.{FliesIf, FliesWith, Takes, tried};
+ghost use Rattle.channel_plain.specs.Holding.{FliesIf, FliesWith, Takes, post_of, tried};
 
 use crate::memory::zeros;
 use crate::sent::{Flight, Sent};
@@ -61,6 +63,13 @@ impl Book {
         ensures { result.now.items ≡ self.now.records }
     {
         &self.journal
+    }
+
+    /// The posts keep the limits, that of a command that is posted or in flight included. It does nothing.
+    pub fn keep(&self)
+        ensures { WithinLimits self.now.limits (times_of self.now.records) (post_of self.now.sent) }
+    {
+        let _ = &self.begun;
     }
 
     /// The command that is posted or in flight.

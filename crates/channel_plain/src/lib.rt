@@ -2,9 +2,11 @@
 #![tactic(auto)]
 
 mod book;
+mod ends;
 mod memory;
 mod opening;
 mod pick;
+mod plain;
 mod register;
 mod sent;
 mod step;
@@ -12,7 +14,11 @@ mod text;
 mod trace;
 mod worked;
 
+pub use plain::{Plain, weave};
 pub use sent::{Flight, Sent};
 pub use text::trace_lines;
 pub use trace::{Asked, Side, Trace, TraceEnd, TraceLine};
 pub use worked::worked_picks;
+
+#[cfg(test)]
+mod tests;

@@ -1,12 +1,14 @@
 //! One word step on a list of words, and the device's turn.
 
-ghost use Rattle.std.specs.Prelude.{◌≡◌, [], length};
+ghost use Rattle.std.specs.Prelude.{◌≡◌, ◌<◌, ◌^◌, [], length};
+ghost use Rattle.pcc_bytes.specs.Bytes.{IsBytes};
 ghost use Rattle.pcc_steps.specs.Agree.{act, settle};
 ghost use Rattle.pcc_steps.specs.Asking.{IsWithin};
 ghost use Rattle.channel_plain.specs.Picks.{found, started_at};
 ghost use Rattle.channel_plain.specs.Steps.{IsSettled, SettlesIf};
 
 use crate::register::Register;
+use crate::trace::Asked;
 use pcc_exec::Executor;
 use pcc_steps::{Action, AnswerState, answer_next, answer_ran, answer_space, answer_start};
 
@@ -31,6 +33,20 @@ pub(crate) fn perform(words: &mut [u64], action: Action) -> u64
     }
 }
 
+/// A slice of bytes has bytes. It does nothing.
+pub(crate) fn fit(bytes: &[u8])
+    ensures { IsBytes bytes.now }
+{
+    let _ = bytes;
+}
+
+/// A code has 32 bits. It does nothing.
+pub(crate) fn fit_code(call: &Asked)
+    ensures { call.now.code < 2 ^ 32 }
+{
+    let _code = call.code;
+}
+
 /// Begins an answering run where none is under way.
 pub(crate) fn start(answer: &mut AnswerState)
     ensures { answer.new ≡ started_at answer.old.stage answer.old }
@@ -43,8 +59,8 @@ pub(crate) fn start(answer: &mut AnswerState)
 /// Has the device execute the command that the answering machine has loaded, if it has.
 pub(crate) fn settle<E: Executor>(answer: &mut AnswerState, device: &mut E, register: &mut Register, reports: bool)
     requires ready { SettlesIf answer.old.stage register.old.ready }
-    requires long { register.old.room ≡ length answer.old.space }
-    requires room { E.room_of (E.state device.old) ≡ length answer.old.space }
+    requires long { register.old.room ≡ answer.old.wiring.room }
+    requires room { E.room_of (E.state device.old) ≡ answer.old.wiring.room }
     requires reports { reports ≡ answer.old.wiring.reports }
     ensures { IsSettled (settle E.exec_of (record { m = answer.old; device = E.state device.old; done = [] })) answer.old.stage register.old answer.new (E.state device.new) register.new }
 {

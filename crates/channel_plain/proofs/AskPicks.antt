@@ -1,0 +1,55 @@
+-- A pick of the asking side, by the run that is under way and by the call that is served.
+use Rattle.std.proofs.Common.{◌≡◌, ◌≢◌, ℕ, ◌+◌, ◌<◌, ◌≤◌, ◌^◌, Bool, true, false, cond, eqb, ltb, if◌then◌else◌, ◌==◌, List, length, refl, sym, ap, ◌∙◌, subst, arith}
+use Rattle.std.specs.Prelude.{Option, Some, None}
+use Rattle.std.specs.List.{slice_get}
+use Rattle.std.proofs.lemmas.Bool.Decides.{nat_tests}
+use Rattle.pcc_steps.specs.declared.wiring.Wiring.{Wiring}
+use Rattle.pcc_steps.specs.declared.ask.AskStage.{AskStage}
+use Rattle.pcc_steps.specs.declared.ask.AskStage.TheVariants.{AskRest}
+use Rattle.pcc_steps.specs.declared.wiring.Style.{Style}
+use Rattle.pcc_steps.specs.declared.wiring.Style.TheVariants.{Headed, Joined3, Separate3, Joined4, Separate4, Reduced5}
+use Rattle.pcc_steps.specs.Wires.{style_of}
+use Rattle.pcc_steps.specs.Asking.{CodeFits}
+use Rattle.channel_plain.specs.declared.trace.Asked.{Asked}
+use Rattle.channel_plain.specs.declared.trace.TraceEnd.{TraceEnd}
+use Rattle.channel_plain.specs.declared.trace.TraceEnd.TheVariants as end
+use Rattle.channel_plain.specs.Picks.{PlainState, Picked, ask_picked_at, ask_stepped, is_wide, refusal_of}
+use Rattle.channel_plain.specs.Standing.{IsServing, Serving}
+
+pub running : (st : AskStage) → (st ≡ AskRest → ⊥) → (calls : List Asked) (r : ℕ) (s : PlainState) → ask_picked_at st calls r s ≡ ask_stepped r s
+running AskRest n calls r s = absurd (n refl)
+running _ n calls r s = refl
+
+-- ---- what is known of a call that nothing refuses
+
+none_some : (b : Bool) (e : TraceEnd) (o : Option TraceEnd) → (if b then Some e else o) ≡ None → (b ≡ false) × (o ≡ None)
+none_some true e o h = absurd (cc h)
+none_some false e o h = (refl, h)
+
+headed_or : (b : Bool) (t : Style) (code : ℕ) → CodeFits t code → (if b then ltb 255 code else false) ≡ false → CodeFits (if b then Headed else t) code
+headed_or true t code l h = low h
+  where
+    low : ltb 255 code ≡ false → code < 256
+    low h = grind (arith, nat_tests)
+headed_or false t code l h = l
+
+other : (a b j : Bool) (code : ℕ) → code < 2 ^ 32 → CodeFits (if a then (if j then Joined3 else Separate3) else if b then (if j then Joined4 else Separate4) else Reduced5) code
+other true b true code h = h
+other true b false code h = h
+other false true true code h = h
+other false true false code h = h
+other false false j code h = h
+
+pub code_fits : (w : Wiring) (c : Asked) → c.code < 2 ^ 32 → is_wide w c ≡ false → CodeFits (style_of w) c.code
+code_fits w c small h = headed_or (ltb w.kind 3) (if w.kind == 3 then (if w.joined then Joined3 else Separate3) else if w.kind == 4 then (if w.joined then Joined4 else Separate4) else Reduced5) c.code
+    (other (w.kind == 3) (w.kind == 4) w.joined c.code small) h
+
+pub code_ok : (w : Wiring) (c : Asked) (n f : ℕ) → c.code < 2 ^ 32 → refusal_of w c n f ≡ None → CodeFits (style_of w) c.code
+code_ok w c n f small h = code_fits w c small (none_some (is_wide w c) (end.BadCode c.code) _ h).0
+
+same_call : (x y : Asked) → Some x ≡ Some y → x ≡ y
+same_call x y e = cc
+
+-- a call that is begun is the one that is looked up
+pub code_serving : (calls : List Asked) (s : PlainState) (c : Asked) → IsServing calls s → s.calls.begun ≡ true → slice_get calls s.calls.ended ≡ Some c → c.code < 2 ^ 32 → CodeFits (style_of s.ask.wiring) c.code
+code_serving calls s c h begun at small = let v = h begun in code_fits s.ask.wiring c small (subst (λ (x : Asked). is_wide s.ask.wiring x ≡ false) (same_call v.call c (sym v.at ∙ at)) v.code)

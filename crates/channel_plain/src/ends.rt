@@ -1,0 +1,321 @@
+//! Both ends of a channel on a plain list of words: each pick of an end is one word step.
+
+ghost use Rattle.std.specs.Prelude.{◌≡◌, ◌≢◌, ◌≤◌, ◌<◌, ◌-◌, ◌^◌, ℕ, [], true, false, None, List, length, replicate, IfOk, IsSome, OnErr};
+ghost use Rattle.std.specs.List.{slice_get};
+ghost use Rattle.std.specs.Option.{option_copied};
+ghost use Rattle.rate_limit.specs.RateLimits.{WithinLimits};
+ghost use Rattle.pcc_journal.specs.Records.{times_of};
+ghost use Rattle.pcc_steps.specs.declared.ask.AskStage.TheVariants.{AskRest};
+ghost use Rattle.pcc_steps.specs.declared.wiring.Wiring.{Wiring};
+ghost use Rattle.pcc_steps.specs.Wires.{IsRight, style_of};
+ghost use Rattle.pcc_steps.specs.Asking.{CodeFits};
+ghost use Rattle.channel_plain.specs.declared.trace.Asked.{Asked};
+ghost use Rattle.channel_plain.specs.Picks.{answer_end, answer_picked, ask_picked_at, ask_stepped, begins, from_rest, pending_by, served};
+ghost use Rattle.channel_plain.specs.Holding.{post_of};
+ghost use Rattle.channel_plain.specs.Standing.{HavePolls, IsServing, Stands, is_rest};
+ghost use Rattle.channel_plain.specs.Steps.{IsPick, Reads, begun_with, budget_by, looking};
+ghost use Rattle.channel_plain.specs.News.{IsNew};
+
+use crate::book::Book;
+use crate::memory::zeros;
+use crate::opening::opening_words;
+use crate::pick::Pick;
+use crate::register::Register;
+use crate::step::{fit, fit_code, perform, settle, start};
+use crate::trace::{Asked, TraceEnd};
+use pcc_exec::Executor;
+use pcc_io::{Clock, NoMemory};
+use pcc_journal::{Commands, Journal, Pending};
+use pcc_steps::{Action, AnswerOutcome, AnswerState, AskState, Wiring, answer_feed, answer_next, answering_laws, ask_begin, ask_budget, ask_feed, ask_look, ask_next, asking_laws, history_laws};
+use rate_limit::Limits;
+use std::alloc::Global;
+use std::marker::Model;
+use std::snapshot::Snapshot;
+
+/// The words, the machines of both ends with the device, and what came of the calls.
+#[derive(Drop)]
+pub(crate) struct Ends<E: Executor> {
+    alloc: Global,
+    words: Vec<u64>,
+    ask: AskState,
+    answer: AnswerState,
+    device: E,
+    first: Snapshot<E>,
+    book: Book,
+    register: Register,
+}
+
+impl<E: Executor> Model for Ends<E> {
+    ghost use Rattle.channel_plain.specs.Picks.{PlainState};
+    ghost use Rattle.channel_plain.specs.Standing.{Holds};
+
+    ghost Value = { PlainState };
+
+    ghost view = { λ s. record { words = s.words.items; ask = s.ask; answer = s.answer; device = E.state s.device; start = E.state s.first.value; calls = s.book; executed = s.register.commands } };
+
+    ghost invariant = { λ s. Holds E.exec_of E.is_state E.room_of (record { words = s.words.items; ask = s.ask; answer = s.answer; device = E.state s.device; start = E.state s.first.value; calls = s.book; executed = s.register.commands }) s.register.ready s.register.room };
+}
+
+impl<E: Executor> Ends<E> {
+    /// Both ends at rest, with zeros in the space.
+    pub fn new(
+        alloc: Global,
+        wiring: Wiring,
+        device: E,
+        limits: Limits,
+    ) -> Result<Ends<E>, NoMemory>
+        requires right { IsRight wiring }
+        requires room { E.room_of (E.state device) ≡ wiring.room }
+        ensures { IfOk result (IsNew wiring limits (E.state device)) }
+    {
+        asking_laws();
+        device.room();
+        let opening = zeros(alloc, wiring.room)?;
+        fit(&opening);
+        let ask = AskState::new(alloc, wiring, &opening)?;
+        let answer = AnswerState::new(alloc, wiring)?;
+        let words = opening_words(alloc, &wiring, &opening)?;
+        let first = Snapshot::of(&device);
+        Ok(Ends {
+            alloc,
+            words,
+            ask,
+            answer,
+            device,
+            first,
+            book: Book::new(alloc, limits),
+            register: Register::new(alloc, wiring.room),
+        })
+    }
+
+    pub fn wiring(&self) -> &Wiring
+        ensures { result.now ≡ self.now.ask.wiring }
+    {
+        self.ask.wiring()
+    }
+
+    pub fn journal(&self) -> &Journal
+        ensures { result.now.items ≡ self.now.calls.records }
+    {
+        self.book.journal()
+    }
+
+    /// The command in flight.
+    pub fn pending(&self) -> Option<&Pending>
+        ensures { option_copied result ≡ pending_by self.now.ask.in_flight self.now.calls.sent }
+    {
+        if self.ask.in_flight() {
+            self.book.sent()
+        } else {
+            None
+        }
+    }
+
+    pub fn executed(&self) -> &Commands
+        ensures { result.now.items ≡ self.now.executed }
+    {
+        self.register.commands()
+    }
+
+    /// What holds between two picks. It does nothing.
+    pub fn stand(&self)
+        ensures stands { Stands E.exec_of E.is_state E.room_of self.now }
+        ensures limits { WithinLimits self.now.calls.limits (times_of self.now.calls.records) (post_of self.now.calls.sent) }
+    {
+        self.book.keep();
+    }
+
+    /// A pick of the answering end: its next word step. A command that is loaded by it is executed.
+    pub fn answer_pick(&mut self) -> Pick
+        ensures { IsPick (answer_picked E.exec_of self.old) self.new result }
+    {
+        answering_laws::<E>();
+        history_laws();
+        start(&mut self.answer);
+        let action = answer_next(&self.answer);
+        let value = perform(&mut self.words, action);
+        let told = answer_feed(&mut self.answer, value);
+        let reports = self.ask.wiring().reports;
+        settle(&mut self.answer, &mut self.device, &mut self.register, reports);
+        Pick {
+            action,
+            value,
+            end: answer_end(told),
+        }
+    }
+
+    /// A pick of the asking end, for the calls.
+    pub fn ask_pick<K: Clock>(
+        &mut self,
+        calls: &[Asked],
+        clock: &mut K,
+    ) -> Result<Pick, NoMemory>
+        requires polls { HavePolls calls.now }
+        requires serving { IsServing calls.now self.old }
+        ensures ok { IfOk result (λ pick. Reads K.taken K.tells clock.old clock.new (λ r. ask_picked_at self.old.ask.stage calls.now r self.old) self.new pick) }
+        ensures err { OnErr result ((self.new ≡ self.old) × (clock.new ≡ clock.old)) }
+    {
+        if !rests(&self.ask) {
+            return Ok(self.step(clock));
+        }
+        self.from_rest(calls, clock)
+    }
+
+    // No run is under way.
+    fn from_rest<K: Clock>(
+        &mut self,
+        calls: &[Asked],
+        clock: &mut K,
+    ) -> Result<Pick, NoMemory>
+        requires rests { self.old.ask.stage ≡ AskRest }
+        requires polls { HavePolls calls.now }
+        requires serving { IsServing calls.now self.old }
+        ensures ok { IfOk result (λ pick. Reads K.taken K.tells clock.old clock.new (λ r. from_rest self.old.calls.begun (slice_get calls.now self.old.calls.ended) r self.old) self.new pick) }
+        ensures err { OnErr result ((self.new ≡ self.old) × (clock.new ≡ clock.old)) }
+    {
+        let Some(call) = call_at(calls, self.book.ended()) else {
+            return Ok(Pick::rest(TraceEnd::Open));
+        };
+        fit_code(call);
+        if self.book.begun() {
+            return self.serve(call, clock);
+        }
+        match self.book.refusal(call, self.ask.wiring(), self.ask.in_flight()) {
+            Some(end) => {
+                asking_laws();
+                self.book.end_call();
+                Ok(Pick::rest(end))
+            }
+            None => self.begin(call, clock),
+        }
+    }
+
+    // The call is begun, and no run is under way.
+    fn serve<K: Clock>(&mut self, call: &Asked, clock: &mut K) -> Result<Pick, NoMemory>
+        requires rests { self.old.ask.stage ≡ AskRest }
+        requires begun { self.old.calls.begun ≡ true }
+        requires counted { self.old.calls.ended < 2 ^ 64 - 1 }
+        requires fits { length call.now.bytes ≤ self.old.ask.wiring.room }
+        requires code { CodeFits (style_of self.old.ask.wiring) call.now.code }
+        requires posts { self.old.ask.in_flight ≡ false → self.old.ask.posts < 4096 }
+        requires budget { 0 < self.old.ask.budget }
+        ensures ok { IfOk result (λ pick. Reads K.taken K.tells clock.old clock.new (λ r. served self.old.ask.in_flight call.now r self.old) self.new pick) }
+        ensures err { OnErr result ((self.new ≡ self.old) × (clock.new ≡ clock.old)) }
+    {
+        if self.ask.in_flight() {
+            return Ok(self.look(clock));
+        }
+        self.post(call, false, clock)
+    }
+
+    // The call is the next one, and nothing refuses it.
+    fn begin<K: Clock>(&mut self, call: &Asked, clock: &mut K) -> Result<Pick, NoMemory>
+        requires rests { self.old.ask.stage ≡ AskRest }
+        requires counted { self.old.calls.ended < 2 ^ 64 - 1 }
+        requires fits { length call.now.bytes ≤ self.old.ask.wiring.room }
+        requires code { CodeFits (style_of self.old.ask.wiring) call.now.code }
+        requires posts { self.old.ask.in_flight ≡ false → self.old.ask.posts < 4096 }
+        requires polls { 0 < call.now.polls }
+        ensures ok { IfOk result (λ pick. Reads K.taken K.tells clock.old clock.new (λ r. begins None call.now r self.old) self.new pick) }
+        ensures err { OnErr result ((self.new ≡ self.old) × (clock.new ≡ clock.old)) }
+    {
+        if self.ask.in_flight() {
+            asking_laws();
+            ask_budget(&mut self.ask, call.polls);
+            self.book.begin();
+            return Ok(self.look(clock));
+        }
+        self.post(call, true, clock)
+    }
+
+    // Takes all memory of the command, before it touches anything.
+    fn post<K: Clock>(
+        &mut self,
+        call: &Asked,
+        begins: bool,
+        clock: &mut K,
+    ) -> Result<Pick, NoMemory>
+        requires rests { self.old.ask.stage ≡ AskRest }
+        requires free { self.old.ask.in_flight ≡ false }
+        requires counted { self.old.calls.ended < 2 ^ 64 - 1 }
+        requires fits { length call.now.bytes ≤ self.old.ask.wiring.room }
+        requires code { CodeFits (style_of self.old.ask.wiring) call.now.code }
+        requires posts { self.old.ask.posts < 4096 }
+        requires budget { 0 < (budget_by begins call.now.polls self.old.ask).budget }
+        requires begun { begins ≡ false → self.old.calls.begun ≡ true }
+        ensures ok { IfOk result (λ pick. Reads K.taken K.tells clock.old clock.new (λ r. served false call.now r (begun_with begins call.now.polls self.old)) self.new pick) }
+        ensures err { OnErr result ((self.new ≡ self.old) × (clock.new ≡ clock.old)) }
+    {
+        asking_laws();
+        fit(call.bytes.as_slice());
+        self.register.reserve(self.alloc)?;
+        let refused = self.book.post(self.alloc, call, self.ask.space(), clock)?;
+        set_budget(&mut self.ask, begins, call.polls);
+        match refused {
+            Some(end) => Ok(Pick::rest(end)),
+            None => {
+                ask_begin(&mut self.ask, call.code, call.bytes.as_slice());
+                Ok(self.step(clock))
+            }
+        }
+    }
+
+    // Begins a look, with its first step.
+    fn look<K: Clock>(&mut self, clock: &mut K) -> Pick
+        requires rests { self.old.ask.stage ≡ AskRest }
+        requires flies { self.old.ask.in_flight ≡ true }
+        requires begun { self.old.calls.begun ≡ true }
+        ensures { Reads K.taken K.tells clock.old clock.new (λ r. ask_stepped r (looking self.old)) self.new result }
+    {
+        asking_laws();
+        ask_look(&mut self.ask);
+        self.step(clock)
+    }
+
+    // The next step of the run that is under way.
+    fn step<K: Clock>(&mut self, clock: &mut K) -> Pick
+        requires { self.old.ask.stage ≢ AskRest }
+        ensures { Reads K.taken K.tells clock.old clock.new (λ r. ask_stepped r self.old) self.new result }
+    {
+        asking_laws();
+        let action = ask_next(&self.ask);
+        let value = perform(&mut self.words, action);
+        let told = ask_feed(&mut self.ask, value);
+        let end = self.book.told(told, &self.ask, clock);
+        Pick { action, value, end }
+    }
+}
+
+// No run of the asking machine is under way.
+fn rests(ask: &AskState) -> bool
+    ensures yes { result ≡ true → ask.now.stage ≡ AskRest }
+    ensures no { result ≡ false → ask.now.stage ≢ AskRest }
+{
+    ask_next(ask) == Action::Rest
+}
+
+fn call_at(calls: &[Asked], place: usize) -> Option<&Asked>
+    ensures call { option_copied result ≡ slice_get calls.now place }
+    ensures counted { IsSome result → place < 2 ^ 64 - 1 }
+{
+    calls.get(place)
+}
+
+fn set_budget(ask: &mut AskState, begins: bool, polls: u32)
+    requires { ask.old.stage ≡ AskRest }
+    ensures { ask.new ≡ budget_by begins polls ask.old }
+{
+    if begins {
+        ask_budget(ask, polls);
+    }
+}
+
+fn answer_end(told: Option<AnswerOutcome>) -> TraceEnd
+    ensures { result ≡ answer_end told }
+{
+    match told {
+        None => TraceEnd::Open,
+        Some(AnswerOutcome::Served) => TraceEnd::Served,
+        Some(AnswerOutcome::Idle) => TraceEnd::Idle,
+    }
+}

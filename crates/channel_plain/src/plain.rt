@@ -1,0 +1,133 @@
+//! A channel on a plain list of words with its clock, and a whole run of picks.
+
+ghost use Rattle.std.specs.Prelude.{◌≡◌, List, ℕ, IfOk, OnErr};
+ghost use Rattle.std.specs.Option.{option_copied};
+ghost use Rattle.rate_limit.specs.RateLimits.{WithinLimits};
+ghost use Rattle.pcc_journal.specs.Records.{times_of};
+ghost use Rattle.pcc_steps.specs.Wires.{IsRight};
+ghost use Rattle.channel_plain.specs.Picks.{asks_by, pending_by, picked};
+ghost use Rattle.channel_plain.specs.Holding.{post_of};
+ghost use Rattle.channel_plain.specs.Standing.{HavePolls, IsServing, Stands};
+ghost use Rattle.channel_plain.specs.Steps.{Reads};
+ghost use Rattle.channel_plain.specs.News.{IsNew};
+ghost use Rattle.channel_plain.specs.Weaving.{IsFresh, PicksOnce, Wove};
+
+use crate::ends::Ends;
+use crate::pick::Pick;
+use crate::trace::{Asked, Side, Trace, TraceLine};
+use pcc_exec::Executor;
+use pcc_io::{Clock, Items, NoMemory};
+use pcc_journal::{Commands, Journal, Pending};
+use pcc_steps::Wiring;
+use rate_limit::Limits;
+use std::alloc::Global;
+
+/// A channel whose two ends take turns on a plain list of words, with the clock that its asking side reads.
+#[derive(Drop)]
+pub struct Plain<E: Executor, K: Clock> {
+    ends: Ends<E>,
+    clock: K,
+}
+
+impl<E: Executor, K: Clock> Plain<E, K> {
+    /// A channel that nothing was asked of, with zeros in its space.
+    pub fn new(
+        alloc: Global,
+        wiring: Wiring,
+        device: E,
+        limits: Limits,
+        clock: K,
+    ) -> Result<Plain<E, K>, NoMemory>
+        requires right { IsRight wiring }
+        requires room { E.room_of (E.state device) ≡ wiring.room }
+        ensures new { IfOk result (λ p. IsNew wiring limits (E.state device) p.ends) }
+        ensures clock { IfOk result (λ p. p.clock ≡ clock) }
+    {
+        let ends = Ends::new(alloc, wiring, device, limits)?;
+        Ok(Plain { ends, clock })
+    }
+
+    /// One pick of a side, for the calls, which are the same at each pick: its next word step, or none. It takes all its memory before it
+    /// touches a word, a reading or the device: after `NoMemory` everything is as before.
+    pub fn pick(&mut self, side: Side, calls: &[Asked]) -> Result<TraceLine, NoMemory>
+        requires polls { HavePolls calls.now }
+        requires serving { IsServing calls.now self.old.ends }
+        ensures ok { IfOk result (λ line. PicksOnce K.taken K.tells E.exec_of calls.now side self.old.ends self.old.clock self.new.ends self.new.clock line) }
+        ensures err { OnErr result ((self.new.ends ≡ self.old.ends) × (self.new.clock ≡ self.old.clock)) }
+        ensures serving { IsServing calls.now self.new.ends }
+
+        // What holds before and behind each pick: the relation of the words with both ends and their histories, and the limits.
+        ensures stood { Stands E.exec_of E.is_state E.room_of self.old.ends }
+        ensures stands { Stands E.exec_of E.is_state E.room_of self.new.ends }
+        ensures limits { WithinLimits self.new.ends.calls.limits (times_of self.new.ends.calls.records) (post_of self.new.ends.calls.sent) }
+    {
+        self.ends.stand();
+        let picked = self.side_pick(side, calls);
+        self.ends.stand();
+        let pick = picked?;
+        Ok(pick.line(side))
+    }
+
+    fn side_pick(&mut self, side: Side, calls: &[Asked]) -> Result<Pick, NoMemory>
+        requires polls { HavePolls calls.now }
+        requires serving { IsServing calls.now self.old.ends }
+        ensures ok { IfOk result (λ pick. Reads K.taken K.tells self.old.clock self.new.clock (λ r. picked E.exec_of calls.now side r self.old.ends) self.new.ends pick) }
+        ensures err { OnErr result ((self.new.ends ≡ self.old.ends) × (self.new.clock ≡ self.old.clock)) }
+    {
+        if asks(self.ends.wiring(), side) {
+            return self.ends.ask_pick(calls, &mut self.clock);
+        }
+        Ok(self.ends.answer_pick())
+    }
+
+    /// The records of the commands that were drained.
+    pub fn journal(&self) -> &Journal
+        ensures { result.now.items ≡ self.now.ends.calls.records }
+    {
+        self.ends.journal()
+    }
+
+    /// The command in flight.
+    pub fn pending(&self) -> Option<&Pending>
+        ensures { option_copied result ≡ pending_by self.now.ends.ask.in_flight self.now.ends.calls.sent }
+    {
+        self.ends.pending()
+    }
+
+    /// The commands that the answering side has executed, in order.
+    pub fn executed(&self) -> &Commands
+        ensures { result.now.items ≡ self.now.ends.executed }
+    {
+        self.ends.executed()
+    }
+}
+
+// The platform asks on type 4, the operating system on the other types.
+fn asks(wiring: &Wiring, side: Side) -> bool
+    ensures { result ≡ asks_by wiring.now.kind side }
+{
+    match side {
+        Side::System => wiring.kind != 4,
+        Side::Platform => wiring.kind == 4,
+    }
+}
+
+/// Runs the picks in order on a new channel. After `NoMemory` the picks before it stand.
+#[tactic(auto, using(crate::proofs::Weaves::woven_start, crate::proofs::Weaves::woven_end))]
+pub fn weave<E: Executor, K: Clock>(
+    alloc: Global,
+    plain: &mut Plain<E, K>,
+    calls: &[Asked],
+    picks: &[Side],
+) -> Result<Trace, NoMemory>
+    requires fresh { IsFresh plain.old.ends }
+    requires polls { HavePolls calls.now }
+    ensures wove { IfOk result (λ trace. (readings : List ℕ) × Wove K.taken K.tells E.exec_of calls.now E.is_state E.room_of plain.old.ends plain.old.clock picks.now trace readings plain.new.ends plain.new.clock) }
+{
+    let mut trace = Items::new(alloc);
+    for place in 0..picks.len() {
+        let line = plain.pick(picks[place], calls)?;
+        trace.push(line)?;
+    }
+    Ok(trace)
+}
