@@ -1,5 +1,5 @@
 -- What a step of the asking machine keeps, and where it leads, by its stage.
-use Rattle.std.proofs.Common.{◌≡◌, ◌≢◌, ℕ, ◌+◌, ◌^◌, ◌<◌, ◌≤◌, ◌-◌, Bool, true, false, eqb, List, [], ◌∷◌, ◌++◌, length, refl, sym, ap, ◌∙◌, subst, arith}
+use Rattle.std.proofs.Common.{◌≡◌, ◌≢◌, ℕ, ◌+◌, ◌^◌, ◌<◌, ◌≤◌, ◌-◌, Bool, true, false, eqb, List, [], ◌∷◌, ◌++◌, length, drop, refl, sym, ap, ◌∙◌, subst, arith}
 use Rattle.std.specs.Prelude.{Option, Some, None}
 use Rattle.pcc_steps.specs.declared.wiring.Wiring.{Wiring}
 use Rattle.pcc_steps.specs.declared.wiring.Style.{Style}
@@ -8,7 +8,8 @@ use Rattle.pcc_steps.specs.declared.ask.AskStage.{AskStage}
 use Rattle.pcc_steps.specs.declared.ask.AskStage.TheVariants.{AskRest, PostBlock, PostHeader, PostUpdateLoad, PostUpdateStore, PostMarkLoad, PostMarkStore, PostBellLoad, PostBellStore, PostLine, LookWord, LookError, LookBlock, LookLine, LookLineStore, LookAckLoad, LookAckStore}
 use Rattle.pcc_steps.specs.declared.ask.AskOutcome.{AskOutcome}
 use Rattle.pcc_steps.specs.declared.ask.AskOutcome.TheVariants.{Posted, Clear, Drained}
-use Rattle.pcc_steps.specs.Wires.{style_of, sees_done, tells_error, acknowledges}
+use Rattle.shmem_header.specs.Spelling.{bytes_of}
+use Rattle.pcc_steps.specs.Wires.{style_of, heads_of, sees_done, tells_error, acknowledges}
 use Rattle.pcc_steps.specs.Asking.{Ask, AskOk, Flies, has_more, ask_fed_at, ask_told_at, after_block, after_update, after_mark, after_bell, after_look, store_on, look_on, read_on, block_on, line_on, lowered_on, drained, look_told, read_told, end_told, line_told}
 use Rattle.channel_plain.specs.Standing.{carried_at, carried, is_rest}
 
@@ -81,6 +82,13 @@ Sure (Some Posted) c f = (c ≡ true) × (f ≡ false)
 Sure (Some Clear) c f = (c ≡ true) × (f ≡ true)
 Sure (Some (Drained e)) c f = (c ≡ true) × (f ≡ true)
 
+-- the space is the one that was drained last
+abbrev pub Spaced : Option AskOutcome → List ℕ → Ask → Type 0
+Spaced None space b = b.space ≡ space
+Spaced (Some Posted) space b = b.space ≡ space
+Spaced (Some Clear) space b = b.space ≡ space
+Spaced (Some (Drained e)) space b = b.space ≡ bytes_of (drop (heads_of (style_of b.wiring)) b.shown)
+
 pub record Fed (st : AskStage) (a b : Ask) (told : Option AskOutcome) : Type 0 where
   pub wiring : b.wiring ≡ a.wiring
   pub code : b.code ≡ a.code
@@ -91,6 +99,7 @@ pub record Fed (st : AskStage) (a b : Ask) (told : Option AskOutcome) : Type 0 w
   pub carried : carried b ≡ carried_after told (carried_at st a.in_flight)
   pub rests : is_rest b.stage ≡ ends_run told
   pub sure : Sure told (carried_at st a.in_flight) a.in_flight
+  pub space : Spaced told a.space b
 
 carried_block : (s : Style) (f : Bool) → carried_at (after_block s) f ≡ true
 carried_block Headed f = refl
@@ -167,50 +176,56 @@ goes_look false = refl
 -- ---- one lemma for each conditional
 
 stored : (b : Bool) (j : ℕ) (a : Ask) → Fed (PostBlock j) a (store_on b j a) None
-stored true j a = record { wiring = refl; code = refl; input = refl; budget = refl; looks = refl; flies = refl; carried = refl; rests = refl; sure = tt }
-stored false j a = record { wiring = refl; code = refl; input = refl; budget = refl; looks = refl; flies = refl; carried = carried_block (style_of a.wiring) a.in_flight; rests = goes_block (style_of a.wiring); sure = tt }
+stored true j a = record { wiring = refl; code = refl; input = refl; budget = refl; looks = refl; flies = refl; carried = refl; rests = refl; sure = tt; space = refl }
+stored false j a = record { wiring = refl; code = refl; input = refl; budget = refl; looks = refl; flies = refl; carried = carried_block (style_of a.wiring) a.in_flight; rests = goes_block (style_of a.wiring); sure = tt; space = refl }
 
 looked : (b : Bool) (a : Ask) (v : ℕ) → a.in_flight ≡ true → Fed LookWord a (look_on b v a) (look_told b)
-looked true a v f = record { wiring = refl; code = refl; input = refl; budget = refl; looks = refl; flies = refl; carried = carried_look (tells_error a.wiring) a.in_flight; rests = goes_look (tells_error a.wiring); sure = tt }
-looked false a v f = record { wiring = refl; code = refl; input = refl; budget = refl; looks = refl; flies = refl; carried = refl; rests = refl; sure = (f, f) }
+looked true a v f = record { wiring = refl; code = refl; input = refl; budget = refl; looks = refl; flies = refl; carried = carried_look (tells_error a.wiring) a.in_flight; rests = goes_look (tells_error a.wiring); sure = tt; space = refl }
+looked false a v f = record { wiring = refl; code = refl; input = refl; budget = refl; looks = refl; flies = refl; carried = refl; rests = refl; sure = (f, f); space = refl }
 
 drain : (st : AskStage) (a b : Ask) → carried_at st a.in_flight ≡ true → a.in_flight ≡ true → b.wiring ≡ a.wiring → b.code ≡ a.code → b.input ≡ a.input → b.budget ≡ a.budget → b.looks ≡ a.looks → b.error ≡ a.error → Fed st a (drained b) (Some (Drained a.error))
-drain st a b c f w k i u l e = record { wiring = w; code = k; input = i; budget = u; looks = l; flies = refl; carried = refl; rests = refl; sure = (c, f) }
+drain st a b c f w k i u l e = record { wiring = w; code = k; input = i; budget = u; looks = l; flies = refl; carried = refl; rests = refl; sure = (c, f); space = refl }
 
-read_end : (n : Bool) (j : ℕ) (a b : Ask) → a.in_flight ≡ true → b.in_flight ≡ a.in_flight → b.wiring ≡ a.wiring → b.code ≡ a.code → b.input ≡ a.input → b.budget ≡ a.budget → b.looks ≡ a.looks → b.error ≡ a.error → Fed (LookBlock j) a (block_on n b) (end_told n a.error)
-read_end true j a b f g w k i u l e = record { wiring = w; code = k; input = i; budget = u; looks = l; flies = g; carried = g; rests = refl; sure = tt }
-read_end false j a b f g w k i u l e = drain (LookBlock j) a b f f w k i u l e
+read_end : (n : Bool) (j : ℕ) (a b : Ask) → a.in_flight ≡ true → b.in_flight ≡ a.in_flight → b.wiring ≡ a.wiring → b.code ≡ a.code → b.input ≡ a.input → b.budget ≡ a.budget → b.looks ≡ a.looks → b.error ≡ a.error → b.space ≡ a.space → Fed (LookBlock j) a (block_on n b) (end_told n a.error)
+read_end true j a b f g w k i u l e o = record { wiring = w; code = k; input = i; budget = u; looks = l; flies = g; carried = g; rests = refl; sure = tt; space = o }
+read_end false j a b f g w k i u l e o = drain (LookBlock j) a b f f w k i u l e
 
 reads : (m : Bool) (j : ℕ) (a : Ask) (v : ℕ) → a.in_flight ≡ true → Fed (LookBlock j) a (read_on m j v a) (read_told m a.wiring.notify a.error)
-reads true j a v f = record { wiring = refl; code = refl; input = refl; budget = refl; looks = refl; flies = refl; carried = refl; rests = refl; sure = tt }
-reads false j a v f = read_end a.wiring.notify j a (record a { loaded = (read_on true j v a).loaded }) f refl refl refl refl refl refl refl
+reads true j a v f = record { wiring = refl; code = refl; input = refl; budget = refl; looks = refl; flies = refl; carried = refl; rests = refl; sure = tt; space = refl }
+reads false j a v f = read_end a.wiring.notify j a (record a { loaded = (read_on true j v a).loaded }) f refl refl refl refl refl refl refl refl
 
 lines : (b : Bool) (a : Ask) → a.in_flight ≡ true → Fed LookLine a (line_on b a) (line_told b a.error)
 lines true a f = drain LookLine a a f f refl refl refl refl refl refl
-lines false a f = record { wiring = refl; code = refl; input = refl; budget = refl; looks = refl; flies = refl; carried = refl; rests = refl; sure = tt }
+lines false a f = record { wiring = refl; code = refl; input = refl; budget = refl; looks = refl; flies = refl; carried = refl; rests = refl; sure = tt; space = refl }
 
 lowers : (b : Bool) (a : Ask) → a.in_flight ≡ true → Fed LookLineStore a (lowered_on b a) (end_told b a.error)
-lowers true a f = record { wiring = refl; code = refl; input = refl; budget = refl; looks = refl; flies = refl; carried = refl; rests = refl; sure = tt }
+lowers true a f = record { wiring = refl; code = refl; input = refl; budget = refl; looks = refl; flies = refl; carried = refl; rests = refl; sure = tt; space = refl }
 lowers false a f = drain LookLineStore a a f f refl refl refl refl refl refl
 
 pub fed : (st : AskStage) (a : Ask) (v : ℕ) → is_rest st ≡ false → Flies st a.in_flight → Fed st a (ask_fed_at st a v) (ask_told_at st a v)
 fed AskRest a v e f = absurd (cc e)
 fed (PostBlock j) a v e f = stored (has_more j a.wiring) j a
-fed PostHeader a v e f = record { wiring = refl; code = refl; input = refl; budget = refl; looks = refl; flies = refl; carried = refl; rests = refl; sure = tt }
-fed PostUpdateLoad a v e f = record { wiring = refl; code = refl; input = refl; budget = refl; looks = refl; flies = refl; carried = refl; rests = refl; sure = tt }
-fed PostUpdateStore a v e f = record { wiring = refl; code = refl; input = refl; budget = refl; looks = refl; flies = refl; carried = carried_update (style_of a.wiring) a.in_flight; rests = goes_update (style_of a.wiring); sure = tt }
-fed PostMarkLoad a v e f = record { wiring = refl; code = refl; input = refl; budget = refl; looks = refl; flies = refl; carried = refl; rests = refl; sure = tt }
-fed PostMarkStore a v e f = record { wiring = refl; code = refl; input = refl; budget = refl; looks = refl; flies = refl; carried = carried_mark (style_of a.wiring) a.in_flight; rests = goes_mark (style_of a.wiring); sure = tt }
-fed PostBellLoad a v e f = record { wiring = refl; code = refl; input = refl; budget = refl; looks = refl; flies = refl; carried = refl; rests = refl; sure = tt }
-fed PostBellStore a v e f = record { wiring = refl; code = refl; input = refl; budget = refl; looks = refl; flies = refl; carried = carried_bell (style_of a.wiring) a.in_flight; rests = goes_bell (style_of a.wiring); sure = tt }
-fed PostLine a v e f = record { wiring = refl; code = refl; input = refl; budget = refl; looks = refl; flies = refl; carried = refl; rests = refl; sure = (refl, f) }
+fed PostHeader a v e f = record { wiring = refl; code = refl; input = refl; budget = refl; looks = refl; flies = refl; carried = refl; rests = refl; sure = tt; space = refl }
+fed PostUpdateLoad a v e f = record { wiring = refl; code = refl; input = refl; budget = refl; looks = refl; flies = refl; carried = refl; rests = refl; sure = tt; space = refl }
+fed PostUpdateStore a v e f = record { wiring = refl; code = refl; input = refl; budget = refl; looks = refl; flies = refl; carried = carried_update (style_of a.wiring) a.in_flight; rests = goes_update (style_of a.wiring); sure = tt; space = refl }
+fed PostMarkLoad a v e f = record { wiring = refl; code = refl; input = refl; budget = refl; looks = refl; flies = refl; carried = refl; rests = refl; sure = tt; space = refl }
+fed PostMarkStore a v e f = record { wiring = refl; code = refl; input = refl; budget = refl; looks = refl; flies = refl; carried = carried_mark (style_of a.wiring) a.in_flight; rests = goes_mark (style_of a.wiring); sure = tt; space = refl }
+fed PostBellLoad a v e f = record { wiring = refl; code = refl; input = refl; budget = refl; looks = refl; flies = refl; carried = refl; rests = refl; sure = tt; space = refl }
+fed PostBellStore a v e f = record { wiring = refl; code = refl; input = refl; budget = refl; looks = refl; flies = refl; carried = carried_bell (style_of a.wiring) a.in_flight; rests = goes_bell (style_of a.wiring); sure = tt; space = refl }
+fed PostLine a v e f = record { wiring = refl; code = refl; input = refl; budget = refl; looks = refl; flies = refl; carried = refl; rests = refl; sure = (refl, f); space = refl }
 fed LookWord a v e f = looked (sees_done a.wiring v) a v f
-fed LookError a v e f = record { wiring = refl; code = refl; input = refl; budget = refl; looks = refl; flies = refl; carried = refl; rests = refl; sure = tt }
+fed LookError a v e f = record { wiring = refl; code = refl; input = refl; budget = refl; looks = refl; flies = refl; carried = refl; rests = refl; sure = tt; space = refl }
 fed (LookBlock j) a v e f = reads (has_more j a.wiring) j a v f
 fed LookLine a v e f = lines (eqb v 0) a f
 fed LookLineStore a v e f = lowers (acknowledges a.wiring) a f
-fed LookAckLoad a v e f = record { wiring = refl; code = refl; input = refl; budget = refl; looks = refl; flies = refl; carried = refl; rests = refl; sure = tt }
+fed LookAckLoad a v e f = record { wiring = refl; code = refl; input = refl; budget = refl; looks = refl; flies = refl; carried = refl; rests = refl; sure = tt; space = refl }
 fed LookAckStore a v e f = drain LookAckStore a a f f refl refl refl refl refl refl
 
+spaced : (told : Option AskOutcome) (a b : Ask) (n : ℕ) → Spaced told a.space b → Spaced told a.space (record b { steps = n })
+spaced None a b n h = h
+spaced (Some Posted) a b n h = h
+spaced (Some Clear) a b n h = h
+spaced (Some (Drained e)) a b n h = h
+
 pub stepped : (st : AskStage) (a b : Ask) (told : Option AskOutcome) (n : ℕ) → Fed st a b told → Fed st a (record b { steps = n }) told
-stepped st a b told n f = record { wiring = f.wiring; code = f.code; input = f.input; budget = f.budget; looks = f.looks; flies = f.flies; carried = f.carried; rests = f.rests; sure = f.sure }
+stepped st a b told n f = record { wiring = f.wiring; code = f.code; input = f.input; budget = f.budget; looks = f.looks; flies = f.flies; carried = f.carried; rests = f.rests; sure = f.sure; space = spaced told a b n f.space }

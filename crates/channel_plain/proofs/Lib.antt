@@ -6,4 +6,5 @@ pub mod AskPicks
 pub mod Starts
 pub mod ServeKeeps
 pub mod Weaves
+pub mod WordSteps
 pub mod Written

@@ -16,5 +16,3 @@ pub mod AnswerWalks
 pub mod Bounds
 pub mod Lengths
 pub mod Nexts
-pub mod Asks
-pub mod Turns

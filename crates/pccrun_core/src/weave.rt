@@ -10,9 +10,13 @@ ghost use Rattle.pccrun_core.specs.Weaving.{IsWoven, asked_by, side_of};
 
 use crate::command::Command;
 use crate::refusal::CommandError;
-use crate::script::{Served, served_script};
-use channel_plain::{Asked, Side};
-use pcc_io::{Bytes, NoMemory};
+use crate::script::{Served, head_for, served_script};
+use crate::wiring::wiring_of;
+use channel_plain::{Asked, Plain, Side, trace_lines, weave as woven};
+use pcc_exec::Bank;
+use pcc_io::{Bytes, LineClock, NoMemory};
+use pcc_journal::put_journal;
+use pcc_steps::history_laws;
 use pcc_script::{Actions, Letter, Line, Picks, Scenario};
 use pcct_table::{Subspace, Table};
 use std::alloc::Global;
@@ -87,7 +91,21 @@ fn woven_text(
     requires served { IsServed subspace.now }
     ensures { IfOk result (λ v. IsWoven scenario.now table.now v.items) }
 {
-    Err(NoMemory)
+    history_laws();
+    let head = head_for(subspace);
+    let calls = calls_of(alloc, &scenario.actions)?;
+    let sides = sides_of(alloc, picks)?;
+    let mut plain = Plain::new(
+        alloc,
+        wiring_of(subspace, head.id, table.flags),
+        Bank::new(alloc, head.room)?,
+        head.limits,
+        LineClock::new(scenario.start, scenario.step),
+    )?;
+    let trace = woven(alloc, &mut plain, &calls, &sides)?;
+    let mut out = trace_lines(alloc, &trace)?;
+    put_journal(&mut out, &head, plain.journal().as_slice(), plain.pending())?;
+    Ok(out)
 }
 
 /// The trace and the journal of the script that a text spells.

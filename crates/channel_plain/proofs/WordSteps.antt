@@ -1,0 +1,158 @@
+-- The asking side of a trace is runs of the tables: what a pick adds to them.
+use Rattle.std.proofs.Common.{◌≡◌, ◌≢◌, ℕ, ◌+◌, ◌<◌, ◌≤◌, Bool, true, false, nat_eq, List, [], ◌∷◌, ◌++◌, length, drop, refl, sym, ap, ◌∙◌, subst, arith}
+use Rattle.std.specs.Prelude.{Option, Some, None}
+use Rattle.std.specs.List.{slice_get}
+use Rattle.std.proofs.lemmas.List.{append-nil, append_assoc}
+use Rattle.std.proofs.lemmas.Bool.Decides.{nat_tests}
+use Rattle.pcc_journal.specs.declared.record.Record.{Record}
+use Rattle.rate_limit.specs.declared.Limits.{Limits}
+use Rattle.shmem_header.specs.Spelling.{bytes_of}
+use Rattle.pcc_steps.specs.declared.wiring.Wiring.{Wiring}
+use Rattle.pcc_steps.specs.declared.wiring.Action.{Action}
+use Rattle.pcc_steps.specs.declared.ask.AskStage.{AskStage}
+use Rattle.pcc_steps.specs.declared.ask.AskOutcome.{AskOutcome}
+use Rattle.pcc_steps.specs.declared.ask.AskOutcome.TheVariants.{Posted, Clear, Drained}
+use Rattle.pcc_steps.specs.Wires.{style_of, heads_of}
+use Rattle.pcc_steps.specs.Runs.{Run, ends, loads, stores, swaps, executes, AskEnd, posts, sees_clear, drains, look_run}
+use Rattle.pcc_steps.specs.Walk.{Takes, ask_left, ask_after}
+use Rattle.pcc_steps.specs.Asking.{Ask}
+use Rattle.channel_plain.specs.declared.sent.Sent.{Sent}
+use Rattle.channel_plain.specs.declared.trace.Asked.{Asked}
+use Rattle.channel_plain.specs.declared.trace.Side.{Side}
+use Rattle.channel_plain.specs.declared.trace.TraceEnd.{TraceEnd}
+use Rattle.channel_plain.specs.declared.trace.TraceEnd.TheVariants as end
+use Rattle.channel_plain.specs.declared.trace.TraceLine.{TraceLine}
+use Rattle.channel_plain.specs.Picks.{CallBook, PlainState, ask_ended, call_ended, clear_ended, drain_ended, drained_calls, drained_end, given_up_end, is_late, record_of, sent_by, takes_reading}
+use Rattle.channel_plain.specs.Standing.{is_rest}
+use Rattle.channel_plain.specs.Weaving.{reading_of}
+use Rattle.channel_plain.specs.WordRuns.{Walks, IsRun, Calls, Serves, Turn, Turns, none, more, sends, looks_on, gives_up, takes, end_call, take_reading, goes_on_if, posts_call, earliest_at, replied, next_of, rest_of}
+use Rattle.channel_plain.proofs.Feeds.{Fed}
+
+-- ---- runs
+
+takes_next : {E : Type 0} (run : Run E) (x : Action) (next : ℕ → Run E) → Takes run x next → next_of run ≡ Some x
+takes_next (ends e) x next h = absurd h
+takes_next (loads p f) x next h = ap Some (sym h.0)
+takes_next (stores p u r) x next h = ap Some (sym h.0)
+takes_next (swaps p u f) x next h = ap Some (sym h.0)
+takes_next (executes c s f) x next h = absurd h
+
+takes_rest : {E : Type 0} (run : Run E) (x : Action) (next : ℕ → Run E) (v : ℕ) → Takes run x next → rest_of run v ≡ next v
+takes_rest (ends e) x next v h = absurd h
+takes_rest (loads p f) x next v h = sym (h.1 v)
+takes_rest (stores p u r) x next v h = sym (h.1 v)
+takes_rest (swaps p u f) x next v h = sym (h.1 v)
+takes_rest (executes c s f) x next v h = absurd h
+
+pub walks_more : {E : Type 0} (run rest : Run E) (ls : List TraceLine) (l : TraceLine) → Walks run ls rest → next_of rest ≡ Some l.action → l.end ≡ end.Open → Walks run (ls ++ l ∷ []) (rest_of rest l.value)
+walks_more run rest [] l w n e = (ap next_of w ∙ n, e, ap (λ (r : _). rest_of r l.value) w)
+walks_more run rest (m ∷ ms) l w n e = (w.0, w.1, walks_more (rest_of run m.value) rest ms l w.2 n e)
+
+walks_to : {E : Type 0} (run rest rest' : Run E) (ls : List TraceLine) → rest ≡ rest' → Walks run ls rest → Walks run ls rest'
+walks_to run rest rest' ls e w = subst (λ (r : _). Walks run ls r) e w
+
+not_false : (b : Bool) → b ≡ true → b ≡ false → ⊥
+not_false b t f = cc
+
+below : (looks budget : ℕ) → looks ≤ budget → nat_eq looks budget ≡ false → looks < budget
+below looks budget le ne = grind (arith, nat_tests)
+
+level : (looks budget : ℕ) → nat_eq looks budget ≡ true → looks ≡ budget
+level looks budget e = grind (arith, nat_tests)
+
+-- ---- the calls of a trace, by the channel
+
+abbrev pub calls_at : PlainState → Option Sent → List ℕ → Calls
+calls_at s sent rs = record { ended = s.calls.ended; begun = s.calls.begun; looks = s.ask.looks; sent = sent; space = s.ask.space; records = s.calls.records; readings = rs }
+
+module _ (w : Wiring) (limits : Limits) (calls : List Asked) where
+  -- a run under way, for a call that is served since the calls stood so; it took these readings
+  pub data Running (s : PlainState) (x : Calls) (ls : List TraceLine) : List ℕ → Type 0 where
+    posts_run : (c : Asked) (r : ℕ) → s.ask.in_flight ≡ false → Serves w limits calls x c (calls_at s None x.readings) → s.calls.sent ≡ Some (sent_by c s.ask.space r) → earliest_at w limits calls (calls_at s None x.readings) ≤ r → Walks (posts_call w c s.ask.space) ls (ask_left s.ask) → s.ask.budget ≡ c.polls → Running s x ls (r ∷ [])
+    looks_run : (c : Asked) (p : Sent) → s.ask.in_flight ≡ true → Serves w limits calls x c (calls_at s s.calls.sent x.readings) → s.calls.sent ≡ Some p → Walks (look_run w) ls (ask_left s.ask) → s.ask.budget ≡ c.polls → Running s x ls []
+
+  -- what the lines of the asking side have to do with the channel
+  pub data AskTie (from : Calls) (s : PlainState) (lines : List TraceLine) (rs : List ℕ) : Type 0 where
+    resting : is_rest s.ask.stage ≡ true → Turns w limits calls from lines (calls_at s s.calls.sent rs) → AskTie from s lines rs
+    running : (past ls : List TraceLine) (l : TraceLine) (x : Calls) (taken : List ℕ) → is_rest s.ask.stage ≡ false → Turns w limits calls from past x → Running s x (ls ++ l ∷ []) taken → lines ≡ past ++ (ls ++ l ∷ []) → rs ≡ x.readings ++ taken → AskTie from s lines rs
+
+  -- the end of a run is a turn
+  turned : (from x y : Calls) (s : PlainState) (past ms lines : List TraceLine) (rs : List ℕ) → is_rest s.ask.stage ≡ true → Turns w limits calls from past x → Turn w limits calls x ms y → y ≡ calls_at s s.calls.sent rs → lines ≡ past ++ ms → AskTie from s lines rs
+  turned from x y s past ms lines rs rest before t e q = resting rest (subst (λ (z : List TraceLine × Calls). Turns w limits calls from z.0 z.1) (λ i. (sym q i, e i)) (more past ms x y before t))
+
+  -- the step of a run that posts
+  post_turn : (told : Option AskOutcome) (st : AskStage) (s : PlainState) (b : Ask) (ws : List ℕ) (side : Side) (action : Action) (v r : ℕ) → Fed st s.ask b told → next_of (ask_left s.ask) ≡ Some action → rest_of (ask_left s.ask) v ≡ ask_after told b
+      → (from x : Calls) (past ls : List TraceLine) (c : Asked) (q : ℕ) → Turns w limits calls from past x → s.ask.in_flight ≡ false → Serves w limits calls x c (calls_at s None x.readings) → s.calls.sent ≡ Some (sent_by c s.ask.space q) → earliest_at w limits calls (calls_at s None x.readings) ≤ q → Walks (posts_call w c s.ask.space) ls (ask_left s.ask) → s.ask.budget ≡ c.polls
+      → AskTie from (record s { words = ws; ask = b; calls = (ask_ended told r b s.calls).calls }) (past ++ (ls ++ record { side = side; action = action; value = v; end = (ask_ended told r b s.calls).end } ∷ [])) ((x.readings ++ q ∷ []) ++ reading_of (takes_reading told) r)
+  post_turn None st s b ws side action v r f next rest from x past ls c q before free sv sent le walks polls =
+      let l : TraceLine = record { side = side; action = action; value = v; end = end.Open } in let t : PlainState = record s { words = ws; ask = b } in
+      let same : calls_at s None x.readings ≡ calls_at t None x.readings = λ i. record (calls_at s None x.readings) { looks = sym f.looks i; space = sym f.space i } in
+      running past ls l x (q ∷ []) f.rests before
+          (posts_run c q (f.flies ∙ free) (subst (λ (z : Calls). Serves w limits calls x c z) same sv) (sent ∙ ap (λ (o : List ℕ). Some (sent_by c o q)) (sym f.space)) (subst (λ (z : Calls). earliest_at w limits calls z ≤ q) same le)
+              (subst (λ (o : List ℕ). Walks (posts_call w c o) (ls ++ l ∷ []) (ask_left b)) (sym f.space) (walks_to (posts_call w c s.ask.space) (rest_of (ask_left s.ask) v) (ask_left b) (ls ++ l ∷ []) rest (walks_more (posts_call w c s.ask.space) (ask_left s.ask) ls l walks next refl))) (f.budget ∙ polls))
+          refl (append-nil (x.readings ++ q ∷ []))
+  post_turn (Some Posted) st s b ws side action v r f next rest from x past ls c q before free sv sent le walks polls =
+      let l : TraceLine = record { side = side; action = action; value = v; end = end.Posted } in let t : PlainState = record s { words = ws; ask = b } in let y : Calls = calls_at s None x.readings in
+      turned from x (record (take_reading y q) { sent = Some (sent_by c y.space q); looks = 0 }) t past (ls ++ l ∷ []) (past ++ (ls ++ l ∷ [])) ((x.readings ++ q ∷ []) ++ []) f.rests before
+          (sends x y c q ls l sv refl le (record { rest = ask_left s.ask; walks = walks; last = next; ends = rest }) refl)
+          (λ i. record { ended = s.calls.ended; begun = s.calls.begun; looks = sym f.looks i; sent = sym sent i; space = sym f.space i; records = s.calls.records; readings = sym (append-nil (x.readings ++ q ∷ [])) i }) refl
+  post_turn (Some Clear) st s b ws side action v r f next rest from x past ls c q before free sv sent le walks polls = absurd (not_false s.ask.in_flight f.sure.1 free)
+  post_turn (Some (Drained e)) st s b ws side action v r f next rest from x past ls c q before free sv sent le walks polls = absurd (not_false s.ask.in_flight f.sure.1 free)
+
+  -- a look that saw the command incomplete
+  clear_turn : (last : Bool) (st : AskStage) (s : PlainState) (b : Ask) (ws : List ℕ) (side : Side) (action : Action) (v r : ℕ) (p : Sent) (k : CallBook) → s.calls ≡ record k { sent = Some p } → nat_eq b.looks b.budget ≡ last → b.looks ≤ b.budget → Fed st s.ask b (Some Clear) → next_of (ask_left s.ask) ≡ Some action → rest_of (ask_left s.ask) v ≡ ends sees_clear
+      → (from x : Calls) (past ls : List TraceLine) (c : Asked) → Turns w limits calls from past x → Serves w limits calls x c (calls_at s (Some p) x.readings) → Walks (look_run w) ls (ask_left s.ask) → s.ask.budget ≡ c.polls
+      → AskTie from (record s { words = ws; ask = b; calls = (clear_ended last b.looks (record k { sent = Some p })).calls }) (past ++ (ls ++ record { side = side; action = action; value = v; end = (clear_ended last b.looks (record k { sent = Some p })).end } ∷ [])) ((x.readings ++ []) ++ [])
+  clear_turn false st s b ws side action v r p k ek test left f next rest from x past ls c before sv walks polls =
+      let l : TraceLine = record { side = side; action = action; value = v; end = end.Clear b.looks } in let t : PlainState = record s { words = ws; ask = b; calls = record k { sent = Some p } } in let y : Calls = calls_at s (Some p) x.readings in
+      turned from x (record y { looks = y.looks + 1 }) t past (ls ++ l ∷ []) (past ++ (ls ++ l ∷ [])) ((x.readings ++ []) ++ []) f.rests before
+          (looks_on x y c p ls l sv refl (subst (λ (z : ℕ × ℕ). z.0 < z.1) (λ i. (f.looks i, (f.budget ∙ polls) i)) (below b.looks b.budget left test)) (record { rest = ask_left s.ask; walks = walks; last = next; ends = rest }) (ap (λ (n : ℕ). end.Clear n) f.looks))
+          (λ i. record { ended = (ek i).ended; begun = (ek i).begun; looks = sym f.looks i; sent = Some p; space = sym f.space i; records = (ek i).records; readings = (sym (append-nil x.readings) ∙ sym (append-nil (x.readings ++ []))) i }) refl
+  clear_turn true st s b ws side action v r p k ek test left f next rest from x past ls c before sv walks polls =
+      let l : TraceLine = record { side = side; action = action; value = v; end = given_up_end p.late b.looks } in let t : PlainState = record s { words = ws; ask = b; calls = call_ended (record k { sent = Some (record p { late = true }) }) } in let y : Calls = calls_at s (Some p) x.readings in
+      let full : y.looks + 1 ≡ c.polls = sym f.looks ∙ (level b.looks b.budget test ∙ (f.budget ∙ polls)) in
+      turned from x (end_call (record y { looks = y.looks + 1; sent = Some (record p { late = true }) })) t past (ls ++ l ∷ []) (past ++ (ls ++ l ∷ [])) ((x.readings ++ []) ++ []) f.rests before
+          (gives_up x y c p ls l sv refl full (record { rest = ask_left s.ask; walks = walks; last = next; ends = rest }) (ap (λ (n : ℕ). given_up_end p.late n) (f.looks ∙ full)))
+          (λ i. record { ended = (ek i).ended + 1; begun = false; looks = sym f.looks i; sent = Some (record p { late = true }); space = sym f.space i; records = (ek i).records; readings = (sym (append-nil x.readings) ∙ sym (append-nil (x.readings ++ []))) i }) refl
+
+  -- a look that took the reply
+  goes_on_at : (late : Bool) (y : Calls) (k : CallBook) (b : Ask) (rs : List ℕ) (s : PlainState) → y ≡ record { ended = k.ended; begun = k.begun; looks = b.looks; sent = None; space = b.space; records = k.records; readings = rs } → k.sent ≡ None → goes_on_if late y ≡ calls_at (record s { ask = b; calls = drained_calls late k }) (drained_calls late k).sent rs
+  goes_on_at true y k b rs s e n = e ∙ ap (λ (o : Option Sent). record { ended = k.ended; begun = k.begun; looks = b.looks; sent = o; space = b.space; records = k.records; readings = rs }) (sym n)
+  goes_on_at false y k b rs s e n = ap end_call e ∙ ap (λ (o : Option Sent). record { ended = k.ended + 1; begun = false; looks = b.looks; sent = o; space = b.space; records = k.records; readings = rs }) (sym n)
+
+  drain_turn : (st : AskStage) (s : PlainState) (b : Ask) (ws : List ℕ) (side : Side) (action : Action) (v r : ℕ) (e : Bool) (p : Sent) (k : CallBook) → s.calls ≡ record k { sent = Some p } → Fed st s.ask b (Some (Drained e)) → b.wiring ≡ w → next_of (ask_left s.ask) ≡ Some action → rest_of (ask_left s.ask) v ≡ ends (drains e b.shown)
+      → (from x : Calls) (past ls : List TraceLine) (c : Asked) → Turns w limits calls from past x → Serves w limits calls x c (calls_at s (Some p) x.readings) → Walks (look_run w) ls (ask_left s.ask)
+      → AskTie from (record s { words = ws; ask = b; calls = (drain_ended e b.space r (record k { sent = Some p })).calls }) (past ++ (ls ++ record { side = side; action = action; value = v; end = (drain_ended e b.space r (record k { sent = Some p })).end } ∷ [])) ((x.readings ++ []) ++ r ∷ [])
+  drain_turn st s b ws side action v r e p k ek f wired next rest from x past ls c before sv walks =
+      let l : TraceLine = record { side = side; action = action; value = v; end = drained_end p.late e } in let y : Calls = calls_at s (Some p) x.readings in
+      let d : CallBook = record k { records = k.records ++ record_of p e b.space r ∷ []; sent = None } in let t : PlainState = record s { words = ws; ask = b; calls = drained_calls p.late d } in
+      let out : replied w b.shown ≡ b.space = ap (λ (w : Wiring). replied w b.shown) (sym wired) ∙ sym f.space in
+      turned from x (goes_on_if p.late (record (take_reading y r) { sent = None; space = replied w b.shown; records = y.records ++ record_of p e (replied w b.shown) r ∷ [] })) t past (ls ++ l ∷ []) (past ++ (ls ++ l ∷ [])) ((x.readings ++ []) ++ r ∷ []) f.rests before
+          (takes x y c p r e b.shown ls l sv refl (record { rest = ask_left s.ask; walks = walks; last = next; ends = rest }) refl)
+          (goes_on_at p.late (record (take_reading y r) { sent = None; space = replied w b.shown; records = y.records ++ record_of p e (replied w b.shown) r ∷ [] }) d b ((x.readings ++ []) ++ r ∷ []) (record s { words = ws })
+              (λ i. record { ended = (ek i).ended; begun = (ek i).begun; looks = sym f.looks i; sent = None; space = out i; records = (ek i).records ++ record_of p e (out i) r ∷ []; readings = sym (append-nil x.readings) i ++ r ∷ [] }) refl) refl
+
+  -- the step of a look
+  look_turn : (told : Option AskOutcome) (st : AskStage) (s : PlainState) (b : Ask) (ws : List ℕ) (side : Side) (action : Action) (v r : ℕ) (p : Sent) (k : CallBook) → s.calls ≡ record k { sent = Some p } → Fed st s.ask b told → b.looks ≤ b.budget → b.wiring ≡ w → next_of (ask_left s.ask) ≡ Some action → rest_of (ask_left s.ask) v ≡ ask_after told b
+      → (from x : Calls) (past ls : List TraceLine) (c : Asked) → Turns w limits calls from past x → s.ask.in_flight ≡ true → Serves w limits calls x c (calls_at s (Some p) x.readings) → Walks (look_run w) ls (ask_left s.ask) → s.ask.budget ≡ c.polls
+      → AskTie from (record s { words = ws; ask = b; calls = (ask_ended told r b (record k { sent = Some p })).calls }) (past ++ (ls ++ record { side = side; action = action; value = v; end = (ask_ended told r b (record k { sent = Some p })).end } ∷ [])) ((x.readings ++ []) ++ reading_of (takes_reading told) r)
+  look_turn None st s b ws side action v r p k ek f left wired next rest from x past ls c before flies sv walks polls =
+      let l : TraceLine = record { side = side; action = action; value = v; end = end.Open } in let t : PlainState = record s { words = ws; ask = b; calls = record k { sent = Some p } } in
+      let same : calls_at s (Some p) x.readings ≡ calls_at t (Some p) x.readings = λ i. record { ended = (ek i).ended; begun = (ek i).begun; looks = sym f.looks i; sent = Some p; space = sym f.space i; records = (ek i).records; readings = x.readings } in
+      running past ls l x [] f.rests before
+          (looks_run c p (f.flies ∙ flies) (subst (λ (z : Calls). Serves w limits calls x c z) same sv) refl
+              (walks_to (look_run w) (rest_of (ask_left s.ask) v) (ask_left b) (ls ++ l ∷ []) rest (walks_more (look_run w) (ask_left s.ask) ls l walks next refl)) (f.budget ∙ polls))
+          refl (append-nil (x.readings ++ []))
+  look_turn (Some Posted) st s b ws side action v r p k ek f left wired next rest from x past ls c before flies sv walks polls = absurd (not_false s.ask.in_flight flies f.sure.1)
+  look_turn (Some Clear) st s b ws side action v r p k ek f left wired next rest from x past ls c before flies sv walks polls = clear_turn (nat_eq b.looks b.budget) st s b ws side action v r p k ek refl left f next rest from x past ls c before sv walks polls
+  look_turn (Some (Drained e)) st s b ws side action v r p k ek f left wired next rest from x past ls c before flies sv walks polls = drain_turn st s b ws side action v r e p k ek f wired next rest from x past ls c before sv walks
+
+  -- a step of a run that is under way
+  pub run_turn : (told : Option AskOutcome) (st : AskStage) (s : PlainState) (b : Ask) (ws : List ℕ) (side : Side) (action : Action) (v r : ℕ) → Fed st s.ask b told → b.looks ≤ b.budget → b.wiring ≡ w → next_of (ask_left s.ask) ≡ Some action → rest_of (ask_left s.ask) v ≡ ask_after told b
+      → (from x : Calls) (past ls : List TraceLine) (taken : List ℕ) → Turns w limits calls from past x → Running s x ls taken
+      → AskTie from (record s { words = ws; ask = b; calls = (ask_ended told r b s.calls).calls }) (past ++ (ls ++ record { side = side; action = action; value = v; end = (ask_ended told r b s.calls).end } ∷ [])) ((x.readings ++ taken) ++ reading_of (takes_reading told) r)
+  run_turn told st s b ws side action v r f left wired next rest from x past ls taken before (posts_run c q free sv sent le walks polls) = post_turn told st s b ws side action v r f next rest from x past ls c q before free sv sent le walks polls
+  run_turn told st s b ws side action v r f left wired next rest from x past ls taken before (looks_run c p flies sv sent walks polls) =
+      let ek : s.calls ≡ record s.calls { sent = Some p } = ap (λ (o : Option Sent). record s.calls { sent = o }) sent in
+      subst (λ (k : CallBook). AskTie from (record s { words = ws; ask = b; calls = (ask_ended told r b k).calls }) (past ++ (ls ++ record { side = side; action = action; value = v; end = (ask_ended told r b k).end } ∷ [])) ((x.readings ++ []) ++ reading_of (takes_reading told) r)) (sym ek)
+          (look_turn told st s b ws side action v r p s.calls ek f left wired next rest from x past ls c before flies (subst (λ (o : Option Sent). Serves w limits calls x c (calls_at s o x.readings)) sent sv) walks polls)
