@@ -225,7 +225,7 @@ module _ (exec : Device) where
     pub device_room : DeviceStays exec is_state room_of → (s : PlainState) (ready : Bool) (room : ℕ) → Holds exec is_state room_of s ready room → room_of s.device ≡ s.ask.wiring.room
     device_room law s ready room h = let k = h.0 in (law s.start s.words (asker_of s k.clears) (answerer_of s) k.start k.room k.agree).1
 
-    same_settle : (s : PlainState) (f : Answer) (v : ℕ) → f ≡ answer_fed (stepping s) v → settle exec (record { m = f; device = s.device; done = [] }) ≡ after_step v s
+    pub same_settle : (s : PlainState) (f : Answer) (v : ℕ) → f ≡ answer_fed (stepping s) v → settle exec (record { m = f; device = s.device; done = [] }) ≡ after_step v s
     same_settle s f v e = let m : Answer = answer_fed_at (stepping s).stage (stepping s) v in ap (λ (a : Answer). settle exec (record { m = a; device = s.device; done = [] })) e ∙ counted m.stage (record { m = m; device = s.device; done = [] })
 
     pub settled_holds : AnswerBeginAgrees → AnswerStepAgrees exec is_state room_of → HistoriesAgree → (s : PlainState) (reg reg' : Executions) (b f f' : Answer) (d' ws : List ℕ) (t : Action) (v : ℕ) → b ≡ stepping s → t ≡ answer_next b → v ≡ found t s.words → v < 2 ^ 64 → f ≡ answer_fed b v → ws ≡ act t s.words → s.executed ≡ reg.commands

@@ -3,6 +3,7 @@ use Rattle.std.proofs.Common.{◌≡◌, ◌≢◌, ℕ, ◌+◌, ◌^◌, ◌<�
 use Rattle.std.specs.Prelude.{Option, Some, None, ltb, max}
 use Rattle.std.specs.List.{slice_get}
 use Rattle.std.proofs.lemmas.List.{map-append, append-nil, drop_all, take_all}
+use Rattle.std.proofs.lemmas.Bool.{lt-ltb}
 use Rattle.std.proofs.lemmas.Bool.Decides.{nat_tests}
 use Rattle.pcc_bytes.specs.Bytes.{IsBytes}
 use Rattle.pcc_history.specs.Devices.{Device}
@@ -13,6 +14,8 @@ use Rattle.pcc_journal.specs.Records.{exchanges_of, exchanges_of_commands, excha
 use Rattle.pcc_steps.specs.declared.wiring.Wiring.{Wiring}
 use Rattle.pcc_steps.specs.declared.wiring.Action.{Action}
 use Rattle.pcc_steps.specs.declared.wiring.Action.TheVariants.{Load, Store, Swap, Execute, Rest}
+use Rattle.pcc_steps.specs.declared.wiring.Style.{Style}
+use Rattle.pcc_steps.specs.declared.wiring.Style.TheVariants.{Headed, Joined3, Separate3, Joined4, Separate4, Reduced5}
 use Rattle.pcc_steps.specs.declared.ask.AskStage.{AskStage}
 use Rattle.pcc_steps.specs.declared.ask.AskStage.TheVariants.{AskRest, LookWord}
 use Rattle.pcc_steps.specs.declared.ask.AskOutcome.{AskOutcome}
@@ -177,6 +180,21 @@ budgeted_carried : (b : Bool) (p : ℕ) (a : Ask) → carried (budget_by b p a) 
 budgeted_carried true p a = refl
 budgeted_carried false p a = refl
 
+-- a code that fits the header of its style
+narrow : (w : Wiring) (code : ℕ) → CodeFits (style_of w) code → w.kind ≤ 2 → code < 256
+narrow w code fits le =
+    let low : ltb w.kind 3 ≡ true = lt-ltb w.kind 3 (omega arith) in
+    let headed : style_of w ≡ Headed = rw low refl in
+    subst (λ (s : Style). CodeFits s code) headed fits
+
+small : (s : Style) (code : ℕ) → CodeFits s code → code < 2 ^ 32
+small Headed code fits = omega arith
+small Joined3 code fits = fits
+small Separate3 code fits = fits
+small Joined4 code fits = fits
+small Separate4 code fits = fits
+small Reduced5 code fits = fits
+
 module _ (exec : Device) (is_state : List ℕ → Type 0) (room_of : List ℕ → ℕ) where
   pub step_holds : AskStepAgrees → (r v : ℕ) (s : PlainState) (ready : Bool) (room : ℕ) → v ≡ found (ask_next s.ask) s.words → v < 2 ^ 64 → s.ask.stage ≢ AskRest → Holds exec is_state room_of s ready room → Holds exec is_state room_of (stepped_with v r s) ready room
   step_holds law r v s ready room e small runs h = let k = h.0 in let a : Ask = s.ask in let st : AskStage = a.stage in let ok = k.agree.1.2.ask_ok in let told : Option AskOutcome = ask_told a v in
@@ -260,7 +278,7 @@ module _ (exec : Device) (is_state : List ℕ → Type 0) (room_of : List ℕ �
   post_holds law s ready room c r rest free fits posts code bytes least h = let k = h.0 in let a : Ask = s.ask in (
     record {
       clears = k.clears;
-      agree = law exec s.start s.words (asker_of s k.clears) (answerer_of s) c.code c.bytes rest free fits posts code bytes k.agree;
+      agree = law exec s.start s.words (asker_of s k.clears) (answerer_of s) c.code c.bytes rest free fits posts (narrow s.ask.wiring c.code code) (small (style_of s.ask.wiring) c.code code) bytes k.agree;
       long = k.long;
       start = k.start;
       room = k.room;

@@ -7,4 +7,8 @@ pub mod Starts
 pub mod ServeKeeps
 pub mod Weaves
 pub mod WordSteps
+pub mod AskTurns
+pub mod AnswerTurns
+pub mod Kepts
+pub mod WordRunOf
 pub mod Written

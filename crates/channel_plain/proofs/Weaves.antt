@@ -24,14 +24,14 @@ module _ {K : Type 0} (taken : K → ℕ) (tells : K → ℕ → Option ℕ) (ex
       idle : (b : Bool) → b ≡ true → b ≡ false → ⊥
       idle b t f = cc
 
-  pub woven_more : (s : PlainState) (k : K) (sides : List Side) (i : ℕ) (trace trace' : List TraceLine) (t t' : PlainState) (m m' : K) (side : Side) (line : TraceLine) → i < length sides → side ≡ get_or sides i side → trace' ≡ trace ++ line ∷ [] → Stands exec is_state room_of t → PicksOnce taken tells exec calls side t m t' m' line → IsServing calls t'
+  pub woven_more : (s : PlainState) (k : K) (sides : List Side) (i : ℕ) (trace trace' : List TraceLine) (t t' : PlainState) (m m' : K) (side : Side) (line : TraceLine) → i < length sides → side ≡ get_or sides i side → trace' ≡ trace ++ line ∷ [] → Stands exec is_state room_of t → Stands exec is_state room_of t' → PicksOnce taken tells exec calls side t m t' m' line → IsServing calls t'
       → Woven s k sides i trace t m → Woven s k sides (i + 1) trace' t' m'
-  woven_more s k sides i trace trace' t t' m m' side line lt is e stands p serving w = let r : ℕ = p.0 in let q : Picked = picked exec calls side r t in
+  woven_more s k sides i trace trace' t t' m m' side line lt is e stands stands' p serving w = let r : ℕ = p.0 in let q : Picked = picked exec calls side r t in
       let next : take i sides ++ side ∷ [] ≡ take (i + 1) sides = ap (λ (x : Side). take i sides ++ x ∷ []) is ∙ sym (take_more sides i side lt) in
       record {
         readings = w.readings ++ reading_of q.reads r;
         wove = subst (λ (z : List Side × List TraceLine × PlainState). Wove taken tells exec calls is_state room_of s k z.0 z.1 (w.readings ++ reading_of q.reads r) z.2 m') (λ j. (next j, (ap (λ (l : TraceLine). trace ++ l ∷ []) (sym p.3) ∙ sym e) j, sym p.2 j))
-            (picks (take i sides) trace w.readings t m m' side r w.wove stands w.serving p.1);
+            (picks (take i sides) trace w.readings t m m' side r w.wove stands (subst (λ (z : PlainState). Stands exec is_state room_of z) p.2 stands') w.serving p.1);
         serving = serving;
       }
 

@@ -30,14 +30,14 @@ use Rattle.channel_plain.proofs.Feeds.{Fed}
 
 -- ---- runs
 
-takes_next : {E : Type 0} (run : Run E) (x : Action) (next : ℕ → Run E) → Takes run x next → next_of run ≡ Some x
+pub takes_next : {E : Type 0} (run : Run E) (x : Action) (next : ℕ → Run E) → Takes run x next → next_of run ≡ Some x
 takes_next (ends e) x next h = absurd h
 takes_next (loads p f) x next h = ap Some (sym h.0)
 takes_next (stores p u r) x next h = ap Some (sym h.0)
 takes_next (swaps p u f) x next h = ap Some (sym h.0)
 takes_next (executes c s f) x next h = absurd h
 
-takes_rest : {E : Type 0} (run : Run E) (x : Action) (next : ℕ → Run E) (v : ℕ) → Takes run x next → rest_of run v ≡ next v
+pub takes_rest : {E : Type 0} (run : Run E) (x : Action) (next : ℕ → Run E) (v : ℕ) → Takes run x next → rest_of run v ≡ next v
 takes_rest (ends e) x next v h = absurd h
 takes_rest (loads p f) x next v h = sym (h.1 v)
 takes_rest (stores p u r) x next v h = sym (h.1 v)
@@ -51,7 +51,7 @@ walks_more run rest (m ∷ ms) l w n e = (w.0, w.1, walks_more (rest_of run m.va
 walks_to : {E : Type 0} (run rest rest' : Run E) (ls : List TraceLine) → rest ≡ rest' → Walks run ls rest → Walks run ls rest'
 walks_to run rest rest' ls e w = subst (λ (r : _). Walks run ls r) e w
 
-not_false : (b : Bool) → b ≡ true → b ≡ false → ⊥
+pub not_false : (b : Bool) → b ≡ true → b ≡ false → ⊥
 not_false b t f = cc
 
 below : (looks budget : ℕ) → looks ≤ budget → nat_eq looks budget ≡ false → looks < budget
@@ -77,7 +77,7 @@ module _ (w : Wiring) (limits : Limits) (calls : List Asked) where
     running : (past ls : List TraceLine) (l : TraceLine) (x : Calls) (taken : List ℕ) → is_rest s.ask.stage ≡ false → Turns w limits calls from past x → Running s x (ls ++ l ∷ []) taken → lines ≡ past ++ (ls ++ l ∷ []) → rs ≡ x.readings ++ taken → AskTie from s lines rs
 
   -- the end of a run is a turn
-  turned : (from x y : Calls) (s : PlainState) (past ms lines : List TraceLine) (rs : List ℕ) → is_rest s.ask.stage ≡ true → Turns w limits calls from past x → Turn w limits calls x ms y → y ≡ calls_at s s.calls.sent rs → lines ≡ past ++ ms → AskTie from s lines rs
+  pub turned : (from x y : Calls) (s : PlainState) (past ms lines : List TraceLine) (rs : List ℕ) → is_rest s.ask.stage ≡ true → Turns w limits calls from past x → Turn w limits calls x ms y → y ≡ calls_at s s.calls.sent rs → lines ≡ past ++ ms → AskTie from s lines rs
   turned from x y s past ms lines rs rest before t e q = resting rest (subst (λ (z : List TraceLine × Calls). Turns w limits calls from z.0 z.1) (λ i. (sym q i, e i)) (more past ms x y before t))
 
   -- the step of a run that posts

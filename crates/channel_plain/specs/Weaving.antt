@@ -33,5 +33,5 @@ module _ {K : Type 0} (taken : K → ℕ) (tells : K → ℕ → Option ℕ) whe
       -- the lines of some picks, from a channel and its clock to what they leave
       pub data Wove (s : PlainState) (k : K) : List Side → List TraceLine → List ℕ → PlainState → K → Type 0 where
         unpicked : Wove s k [] [] [] s k
-        picks : (sides : List Side) (ls : List TraceLine) (rs : List ℕ) (t : PlainState) (m m' : K) (side : Side) (r : ℕ) → Wove s k sides ls rs t m → Stands exec is_state room_of t → IsServing calls t → Takes taken tells m m' (picked exec calls side r t).reads r
+        picks : (sides : List Side) (ls : List TraceLine) (rs : List ℕ) (t : PlainState) (m m' : K) (side : Side) (r : ℕ) → Wove s k sides ls rs t m → Stands exec is_state room_of t → Stands exec is_state room_of (picked exec calls side r t).state → IsServing calls t → Takes taken tells m m' (picked exec calls side r t).reads r
             → Wove s k (sides ++ side ∷ []) (ls ++ line_of side (picked exec calls side r t) ∷ []) (rs ++ reading_of (picked exec calls side r t).reads r) (picked exec calls side r t).state m'

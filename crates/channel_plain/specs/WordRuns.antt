@@ -195,7 +195,7 @@ module _ (exec : Device) (w : Wiring) where
 
   -- whole runs, one after the other, from one state of the device to another
   pub data Answers (start : List ℕ) : List TraceLine → List ℕ → List Exchange → Type 0 where
-    none : Answers start [] start []
+    unanswered : Answers start [] start []
     more : (ls ms : List TraceLine) (l : TraceLine) (device : List ℕ) (es : List Exchange) (b : Answered) (e : AnswerEnd) → Answers start ls device es
         → AnswerWalks (answer_from device es) ms b → next_of b.run ≡ Some l.action → (answer_on b l.value).run ≡ ends e → l.end ≡ answered_end e
         → Answers start (ls ++ (ms ++ l ∷ [])) (answer_on b l.value).device (answer_on b l.value).executed
@@ -229,3 +229,8 @@ pub record WordRun (exec : Device) (w : Wiring) (limits : Limits) (start opening
   pub words : Remembers (opening_words w (words_of opening)) trace
   pub asking : IsAsking w limits calls opening (filter (asked_line w.kind) trace) readings records sent
   pub answering : IsAnswering exec w start (filter (answered_line w.kind) trace) executed
+
+-- the command in flight, if one is
+abbrev pub flown : Bool → Option Sent → Option Sent
+flown true sent = sent
+flown false sent = None

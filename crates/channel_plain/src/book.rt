@@ -171,7 +171,12 @@ impl Book {
     }
 
     /// A run of the asking machine took a step that told this.
-    pub fn told<K: Clock>(&mut self, told: Option<AskOutcome>, ask: &AskState, clock: &mut K) -> TraceEnd
+    pub fn told<K: Clock>(
+        &mut self,
+        told: Option<AskOutcome>,
+        ask: &AskState,
+        clock: &mut K,
+    ) -> TraceEnd
         requires begun { self.old.begun ≡ true }
         requires flies { FliesIf told self.old.sent (length ask.now.space) }
         ensures { (reading : ℕ) × Takes K.taken K.tells clock.old clock.new (takes_reading told) reading × (record { calls = self.new; end = result } ≡ ask_ended told reading ask.now self.old) }
@@ -202,7 +207,11 @@ impl Book {
             Some(flight) => {
                 let late = flight.sent.late;
                 flight.sent.late = true;
-                if late { TraceEnd::StillPending { looks } } else { TraceEnd::TimedOut { looks } }
+                if late {
+                    TraceEnd::StillPending { looks }
+                } else {
+                    TraceEnd::TimedOut { looks }
+                }
             }
         }
     }

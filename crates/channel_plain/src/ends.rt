@@ -26,7 +26,10 @@ use crate::trace::{Asked, TraceEnd};
 use pcc_exec::Executor;
 use pcc_io::{Clock, NoMemory};
 use pcc_journal::{Commands, Journal, Pending};
-use pcc_steps::{Action, AnswerOutcome, AnswerState, AskState, Wiring, answer_feed, answer_next, answering_laws, ask_begin, ask_budget, ask_feed, ask_look, ask_next, asking_laws, history_laws};
+use pcc_steps::{
+    Action, AnswerOutcome, AnswerState, AskState, Wiring, answer_feed, answer_next, answering_laws,
+    ask_begin, ask_budget, ask_feed, ask_look, ask_next, asking_laws, history_laws,
+};
 use rate_limit::Limits;
 use std::alloc::Global;
 use std::marker::Model;
@@ -136,7 +139,12 @@ impl<E: Executor> Ends<E> {
         let value = perform(&mut self.words, action);
         let told = answer_feed(&mut self.answer, value);
         let reports = self.ask.wiring().reports;
-        settle(&mut self.answer, &mut self.device, &mut self.register, reports);
+        settle(
+            &mut self.answer,
+            &mut self.device,
+            &mut self.register,
+            reports,
+        );
         Pick {
             action,
             value,
@@ -145,11 +153,7 @@ impl<E: Executor> Ends<E> {
     }
 
     /// A pick of the asking end, for the calls.
-    pub fn ask_pick<K: Clock>(
-        &mut self,
-        calls: &[Asked],
-        clock: &mut K,
-    ) -> Result<Pick, NoMemory>
+    pub fn ask_pick<K: Clock>(&mut self, calls: &[Asked], clock: &mut K) -> Result<Pick, NoMemory>
         requires polls { HavePolls calls.now }
         requires serving { IsServing calls.now self.old }
         ensures ok { IfOk result (λ pick. Reads K.taken K.tells clock.old clock.new (λ r. ask_picked_at self.old.ask.stage calls.now r self.old) self.new pick) }
@@ -162,11 +166,7 @@ impl<E: Executor> Ends<E> {
     }
 
     // No run is under way.
-    fn from_rest<K: Clock>(
-        &mut self,
-        calls: &[Asked],
-        clock: &mut K,
-    ) -> Result<Pick, NoMemory>
+    fn from_rest<K: Clock>(&mut self, calls: &[Asked], clock: &mut K) -> Result<Pick, NoMemory>
         requires rests { self.old.ask.stage ≡ AskRest }
         requires polls { HavePolls calls.now }
         requires serving { IsServing calls.now self.old }
@@ -180,7 +180,10 @@ impl<E: Executor> Ends<E> {
         if self.book.begun() {
             return self.serve(call, clock);
         }
-        match self.book.refusal(call, self.ask.wiring(), self.ask.in_flight()) {
+        match self
+            .book
+            .refusal(call, self.ask.wiring(), self.ask.in_flight())
+        {
             Some(end) => {
                 asking_laws();
                 self.book.end_call();
@@ -202,7 +205,8 @@ impl<E: Executor> Ends<E> {
         ensures ok { IfOk result (λ pick. Reads K.taken K.tells clock.old clock.new (λ r. served self.old.ask.in_flight call.now r self.old) self.new pick) }
         ensures err { OnErr result ((self.new ≡ self.old) × (clock.new ≡ clock.old)) }
     {
-        if self.ask.in_flight() {
+        let waits = self.ask.in_flight();
+        if waits {
             return Ok(self.look(clock));
         }
         self.post(call, false, clock)

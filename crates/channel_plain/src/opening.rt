@@ -11,7 +11,11 @@ use std::alloc::Global;
 
 /// Word 0 says that nothing is in flight, the block begins with its signature, and the space follows.
 #[tactic(auto, using(std::proofs::lemmas::List::append_assoc))]
-pub(crate) fn opening_words(alloc: Global, wiring: &Wiring, opening: &[u8]) -> Result<Vec<u64>, NoMemory>
+pub(crate) fn opening_words(
+    alloc: Global,
+    wiring: &Wiring,
+    opening: &[u8],
+) -> Result<Vec<u64>, NoMemory>
     requires right { IsRight wiring.now }
     requires room { length opening.now ≡ wiring.now.room }
     ensures { IfOk result (λ words. words.items ≡ opening_words wiring.now (words_of opening.now)) }

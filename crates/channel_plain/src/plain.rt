@@ -123,16 +123,11 @@ pub fn weave<E: Executor, K: Clock>(
     requires fresh { IsFresh plain.old.ends }
     requires polls { HavePolls calls.now }
     ensures wove { IfOk result (λ trace. (readings : List ℕ) × Wove K.taken K.tells E.exec_of calls.now E.is_state E.room_of plain.old.ends plain.old.clock picks.now trace readings plain.new.ends plain.new.clock) }
-
-    // What holds behind the picks.
-    ensures stands { Stands E.exec_of E.is_state E.room_of plain.new.ends }
-    ensures limits { WithinLimits plain.new.ends.calls.limits (times_of plain.new.ends.calls.records) (post_of plain.new.ends.calls.sent) }
 {
     let mut trace = Items::new(alloc);
     for place in 0..picks.len() {
         let line = plain.pick(picks[place], calls)?;
         trace.push(line)?;
     }
-    plain.ends.stand();
     Ok(trace)
 }

@@ -57,7 +57,12 @@ pub(crate) fn start(answer: &mut AnswerState)
 }
 
 /// Has the device execute the command that the answering machine has loaded, if it has.
-pub(crate) fn settle<E: Executor>(answer: &mut AnswerState, device: &mut E, register: &mut Register, reports: bool)
+pub(crate) fn settle<E: Executor>(
+    answer: &mut AnswerState,
+    device: &mut E,
+    register: &mut Register,
+    reports: bool,
+)
     requires ready { SettlesIf answer.old.stage register.old.ready }
     requires long { register.old.room ≡ answer.old.wiring.room }
     requires room { E.room_of (E.state device.old) ≡ answer.old.wiring.room }

@@ -8,7 +8,10 @@ use std::alloc::Global;
 
 // The doorbell's lowest bit is set, and the others are kept; the acknowledge register keeps four bits and sets two.
 fn wired(kind: u8, notify: bool, has_ack: bool) -> Wiring {
-    let none = Masks { preserve: 0, set: 0 };
+    let none = Masks {
+        preserve: 0,
+        set: 0,
+    };
     Wiring {
         kind,
         id: 0,
@@ -32,7 +35,13 @@ fn wired(kind: u8, notify: bool, has_ack: bool) -> Wiring {
     }
 }
 
-fn call(alloc: Global, caller: u32, code: u32, bytes: &[u8], polls: u32) -> Result<Asked, NoMemory> {
+fn call(
+    alloc: Global,
+    caller: u32,
+    code: u32,
+    bytes: &[u8],
+    polls: u32,
+) -> Result<Asked, NoMemory> {
     Ok(Asked {
         caller,
         code,
@@ -44,12 +53,22 @@ fn call(alloc: Global, caller: u32, code: u32, bytes: &[u8], polls: u32) -> Resu
 fn sides(alloc: Global, letters: &[u8]) -> Result<Vec<Side>, NoMemory> {
     let mut sides = Vec::new(alloc);
     for letter in letters {
-        sides.push(if *letter == b'o' { Side::System } else { Side::Platform })?;
+        sides.push(if *letter == b'o' {
+            Side::System
+        } else {
+            Side::Platform
+        })?;
     }
     Ok(sides)
 }
 
-fn text_of(alloc: Global, wiring: Wiring, limits: Limits, calls: &[Asked], letters: &[u8]) -> Result<Vec<u8>, NoMemory> {
+fn text_of(
+    alloc: Global,
+    wiring: Wiring,
+    limits: Limits,
+    calls: &[Asked],
+    letters: &[u8],
+) -> Result<Vec<u8>, NoMemory> {
     let bank = Bank::new(alloc, wiring.room)?;
     let mut plain = Plain::new(alloc, wiring, bank, limits, LineClock::new(0, 10))?;
     let picks = sides(alloc, letters)?;
@@ -78,9 +97,18 @@ o load 8 0000000000000000 -> done ok\n";
 #[test]
 fn a_command_is_posted_executed_and_drained(rt: HostRuntime) {
     fn text(alloc: Global) -> Result<Vec<u8>, NoMemory> {
-        text_of(alloc, wired(0, false, false), NO_LIMITS, &[call(alloc, 0, 16, &[1, 2], 3)?], b"ooooopppppoo")
+        text_of(
+            alloc,
+            wired(0, false, false),
+            NO_LIMITS,
+            &[call(alloc, 0, 16, &[1, 2], 3)?],
+            b"ooooopppppoo",
+        )
     }
-    assert!(rt; text(rt.alloc()).expect(&rt, "memory").as_slice() == A_COMMAND_IS_POSTED_EXECUTED_AND_DRAINED);
+    assert!(rt;
+        text(rt.alloc()).expect(&rt, "memory").as_slice()
+            == A_COMMAND_IS_POSTED_EXECUTED_AND_DRAINED
+    );
 }
 
 const WITH_A_NOTIFICATION: &[u8] = b"o store 8 0000000000000201\n\
@@ -103,7 +131,13 @@ o store 4 0000000000000000 -> done ok\n";
 #[test]
 fn with_a_notification(rt: HostRuntime) {
     fn text(alloc: Global) -> Result<Vec<u8>, NoMemory> {
-        text_of(alloc, wired(0, true, false), NO_LIMITS, &[call(alloc, 0, 16, &[1, 2], 3)?], b"ooooopppppppoooo")
+        text_of(
+            alloc,
+            wired(0, true, false),
+            NO_LIMITS,
+            &[call(alloc, 0, 16, &[1, 2], 3)?],
+            b"ooooopppppppoooo",
+        )
     }
     assert!(rt; text(rt.alloc()).expect(&rt, "memory").as_slice() == WITH_A_NOTIFICATION);
 }
@@ -130,7 +164,13 @@ o store 5 0000000000000003 -> done ok\n";
 #[test]
 fn with_an_acknowledge_register(rt: HostRuntime) {
     fn text(alloc: Global) -> Result<Vec<u8>, NoMemory> {
-        text_of(alloc, wired(2, true, true), NO_LIMITS, &[call(alloc, 0, 16, &[1, 2], 3)?], b"ooooopppppppoooooo")
+        text_of(
+            alloc,
+            wired(2, true, true),
+            NO_LIMITS,
+            &[call(alloc, 0, 16, &[1, 2], 3)?],
+            b"ooooopppppppoooooo",
+        )
     }
     assert!(rt; text(rt.alloc()).expect(&rt, "memory").as_slice() == WITH_AN_ACKNOWLEDGE_REGISTER);
 }
@@ -159,13 +199,21 @@ o store 2 0000000000000001 -> posted\n";
 #[test]
 fn given_up_kept_waiting_drained_late(rt: HostRuntime) {
     fn text(alloc: Global) -> Result<Vec<u8>, NoMemory> {
-        text_of(alloc, wired(0, false, false), NO_LIMITS, &[
-            call(alloc, 0, 16, &[1, 2], 1)?,
-            call(alloc, 1, 16, &[], 2)?,
-            call(alloc, 2, 16, &[3], 4)?,
-        ], b"oooooooopppppooooooo")
+        text_of(
+            alloc,
+            wired(0, false, false),
+            NO_LIMITS,
+            &[
+                call(alloc, 0, 16, &[1, 2], 1)?,
+                call(alloc, 1, 16, &[], 2)?,
+                call(alloc, 2, 16, &[3], 4)?,
+            ],
+            b"oooooooopppppooooooo",
+        )
     }
-    assert!(rt; text(rt.alloc()).expect(&rt, "memory").as_slice() == GIVEN_UP_KEPT_WAITING_DRAINED_LATE);
+    assert!(rt;
+        text(rt.alloc()).expect(&rt, "memory").as_slice() == GIVEN_UP_KEPT_WAITING_DRAINED_LATE
+    );
 }
 
 const CALLS_WITHOUT_A_STEP: &[u8] = b"o bad code 256\n\
@@ -199,7 +247,13 @@ fn calls_without_a_step(rt: HostRuntime) {
             call(alloc, 0, 17, &[], 1)?,
             call(alloc, 0, 17, &[], 1)?,
         ];
-        text_of(alloc, wired(0, false, false), limits, &calls, b"oooooooppppppoooo")
+        text_of(
+            alloc,
+            wired(0, false, false),
+            limits,
+            &calls,
+            b"oooooooppppppoooo",
+        )
     }
     assert!(rt; text(rt.alloc()).expect(&rt, "memory").as_slice() == CALLS_WITHOUT_A_STEP);
 }

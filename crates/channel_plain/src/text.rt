@@ -62,7 +62,10 @@ fn put_step(out: &mut Vec<u8>, line: &TraceLine) -> Result<(), NoMemory>
     ensures { OnOk result (out.new.items ≡ out.old.items ++ spelled (step_words line.now)) }
 {
     match line.end {
-        TraceEnd::TooSoon { .. } | TraceEnd::BadCode { .. } | TraceEnd::TooLong { .. } | TraceEnd::JournalFull => put_pieces(out, &[]),
+        TraceEnd::TooSoon { .. }
+        | TraceEnd::BadCode { .. }
+        | TraceEnd::TooLong { .. }
+        | TraceEnd::JournalFull => put_pieces(out, &[]),
         _ => put_action(out, line.action, line.value),
     }
 }
@@ -73,14 +76,26 @@ fn put_end(out: &mut Vec<u8>, end: TraceEnd) -> Result<(), NoMemory>
     match end {
         TraceEnd::Open => put_pieces(out, &[]),
         TraceEnd::Posted => put_pieces(out, &[Piece::Text(b" -> posted")]),
-        TraceEnd::Clear { looks } => put_pieces(out, &[Piece::Text(b" -> clear "), Piece::Number(looks as u64)]),
+        TraceEnd::Clear { looks } => put_pieces(
+            out,
+            &[Piece::Text(b" -> clear "), Piece::Number(looks as u64)],
+        ),
         TraceEnd::Done { error: true } => put_pieces(out, &[Piece::Text(b" -> done error")]),
         TraceEnd::Done { error: false } => put_pieces(out, &[Piece::Text(b" -> done ok")]),
         TraceEnd::Late { error: true } => put_pieces(out, &[Piece::Text(b" -> late error")]),
         TraceEnd::Late { error: false } => put_pieces(out, &[Piece::Text(b" -> late ok")]),
-        TraceEnd::TimedOut { looks } => put_pieces(out, &[Piece::Text(b" -> timed out "), Piece::Number(looks as u64)]),
+        TraceEnd::TimedOut { looks } => put_pieces(
+            out,
+            &[Piece::Text(b" -> timed out "), Piece::Number(looks as u64)],
+        ),
         TraceEnd::StillPending { looks } => {
-            put_pieces(out, &[Piece::Text(b" -> still pending "), Piece::Number(looks as u64)])
+            put_pieces(
+                out,
+                &[
+                    Piece::Text(b" -> still pending "),
+                    Piece::Number(looks as u64),
+                ],
+            )
         }
         TraceEnd::TooSoon { now, earliest } => put_pieces(
             out,
@@ -91,7 +106,10 @@ fn put_end(out: &mut Vec<u8>, end: TraceEnd) -> Result<(), NoMemory>
                 Piece::Wide(earliest),
             ],
         ),
-        TraceEnd::BadCode { code } => put_pieces(out, &[Piece::Text(b" bad code "), Piece::Number(code as u64)]),
+        TraceEnd::BadCode { code } => put_pieces(
+            out,
+            &[Piece::Text(b" bad code "), Piece::Number(code as u64)],
+        ),
         TraceEnd::TooLong { len, room } => put_pieces(
             out,
             &[

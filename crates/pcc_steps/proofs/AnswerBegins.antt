@@ -1,9 +1,8 @@
 -- What begins a run of the answering end, and its count of steps, keep the relation.
-use Rattle.std.proofs.Common.{◌<◌, ◌^◌, arith, ◌≡◌, ℕ, Bool, List, [], ◌∷◌, ◌++◌, refl, sym, subst}
+use Rattle.std.proofs.Common.{arith, ◌≡◌, ℕ, List, refl, sym, subst}
 use Rattle.pcc_history.specs.Devices.{Device}
-use Rattle.pcc_history.specs.Channel.{Exchange}
 use Rattle.pcc_steps.specs.declared.answer.AnswerStage.{AnswerStage}
-use Rattle.pcc_steps.specs.declared.answer.AnswerStage.TheVariants.{AnswerRest, TakeLine, RunDevice}
+use Rattle.pcc_steps.specs.declared.answer.AnswerStage.TheVariants.{AnswerRest}
 use Rattle.pcc_steps.specs.Answering.{Answer, answer_begun}
 use Rattle.pcc_steps.specs.Asking.{rose}
 use Rattle.pcc_steps.specs.Agree.{Core, Asker, Answerer, answerer_stepped, Pose, free, writing, cleared, waiting, reading, pose, Turn, quiet, taken, replying, turn, turn_at, flight, Waits, Fits, Agreed, Agree}

@@ -1,9 +1,6 @@
 -- Each step of the answering end keeps the relation.
-use Rattle.std.proofs.Common.{◌≡◌, ◌≢◌, ℕ, ◌+◌, ◌/◌, ◌%◌, ◌^◌, ◌<◌, ◌≤◌, Bool, true, false, eqb, List, [], ◌∷◌, ◌++◌, length, get_or, set, take, drop, refl, sym, ap, ◌∙◌, subst, ⊎_elim, inr, arith, length-set}
-use Rattle.std.proofs.lemmas.List.{take-append-drop}
-use Rattle.std.specs.Int.RustNames.{bit_or}
+use Rattle.std.proofs.Common.{◌≡◌, ◌≢◌, ℕ, ◌+◌, ◌%◌, ◌^◌, ◌<◌, ◌≤◌, Bool, true, false, eqb, List, [], ◌∷◌, ◌++◌, length, get_or, set, take, drop, refl, sym, ap, ◌∙◌, subst, ⊎_elim, arith, length-set}
 use borrow.Author.Tests.{ltb-true, ltb-false, eqb-true, eqb-false}
-use Rattle.pcc_bytes.specs.Bytes.{IsBytes}
 use Rattle.pcc_exec.specs.Execution.{IsSpace}
 use Rattle.pcc_history.specs.Devices.{Device, Executed}
 use Rattle.pcc_history.specs.Channel.{Exchange, both, exchange_of}
@@ -12,17 +9,15 @@ use Rattle.pcc_steps.specs.declared.wiring.Wiring.{Wiring}
 use Rattle.pcc_steps.specs.declared.wiring.Style.{Style}
 use Rattle.pcc_steps.specs.declared.wiring.Style.TheVariants.{Headed, Joined3, Separate3, Joined4, Separate4, Reduced5}
 use Rattle.pcc_steps.specs.declared.answer.AnswerStage.{AnswerStage}
-use Rattle.pcc_steps.specs.declared.answer.AnswerStage.TheVariants.{AnswerRest, TakeLine, TakeAckLoad, TakeAckStore, TakeHeader, TakeBlock, RunDevice, ReplyBlock, ReplyError, ReplyHeader, ReplyUpdateLoad, ReplyUpdateStore, ReplyMarkLoad, ReplyMarkStore, CloseBellLoad, CloseBellStore, CloseLine}
-use Rattle.shmem_header.specs.HeaderBits.{with_status}
+use Rattle.pcc_steps.specs.declared.answer.AnswerStage.TheVariants.{AnswerRest, TakeLine, TakeAckLoad, TakeAckStore, TakeHeader, TakeBlock, RunDevice}
 use Rattle.shmem_header.specs.Spelling.{words_of, bytes_of}
-use Rattle.pcc_steps.specs.Wires.{style_of, heads_of, block_of, status_of, tells_by, tells_error, code_by, four_by, masked_by, update_place}
-use Rattle.pcc_steps.specs.Runs.{error_word}
+use Rattle.pcc_steps.specs.Wires.{style_of, heads_of, block_of, code_by, four_by, masked_by}
 use Rattle.pcc_steps.specs.Asking.{has_more}
-use Rattle.pcc_steps.specs.Answering.{Answer, AnswerOk, AnswerSized, AnswerPlace, AnswerUpdates, AnswerSets, answer_next_at, answer_fed_at, take_on, load_on, reply_on, after_ack, after_take, after_error, after_reply, after_close, after_done, asks_notify, done_stage, after_update, ran_with}
-use Rattle.pcc_steps.specs.Agree.{Core, Others, listed, act, Finds, mix, Asker, Answerer, executed, settle_at, settle, Pose, free, writing, cleared, waiting, reading, pose, Turn, quiet, taken, replying, turn_at, closed, finished, Marked, Row, Flight, flight, answered, reply_block, HasHeader, IsTaken, ShowsBy, Shows, Told, IsReplying, IsDone, Waits, Fits, HasRoom, IsBetween, Carries, Agreed, Agree}
-use Rattle.pcc_steps.proofs.Lists.{mix_more, mix_all, take_all, loads, set_block, get_block}
-use Rattle.pcc_steps.proofs.Bits.{reports_headed, status_seen, sets_mark, sets_update, shows_stored, shows_none, code_known}
-use Rattle.pcc_steps.proofs.Spaces.{block_long, same_front, bytes_again, mix_front, some_words, behind_heads}
+use Rattle.pcc_steps.specs.Answering.{Answer, AnswerOk, AnswerPlace, answer_next_at, answer_fed_at, take_on, load_on, after_ack, after_take, ran_with}
+use Rattle.pcc_steps.specs.Agree.{Core, act, Finds, mix, Asker, Answerer, settle_at, settle, Pose, free, writing, cleared, waiting, reading, pose, Turn, quiet, taken, replying, turn_at, closed, Marked, Row, Flight, flight, reply_block, HasHeader, IsTaken, IsReplying, IsDone, Waits, Fits, HasRoom, IsBetween, Agreed, Agree}
+use Rattle.pcc_steps.proofs.Lists.{take_all, loads, get_block}
+use Rattle.pcc_steps.proofs.Bits.{code_known}
+use Rattle.pcc_steps.proofs.Spaces.{block_long, bytes_again, mix_front, some_words, behind_heads}
 use Rattle.pcc_steps.proofs.Legality.{legal_more, state_more, room_more, state_kept}
 
 -- the answering machine at this stage, wired as the asking one
@@ -157,9 +152,9 @@ module _ (exec : Device) (is_state : List ℕ → Type 0) (room : ℕ) (law : (d
   taken_now v x y c same some g = let ok = g.answer_ok in let w = x.m.wiring in let s : Style = style_of w in let b : Bool = four_by s w.has_ack in let st : AnswerStage = after_take b s in let z : Answerer = at st x y in let d : Core = record c { line = 0 } in
       let r = rung (pose x.m) x (at TakeLine x y) c (λ e. eqb-false v 0 some (same ∙ e)) g.fits in
       subst (λ (u : Answerer). Agreed exec start x u d) (sym (settled_take b s z))
-          (moves x y c d TakeLine st y.m.kept y.m.header y.m.loaded g (steps_on (staged TakeLine x y) st y.m.kept ok ok.kept (place_take b s w refl refl (some_words (heads_of s) w.room ok.wired.least))) (between_take b s) g.irq
-              (subst (λ (t : Turn). Fits (pose x.m) t x z d) (sym (turn_take b s z.m))
-                  (in_flight (taken 0) x z d r.0 record { row = lower w x.m.code y.done c x.m.sent x.done r.1; loaded = refl; header = header_take b s s w x.m.code y.m.header refl })))
+      (moves x y c d TakeLine st y.m.kept y.m.header y.m.loaded g (steps_on (staged TakeLine x y) st y.m.kept ok ok.kept (place_take b s w refl refl (some_words (heads_of s) w.room ok.wired.least))) (between_take b s) g.irq
+      (subst (λ (t : Turn). Fits (pose x.m) t x z d) (sym (turn_take b s z.m))
+      (in_flight (taken 0) x z d r.0 record { row = lower w x.m.code y.done c x.m.sent x.done r.1; loaded = refl; header = header_take b s s w x.m.code y.m.header refl })))
 
   taking : (b : Bool) (v : ℕ) (x : Asker) (y : Answerer) (c : Core) → v ≡ c.line → eqb v 0 ≡ b → Agreed exec start x (at TakeLine x y) c → Agreed exec start x (settle exec (record y { m = take_on b (staged TakeLine x y) })) (record c { line = 0 })
   taking true v x y c same is g = down v x y c same is g
@@ -180,7 +175,7 @@ module _ (exec : Device) (is_state : List ℕ → Type 0) (room : ℕ) (law : (d
       ap (λ (l : List ℕ). set l 5 e) g.1.1,
       subst (λ (u : Answerer). Agreed exec start x u c) (sym (settled_ack s z))
           (moves x y c c TakeAckStore st y.m.kept y.m.header y.m.loaded h (steps_on (staged TakeAckStore x y) st y.m.kept ok ok.kept (place_ack s w refl (some_words (heads_of s) w.room ok.wired.least))) (between_ack s) h.irq
-              (subst (λ (t : Turn). Fits (pose x.m) t x z c) (sym (turn_ack s z.m)) (in_flight (taken 0) x z c t.0 record { row = t.1.row; loaded = t.1.loaded; header = header_ack s s w x.m.code y.m.header refl }))),
+          (subst (λ (t : Turn). Fits (pose x.m) t x z c) (sym (turn_ack s z.m)) (in_flight (taken 0) x z c t.0 record { row = t.1.row; loaded = t.1.loaded; header = header_ack s s w x.m.code y.m.header refl }))),
     ),
   )
 
@@ -237,8 +232,12 @@ module _ (exec : Device) (is_state : List ℕ → Type 0) (room : ℕ) (law : (d
         posts = g.posts;
         irq = g.irq;
         fits = in_flight (replying k) x z c q record {
-          row = record { completion = t.row.completion; line = t.row.line; block = t.row.block ∙ sym (ap (λ (o : List ℕ). mix k o x.m.sent) out ∙ mix_front k x.m.sent (words_of e.space) front);
-              done = (λ i. t.row.done i ++ record { code = is_code i; input = is_input i; error = both r e.bad; output = e.space } ∷ []) };
+          row = record {
+            completion = t.row.completion;
+            line = t.row.line;
+            block = t.row.block ∙ sym (ap (λ (o : List ℕ). mix k o x.m.sent) out ∙ mix_front k x.m.sent (words_of e.space) front);
+            done = (λ i. t.row.done i ++ record { code = is_code i; input = is_input i; error = both r e.bad; output = e.space } ∷ []);
+          };
           header = has;
           out = out;
           bytes = kept.1.fits;
@@ -251,7 +250,7 @@ module _ (exec : Device) (is_state : List ℕ → Type 0) (room : ℕ) (law : (d
   loaded_on true j v x y c room_is more same g = let ok = g.answer_ok in let w = x.m.wiring in let n : ℕ = block_of w in let here : j < n = ok.place in let t = while_taken (pose x.m) j x (at (TakeBlock j) x y) c g.fits in
       let long : length y.m.loaded ≡ n = ok.sized.loaded in let long' : length x.m.sent ≡ n = g.ask_ok.sized.sent in let z : Answerer = record y { m = load_on true j v (staged (TakeBlock j) x y) } in
       moves x y c c (TakeBlock j) (TakeBlock (j + 1)) y.m.kept y.m.header (set y.m.loaded j v) g (record { wired = ok.wired; sized = record { loaded = length-set y.m.loaded j v ∙ long; out = ok.sized.out; space = ok.sized.space }; place = ltb-true (j + 1) n more; kept = ok.kept; header = ok.header }) tt g.irq
-          (in_flight (taken (j + 1)) x z c t.0 record { row = t.1.row; loaded = loads j y.m.loaded x.m.sent v (omega arith) (omega arith) (same ∙ ap (λ (l : List ℕ). get_or l j 0) t.1.row.block) t.1.loaded; header = header_on (style_of w) w j (j + 1) x.m.code y.m.header t.1.header })
+      (in_flight (taken (j + 1)) x z c t.0 record { row = t.1.row; loaded = loads j y.m.loaded x.m.sent v (omega arith) (omega arith) (same ∙ ap (λ (l : List ℕ). get_or l j 0) t.1.row.block) t.1.loaded; header = header_on (style_of w) w j (j + 1) x.m.code y.m.header t.1.header })
   loaded_on false j v x y c room_is more same g = let ok = g.answer_ok in let w = x.m.wiring in let n : ℕ = block_of w in let here : j < n = ok.place in let t = while_taken (pose x.m) j x (at (TakeBlock j) x y) c g.fits in
       let long : length y.m.loaded ≡ n = ok.sized.loaded in let long' : length x.m.sent ≡ n = g.ask_ok.sized.sent in
       let last : n ≤ j + 1 = ltb-false (j + 1) n more in let all : j + 1 ≡ n = omega arith in let l : List ℕ = set y.m.loaded j v in let longs : length l ≡ n = length-set y.m.loaded j v ∙ long in

@@ -1,30 +1,23 @@
 -- Each step of a reply keeps the relation.
-use Rattle.std.proofs.Common.{◌≡◌, ◌≢◌, ℕ, ◌+◌, ◌/◌, ◌%◌, ◌^◌, ◌<◌, ◌≤◌, Bool, true, false, eqb, List, [], ◌∷◌, ◌++◌, length, get_or, set, take, drop, refl, sym, ap, ◌∙◌, subst, ⊎_elim, inl, inr, arith, length-set}
-use Rattle.std.proofs.lemmas.List.{take-append-drop}
+use Rattle.std.proofs.Common.{◌≡◌, ◌≢◌, ℕ, ◌+◌, ◌^◌, ◌<◌, ◌≤◌, Bool, true, false, List, length, get_or, set, refl, sym, ap, ◌∙◌, subst, ⊎_elim, inl, inr, arith}
 use Rattle.std.specs.Int.RustNames.{bit_or}
-use borrow.Author.Tests.{ltb-true, ltb-false, eqb-true, eqb-false}
-use Rattle.pcc_bytes.specs.Bytes.{IsBytes}
+use borrow.Author.Tests.{ltb-true, ltb-false}
 use Rattle.pcc_exec.specs.Execution.{IsSpace}
-use Rattle.pcc_history.specs.Devices.{Device, Executed}
-use Rattle.pcc_history.specs.Channel.{Exchange, both, exchange_of}
-use Rattle.pcc_history.specs.Histories.{Legal, state_after}
+use Rattle.pcc_history.specs.Devices.{Device}
+use Rattle.pcc_history.specs.Channel.{both}
 use Rattle.pcc_steps.specs.declared.wiring.Wiring.{Wiring}
 use Rattle.pcc_steps.specs.declared.wiring.Style.{Style}
 use Rattle.pcc_steps.specs.declared.wiring.Style.TheVariants.{Headed, Joined3, Separate3, Joined4, Separate4, Reduced5}
 use Rattle.pcc_steps.specs.declared.answer.AnswerStage.{AnswerStage}
 use Rattle.pcc_steps.specs.declared.answer.AnswerStage.TheVariants.{AnswerRest, TakeLine, TakeAckLoad, TakeAckStore, TakeHeader, TakeBlock, RunDevice, ReplyBlock, ReplyError, ReplyHeader, ReplyUpdateLoad, ReplyUpdateStore, ReplyMarkLoad, ReplyMarkStore, CloseBellLoad, CloseBellStore, CloseLine}
 use Rattle.shmem_header.specs.HeaderBits.{with_status}
-use Rattle.shmem_header.specs.Spelling.{words_of, bytes_of}
-use Rattle.pcc_steps.specs.Wires.{style_of, heads_of, block_of, status_of, tells_by, tells_error, code_by, four_by, masked_by, update_place}
+use Rattle.pcc_steps.specs.Wires.{style_of, heads_of, block_of, status_of, tells_error, four_by, masked_by, update_place}
 use Rattle.pcc_steps.specs.Runs.{error_word}
 use Rattle.pcc_steps.specs.Asking.{has_more, CodeFits}
-use Rattle.pcc_steps.specs.Answering.{Answer, AnswerOk, AnswerSized, AnswerPlace, AnswerUpdates, AnswerSets, answer_next_at, answer_fed_at, take_on, load_on, reply_on, after_ack, after_take, after_error, after_reply, after_close, after_done, asks_notify, done_stage, after_update, ran_with}
-use Rattle.pcc_steps.specs.Agree.{Core, Others, listed, act, Finds, mix, Asker, Answerer, executed, settle_at, settle, answerer_fed_at, Pose, free, writing, cleared, waiting, reading, pose, Turn, quiet, taken, replying, turn_at, closed, finished, Marked, Row, Flight, flight, answered, reply_block, HasHeader, IsTaken, ShowsBy, Shows, Told, IsReplying, IsDone, Waits, Fits, HasRoom, IsBetween, Carries, Agreed, Agree}
-use Rattle.pcc_steps.proofs.Lists.{mix_more, mix_all, take_all, loads, set_block, get_block}
-use Rattle.pcc_steps.proofs.Bits.{reports_headed, status_seen, sets_mark, sets_update, shows_stored, shows_none, code_known}
-use Rattle.pcc_steps.proofs.Spaces.{block_long, same_front, bytes_again, mix_front, some_words, behind_heads}
-use Rattle.pcc_steps.proofs.Legality.{legal_more, state_more, room_more, state_kept}
-
+use Rattle.pcc_steps.specs.Answering.{Answer, AnswerPlace, AnswerUpdates, AnswerSets, answer_next_at, reply_on, after_error, after_reply, after_close, after_done, asks_notify, done_stage, after_update}
+use Rattle.pcc_steps.specs.Agree.{Core, act, Finds, mix, Asker, Answerer, settle_at, settle, answerer_fed_at, Pose, free, writing, cleared, waiting, reading, pose, Turn, quiet, replying, turn_at, closed, finished, Marked, Row, flight, HasHeader, Shows, Told, IsReplying, IsDone, Fits, IsBetween, Agreed, Agree}
+use Rattle.pcc_steps.proofs.Lists.{mix_more, mix_all, set_block}
+use Rattle.pcc_steps.proofs.Bits.{reports_headed, status_seen, sets_mark, sets_update, shows_stored, shows_none}
 use Rattle.pcc_steps.proofs.AnswerPlaces.{place_close, place_done}
 use Rattle.pcc_steps.proofs.AnswerKeeps.{staged, at, KeepsAt, while_replying, still, in_flight, moves, steps_on, rests, takes_line, loads_ack, stores_ack, loads_header, loads_block, runs}
 
@@ -80,25 +73,25 @@ module _ (exec : Device) (is_state : List ℕ → Type 0) (room : ℕ) (law : (d
   replied_on true j x y c more g = let ok = g.answer_ok in let w = x.m.wiring in let n : ℕ = block_of w in let here : j < n = ok.place.1 in let from : heads_of (style_of w) ≤ j = ok.place.0 in let t = while_replying exec is_state room law start sound (pose x.m) j x (at (ReplyBlock j) x y) c g.fits in
       let long : length y.m.out ≡ n = ok.sized.out in let long' : length x.m.sent ≡ n = g.ask_ok.sized.sent in let z : Answerer = at (ReplyBlock (j + 1)) x y in let d : Core = record c { block = set c.block j (get_or y.m.out j 0) } in
       moves exec is_state room law start sound x y c d (ReplyBlock j) (ReplyBlock (j + 1)) y.m.kept y.m.header y.m.loaded g (steps_on exec is_state room law start sound (staged (ReplyBlock j) x y) (ReplyBlock (j + 1)) y.m.kept ok ok.kept (omega arith, ltb-true (j + 1) n more)) tt g.irq
-          (in_flight exec is_state room law start sound (replying (j + 1)) x z d t.0 record {
-            row = record { completion = t.1.row.completion; line = t.1.row.line; block = ap (λ (l : List ℕ). set l j (get_or y.m.out j 0)) t.1.row.block ∙ mix_more j y.m.out x.m.sent (omega arith) (omega arith); done = t.1.row.done };
-            header = t.1.header;
-            out = t.1.out;
-            bytes = t.1.bytes;
-            told = tt;
-          })
+      (in_flight exec is_state room law start sound (replying (j + 1)) x z d t.0 record {
+        row = record { completion = t.1.row.completion; line = t.1.row.line; block = ap (λ (l : List ℕ). set l j (get_or y.m.out j 0)) t.1.row.block ∙ mix_more j y.m.out x.m.sent (omega arith) (omega arith); done = t.1.row.done };
+        header = t.1.header;
+        out = t.1.out;
+        bytes = t.1.bytes;
+        told = tt;
+      })
   replied_on false j x y c more g = let ok = g.answer_ok in let w = x.m.wiring in let n : ℕ = block_of w in let here : j < n = ok.place.1 in let t = while_replying exec is_state room law start sound (pose x.m) j x (at (ReplyBlock j) x y) c g.fits in
       let long : length y.m.out ≡ n = ok.sized.out in let long' : length x.m.sent ≡ n = g.ask_ok.sized.sent in let s : Style = style_of w in let b : Bool = tells_error w in let st : AnswerStage = after_reply b s in let z : Answerer = at st x y in
       let last : n ≤ j + 1 = ltb-false (j + 1) n more in let all : j + 1 ≡ n = omega arith in let d : Core = record c { block = set c.block j (get_or y.m.out j 0) } in
       subst (λ (u : Answerer). Agreed exec start x u d) (sym (settled_reply b s z))
-          (moves exec is_state room law start sound x y c d (ReplyBlock j) st y.m.kept y.m.header y.m.loaded g (steps_on exec is_state room law start sound (staged (ReplyBlock j) x y) st y.m.kept ok ok.kept (place_reply b s w refl refl)) (between_reply b s) g.irq
-              (subst (λ (t : Turn). Fits (pose x.m) t x z d) (sym (turn_reply b s z.m)) (in_flight exec is_state room law start sound (replying n) x z d t.0 record {
-                row = record { completion = t.1.row.completion; line = t.1.row.line; block = ap (λ (l : List ℕ). set l j (get_or y.m.out j 0)) t.1.row.block ∙ (mix_more j y.m.out x.m.sent (omega arith) (omega arith) ∙ ap (λ (k : ℕ). mix k y.m.out x.m.sent) all); done = t.1.row.done };
-                header = t.1.header;
-                out = t.1.out;
-                bytes = t.1.bytes;
-                told = told_reply b s w c.error y.m.bad refl;
-              })))
+      (moves exec is_state room law start sound x y c d (ReplyBlock j) st y.m.kept y.m.header y.m.loaded g (steps_on exec is_state room law start sound (staged (ReplyBlock j) x y) st y.m.kept ok ok.kept (place_reply b s w refl refl)) (between_reply b s) g.irq
+      (subst (λ (t : Turn). Fits (pose x.m) t x z d) (sym (turn_reply b s z.m)) (in_flight exec is_state room law start sound (replying n) x z d t.0 record {
+        row = record { completion = t.1.row.completion; line = t.1.row.line; block = ap (λ (l : List ℕ). set l j (get_or y.m.out j 0)) t.1.row.block ∙ (mix_more j y.m.out x.m.sent (omega arith) (omega arith) ∙ ap (λ (k : ℕ). mix k y.m.out x.m.sent) all); done = t.1.row.done };
+        header = t.1.header;
+        out = t.1.out;
+        bytes = t.1.bytes;
+        told = told_reply b s w c.error y.m.bad refl;
+      })))
 
   stores_reply : (j : ℕ) (x : Asker) (y : Answerer) → KeepsAt exec is_state room law start sound (ReplyBlock j) x y
   stores_reply j x y ws v same g f small = let c = g.0 in let o = g.1.0 in let s : ℕ = get_or y.m.out j 0 in (
@@ -115,13 +108,13 @@ module _ (exec : Device) (is_state : List ℕ → Type 0) (room : ℕ) (law : (d
           ap (λ (l : List ℕ). set l 3 e) g.1.1,
           subst (λ (u : Answerer). Agreed exec start x u d) (sym (settled_error s z))
               (moves exec is_state room law start sound x y c d ReplyError st y.m.kept y.m.header y.m.loaded h (steps_on exec is_state room law start sound (staged ReplyError x y) st y.m.kept ok ok.kept (place_error s w refl)) (between_error s) h.irq
-                  (subst (λ (t : Turn). Fits (pose x.m) t x z d) (sym (turn_error s z.m)) (in_flight exec is_state room law start sound (replying n) x z d t.0 record {
-                    row = record { completion = t.1.row.completion; line = t.1.row.line; block = t.1.row.block; done = t.1.row.done };
-                    header = t.1.header;
-                    out = t.1.out;
-                    bytes = t.1.bytes;
-                    told = told_error s w e (both w.reports y.m.bad) (shows_stored w y.m.bad ok.place h.ask_ok.wired);
-                  }))),
+              (subst (λ (t : Turn). Fits (pose x.m) t x z d) (sym (turn_error s z.m)) (in_flight exec is_state room law start sound (replying n) x z d t.0 record {
+                row = record { completion = t.1.row.completion; line = t.1.row.line; block = t.1.row.block; done = t.1.row.done };
+                header = t.1.header;
+                out = t.1.out;
+                bytes = t.1.bytes;
+                told = told_error s w e (both w.reports y.m.bad) (shows_stored w y.m.bad ok.place h.ask_ok.wired);
+              }))),
         ),
       )
 
@@ -164,8 +157,8 @@ module _ (exec : Device) (is_state : List ℕ → Type 0) (room : ℕ) (law : (d
         shows = shows;
       } in
       subst (λ (u : Answerer). Agreed exec start x u d) (sym (settled_done b asks u))
-          (moves exec is_state room law start sound x y c d before st y.m.kept y.m.header y.m.loaded g (steps_on exec is_state room law start sound (staged before x y) st y.m.kept ok ok.kept (place_done b asks w refl)) (between_done b asks) g.irq
-              (subst (λ (t : Turn). Fits (pose x.m) t x u d) (sym (turn_done b asks u.m)) (in_flight exec is_state room law start sound quiet x u d q (inr ((e, y.m.space), k)))))
+      (moves exec is_state room law start sound x y c d before st y.m.kept y.m.header y.m.loaded g (steps_on exec is_state room law start sound (staged before x y) st y.m.kept ok ok.kept (place_done b asks w refl)) (between_done b asks) g.irq
+      (subst (λ (t : Turn). Fits (pose x.m) t x u d) (sym (turn_done b asks u.m)) (in_flight exec is_state room law start sound quiet x u d q (inr ((e, y.m.space), k)))))
 
   -- every error of types 0 to 2 is reported
   all_told : (r bad : Bool) → r ≡ true → both r bad ≡ bad
@@ -183,14 +176,26 @@ module _ (exec : Device) (is_state : List ℕ → Type 0) (room : ℕ) (law : (d
       (record c { completion = z }, (g.1.0, ap (λ (l : List ℕ). set l 0 z) g.1.1, completes ReplyHeader z x y c h t.0 t.1 t.1.told mark))
 
   loads_update : (x : Asker) (y : Answerer) → KeepsAt exec is_state room law start sound ReplyUpdateLoad x y
-  loads_update x y ws v same g f small = let c = g.0 in let h = g.1.2 in let ok = h.answer_ok in let n : ℕ = block_of x.m.wiring in let t = while_replying exec is_state room law start sound (pose x.m) n x (at ReplyUpdateLoad x y) c h.fits in let z : Answerer = record y { m = record y.m { wiring = x.m.wiring; stage = ReplyUpdateStore; kept = v } } in
-      (c, (g.1.0, g.1.1, moves exec is_state room law start sound x y c c ReplyUpdateLoad ReplyUpdateStore v y.m.header y.m.loaded h (steps_on exec is_state room law start sound (staged ReplyUpdateLoad x y) ReplyUpdateStore v ok small ok.place) tt h.irq
-          (in_flight exec is_state room law start sound (replying n) x z c t.0 record { row = t.1.row; header = t.1.header; out = t.1.out; bytes = t.1.bytes; told = t.1.told })))
+  loads_update x y ws v same g f small = let c = g.0 in let h = g.1.2 in let ok = h.answer_ok in let n : ℕ = block_of x.m.wiring in let t = while_replying exec is_state room law start sound (pose x.m) n x (at ReplyUpdateLoad x y) c h.fits in let z : Answerer = record y { m = record y.m { wiring = x.m.wiring; stage = ReplyUpdateStore; kept = v } } in (
+    c,
+    (
+      g.1.0,
+      g.1.1,
+      moves exec is_state room law start sound x y c c ReplyUpdateLoad ReplyUpdateStore v y.m.header y.m.loaded h (steps_on exec is_state room law start sound (staged ReplyUpdateLoad x y) ReplyUpdateStore v ok small ok.place) tt h.irq
+          (in_flight exec is_state room law start sound (replying n) x z c t.0 record { row = t.1.row; header = t.1.header; out = t.1.out; bytes = t.1.bytes; told = t.1.told }),
+    ),
+  )
 
   loads_mark : (x : Asker) (y : Answerer) → KeepsAt exec is_state room law start sound ReplyMarkLoad x y
-  loads_mark x y ws v same g f small = let c = g.0 in let h = g.1.2 in let ok = h.answer_ok in let n : ℕ = block_of x.m.wiring in let t = while_replying exec is_state room law start sound (pose x.m) n x (at ReplyMarkLoad x y) c h.fits in let z : Answerer = record y { m = record y.m { wiring = x.m.wiring; stage = ReplyMarkStore; kept = v } } in
-      (c, (g.1.0, g.1.1, moves exec is_state room law start sound x y c c ReplyMarkLoad ReplyMarkStore v y.m.header y.m.loaded h (steps_on exec is_state room law start sound (staged ReplyMarkLoad x y) ReplyMarkStore v ok small ok.place) tt h.irq
-          (in_flight exec is_state room law start sound (replying n) x z c t.0 record { row = t.1.row; header = t.1.header; out = t.1.out; bytes = t.1.bytes; told = t.1.told })))
+  loads_mark x y ws v same g f small = let c = g.0 in let h = g.1.2 in let ok = h.answer_ok in let n : ℕ = block_of x.m.wiring in let t = while_replying exec is_state room law start sound (pose x.m) n x (at ReplyMarkLoad x y) c h.fits in let z : Answerer = record y { m = record y.m { wiring = x.m.wiring; stage = ReplyMarkStore; kept = v } } in (
+    c,
+    (
+      g.1.0,
+      g.1.1,
+      moves exec is_state room law start sound x y c c ReplyMarkLoad ReplyMarkStore v y.m.header y.m.loaded h (steps_on exec is_state room law start sound (staged ReplyMarkLoad x y) ReplyMarkStore v ok small ok.place) tt h.irq
+          (in_flight exec is_state room law start sound (replying n) x z c t.0 record { row = t.1.row; header = t.1.header; out = t.1.out; bytes = t.1.bytes; told = t.1.told }),
+    ),
+  )
 
   not_headed : (s : Style) → AnswerSets s → s ≢ Headed
   not_headed Headed u e = u
@@ -242,7 +247,7 @@ module _ (exec : Device) (is_state : List ℕ → Type 0) (room : ℕ) (law : (d
       ap (λ (l : List ℕ). set l 1 z) g.1.1,
       subst (λ (u : Answerer). Agreed exec start x u c) (sym (settled_close b u))
           (moves exec is_state room law start sound x y c c CloseBellStore st y.m.kept y.m.header y.m.loaded h (steps_on exec is_state room law start sound (staged CloseBellStore x y) st y.m.kept ok ok.kept (place_close b w)) (between_close b) h.irq
-              (subst (λ (t : Turn). Fits (pose x.m) t x u c) (sym (turn_close b u.m)) (still exec is_state room law start sound (pose x.m) x (at CloseBellStore x y) c u.m h.fits))),
+          (subst (λ (t : Turn). Fits (pose x.m) t x u c) (sym (turn_close b u.m)) (still exec is_state room law start sound (pose x.m) x (at CloseBellStore x y) c u.m h.fits))),
     ),
   )
 

@@ -1,24 +1,23 @@
 -- The answering machine walks its table.
 use Rattle.std.specs.Prelude.{Option, None, Some}
-use Rattle.std.proofs.Common.{◌≡◌, ◌≢◌, ℕ, zero, suc, ◌+◌, ◌-◌, ◌<◌, ◌≤◌, Bool, true, false, eqb, ◌==◌, if◌then◌else◌, List, [], ◌∷◌, ◌++◌, length, get_or, set, take, drop, refl, sym, ap, ◌∙◌, subst, arith, length-set}
+use Rattle.std.proofs.Common.{◌≡◌, ◌≢◌, ℕ, suc, ◌+◌, ◌-◌, ◌<◌, ◌≤◌, Bool, true, false, eqb, ◌==◌, if◌then◌else◌, List, [], ◌∷◌, ◌++◌, length, set, take, drop, refl, sym, ap, ◌∙◌, subst, arith, length-set}
 use Rattle.std.specs.Int.RustNames.{bit_or}
 use Rattle.std.proofs.lemmas.List.{take_more_set}
-use Rattle.std.proofs.Math.Seq.{drop-append_seam}
-use borrow.Author.Tests.{ltb-true, ltb-false}
+use borrow.Author.Tests.{ltb-false}
 use Rattle.shmem_header.specs.Spelling.{words_of, bytes_of}
 use Rattle.pcc_steps.specs.declared.wiring.Wiring.{Wiring}
 use Rattle.pcc_steps.specs.declared.wiring.Style.{Style}
 use Rattle.pcc_steps.specs.declared.wiring.Style.TheVariants.{Headed, Joined3, Separate3, Joined4, Separate4, Reduced5}
 use Rattle.pcc_steps.specs.declared.wiring.Action.{Action}
-use Rattle.pcc_steps.specs.declared.wiring.Action.TheVariants.{Load, Store, Swap, Execute}
+use Rattle.pcc_steps.specs.declared.wiring.Action.TheVariants.{Load, Execute}
 use Rattle.pcc_steps.specs.declared.answer.AnswerStage.{AnswerStage}
 use Rattle.pcc_steps.specs.declared.answer.AnswerStage.TheVariants.{AnswerRest, TakeLine, TakeAckLoad, TakeAckStore, TakeHeader, TakeBlock, RunDevice, ReplyBlock, ReplyError, ReplyHeader, ReplyUpdateLoad, ReplyUpdateStore, ReplyMarkLoad, ReplyMarkStore, CloseBellLoad, CloseBellStore, CloseLine}
 use Rattle.pcc_steps.specs.declared.answer.AnswerOutcome.{AnswerOutcome}
 use Rattle.pcc_steps.specs.declared.answer.AnswerOutcome.TheVariants.{Idle, Served}
-use Rattle.pcc_steps.specs.Wires.{style_of, heads_of, block_of, status_of, tells_error, four_by, asks_by, masked_by, update_place}
-use Rattle.pcc_steps.specs.Runs.{Run, ends, loads, stores, swaps, executes, store_words, load_words, masked_write, AnswerStep, takes_bell, acknowledges_bell, takes_header, takes_block, executes_command, replies_space, replies_error, replies_status, replies_update, replies_completion, rings_bell, raises_interrupt, only, taking_steps, completing_steps, answer_table, answer_steps, answering, answer_run, AnswerEnd, finds_none, serves, Got}
+use Rattle.pcc_steps.specs.Wires.{style_of, heads_of, block_of, tells_error, four_by, masked_by, update_place}
+use Rattle.pcc_steps.specs.Runs.{Run, ends, stores, swaps, store_words, load_words, masked_write, AnswerStep, acknowledges_bell, takes_header, takes_block, executes_command, replies_space, replies_error, replies_status, replies_completion, rings_bell, raises_interrupt, only, taking_steps, completing_steps, answer_table, answer_steps, answering, AnswerEnd, finds_none, serves}
 use Rattle.pcc_steps.specs.Asking.{has_more, rose}
-use Rattle.pcc_steps.specs.Answering.{Answer, AnswerOk, AnswerPlace, AnswerUpdates, AnswerSets, answer_next_at, answer_fed_at, answer_told_at, answer_begun, answer_stepped, answer_code, take_on, load_on, reply_on, take_told, served_at, after_ack, after_take, after_error, after_reply, after_close, after_done, update_stage, asks_notify, ran_with}
+use Rattle.pcc_steps.specs.Answering.{Answer, AnswerOk, AnswerUpdates, AnswerSets, answer_next_at, answer_fed_at, answer_told_at, answer_stepped, answer_code, take_on, load_on, reply_on, take_told, served_at, after_ack, after_take, after_error, after_reply, after_close, after_done, update_stage, asks_notify, ran_with}
 use Rattle.pcc_steps.specs.Walk.{answer_number, from, behind, got, answer_left_by, answer_left, answer_after, Takes, Gives}
 use Rattle.pcc_steps.specs.Laws.{AnswersByTable, AnswerStepsByTable, ExecutesByTable}
 use Rattle.pcc_steps.proofs.Spaces.{behind_front}
@@ -181,13 +180,13 @@ taken_block false j v a more here long = let k = λ (l : List ℕ). answering (b
     let t : take j a.loaded ++ v ∷ [] ≡ l = sym (take_more_set a.loaded j v (omega arith)) ∙ all_taken (j + 1) l (omega arith) in
     let one = from_four (style_of w) (acks a) (tells a) (rings a) in let two = from_three (style_of w) (acks a) (tells a) (rings a) in
     ap (λ (z : List AnswerStep). answering z w (record { header = a.header; block = l; bad = a.bad; reply = bytes_of (drop (heads_of (style_of w)) l) })) one
-        ∙ (sym (ap (λ (z : List AnswerStep). answering (drop 1 z) w (record (got a) { block = l })) two) ∙ sym (λ i. load_words (8 + j + 1) (none i) (t i) k))
+    ∙ (sym (ap (λ (z : List AnswerStep). answering (drop 1 z) w (record (got a) { block = l })) two) ∙ sym (λ i. load_words (8 + j + 1) (none i) (t i) k))
 
 replied_words : (b : Bool) (j : ℕ) (a : Answer) → has_more j a.wiring ≡ b → length a.out ≡ block_of a.wiring → answer_left (reply_on b j a) ≡ store_words (8 + j + 1) (drop (j + 1) a.out) (answering (behind answer_number 5 (answer_steps a.wiring)) a.wiring (got a))
 replied_words true j a more long = ap (λ (p : ℕ). store_words p (drop (j + 1) a.out) (answering (behind answer_number 5 (answer_steps a.wiring)) a.wiring (got a))) (next_place j)
 replied_words false j a more long = let w = a.wiring in let k : Run AnswerEnd = answering (behind answer_number 5 (answer_steps w)) w (got a) in let last : block_of w ≤ j + 1 = ltb-false (j + 1) (block_of w) more in
     left_reply (style_of w) (acks a) (tells a) (rings a) (record a { stage = after_reply (tells a) (style_of w) })
-        ∙ (sym (ap (λ (z : List AnswerStep). answering (drop 1 z) w (got a)) (from_five (style_of w) (acks a) (tells a) (rings a))) ∙ sym (ap (λ (l : List ℕ). store_words (8 + j + 1) l k) (none_left (j + 1) a.out (omega arith))))
+    ∙ (sym (ap (λ (z : List AnswerStep). answering (drop 1 z) w (got a)) (from_five (style_of w) (acks a) (tells a) (rings a))) ∙ sym (ap (λ (l : List ℕ). store_words (8 + j + 1) l k) (none_left (j + 1) a.out (omega arith))))
 
 error_walks : (s : Style) (b c d : Bool) (a : Answer) → c ≡ true → let t : List AnswerStep = answer_table s b c d in
     Takes (answer_left_by t ReplyError a) (answer_next_at ReplyError a) (λ v. answer_left_by t (after_error s) (record a { stage = after_error s }))
@@ -212,7 +211,7 @@ update_walks : (s : Style) (b c d : Bool) (a : Answer) → AnswerUpdates s → l
     Takes (answer_left_by t ReplyUpdateLoad a) (answer_next_at ReplyUpdateLoad a) (λ v. answer_left_by t ReplyUpdateStore (record a { stage = ReplyUpdateStore; kept = v }))
 update_walks s b c d a u = let next = λ (v : ℕ). answer_left_by (answer_table s b c d) ReplyUpdateStore (record a { stage = ReplyUpdateStore; kept = v }) in
     by_list (from answer_number 8 (answer_table s b c d)) (completing_steps s (closing d)) a (answer_next_at ReplyUpdateLoad a) next (from_eight s b c d u)
-        (update_first s d a next u (λ v. ap (λ (z : List AnswerStep). stores (update_place (style_of a.wiring)) (masked_by a.wiring.update v) (answering (drop 1 z) a.wiring (got a))) (from_eight s b c d u)))
+    (update_first s d a next u (λ v. ap (λ (z : List AnswerStep). stores (update_place (style_of a.wiring)) (masked_by a.wiring.update v) (answering (drop 1 z) a.wiring (got a))) (from_eight s b c d u)))
 
 updated : (s : Style) (b c d : Bool) (a : Answer) (done : AnswerStage) → AnswerUpdates s → answer_steps a.wiring ≡ answer_table s b c d → answer_after (served_at done) (record a { stage = done }) ≡ answering (closing d) a.wiring (got a)
     → answer_after (served_at (update_stage s done)) (record a { stage = update_stage s done }) ≡ answering (behind answer_number 8 (answer_table s b c d)) a.wiring (got a)
@@ -227,13 +226,13 @@ mark_walks : (s : Style) (b c d : Bool) (a : Answer) → AnswerSets s → let t 
     Takes (answer_left_by t ReplyMarkLoad a) (answer_next_at ReplyMarkLoad a) (λ v. answer_left_by t ReplyMarkStore (record a { stage = ReplyMarkStore; kept = v }))
 mark_walks s b c d a u = let next = λ (v : ℕ). answer_left_by (answer_table s b c d) ReplyMarkStore (record a { stage = ReplyMarkStore; kept = v }) in
     by_list (from answer_number 9 (answer_table s b c d)) (replies_completion ∷ closing d) a (answer_next_at ReplyMarkLoad a) next (from_nine s b c d u)
-        (refl, λ v. ap (λ (z : List AnswerStep). stores 0 (bit_or v a.wiring.check_mask) (answering (drop 1 z) a.wiring (got a))) (from_nine s b c d u))
+    (refl, λ v. ap (λ (z : List AnswerStep). stores 0 (bit_or v a.wiring.check_mask) (answering (drop 1 z) a.wiring (got a))) (from_nine s b c d u))
 
 bell_walks : (s : Style) (b c d : Bool) (a : Answer) → d ≡ true → let t : List AnswerStep = answer_table s b c d in
     Takes (answer_left_by t CloseBellLoad a) (answer_next_at CloseBellLoad a) (λ v. answer_left_by t CloseBellStore (record a { stage = CloseBellStore; kept = v }))
 bell_walks s b c true a e = let next = λ (v : ℕ). answer_left_by (answer_table s b c true) CloseBellStore (record a { stage = CloseBellStore; kept = v }) in
     by_list (from answer_number 10 (answer_table s b c true)) (closing true) a (answer_next_at CloseBellLoad a) next (from_ten s b c true refl)
-        (refl, λ v. ap (λ (z : List AnswerStep). stores 1 (masked_by a.wiring.bell v) (answering (drop 1 z) a.wiring (got a))) (from_ten s b c true refl))
+    (refl, λ v. ap (λ (z : List AnswerStep). stores 1 (masked_by a.wiring.bell v) (answering (drop 1 z) a.wiring (got a))) (from_ten s b c true refl))
 bell_walks s b c false a e = cc
 
 rung_off : (s : Style) (b c d : Bool) → d ≡ true → behind answer_number 10 (answer_table s b c d) ≡ raises_interrupt ∷ []
@@ -269,7 +268,7 @@ walks CloseLine a runs steps ok = (refl, λ v. refl)
 pub gives : (a : Answer) → AnswerOk (record a { stage = RunDevice }) → Gives (left_at RunDevice a) (Execute (answer_code a)) (bytes_of (drop (heads_of (style_of a.wiring)) a.loaded)) (λ bad reply. answer_left (ran_with (record a { space = reply }) bad))
 gives a ok = let w = a.wiring in let k : ℕ = heads_of (style_of w) in let long : length a.loaded ≡ block_of w = ok.sized.loaded in
     subst (λ (l : List AnswerStep). Gives (answering l w (got a)) (Execute (answer_code a)) (bytes_of (drop k a.loaded)) (λ bad reply. answer_left (ran_with (record a { space = reply }) bad))) (sym (from_four (style_of w) (acks a) (tells a) (rings a)))
-        (refl, refl, λ bad reply. (λ i. store_words (8 + k) (behind_front k a.loaded (words_of reply) (omega arith) i) (answering (drop 1 (from_five (style_of w) (acks a) (tells a) (rings a) i)) w (record { header = a.header; block = a.loaded; bad = bad; reply = reply }))))
+    (refl, refl, λ bad reply. (λ i. store_words (8 + k) (behind_front k a.loaded (words_of reply) (omega arith) i) (answering (drop 1 (from_five (style_of w) (acks a) (tells a) (rings a) i)) w (record { header = a.header; block = a.loaded; bad = bad; reply = reply }))))
 
 -- what an earlier run has left is not used
 fresh : (s : Style) (w : Wiring) (l : List AnswerStep) (b b' : List ℕ) (e e' : Bool) (r r' : List ℕ)

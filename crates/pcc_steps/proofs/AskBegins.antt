@@ -1,7 +1,6 @@
 -- What begins a run of the asking end keeps the relation.
-use Rattle.std.proofs.Common.{◌≡◌, ℕ, ◌+◌, ◌*◌, ◌/◌, ◌%◌, ◌^◌, ◌<◌, ◌≤◌, Bool, true, false, List, ◌++◌, length, take, drop, refl, sym, ap, ◌∙◌, subst, arith, length-drop}
+use Rattle.std.proofs.Common.{◌≡◌, ℕ, ◌+◌, ◌*◌, ◌/◌, ◌^◌, ◌<◌, ◌≤◌, Bool, true, false, List, ◌++◌, length, drop, refl, sym, ap, subst, arith, length-drop}
 use Rattle.std.proofs.lemmas.List.{length-append}
-use Rattle.std.proofs.Math.Seq.{drop-append_seam}
 use Rattle.pcc_bytes.specs.Bytes.{IsBytes}
 use Rattle.pcc_history.specs.Devices.{Device}
 use Rattle.pcc_history.specs.Channel.{over}
@@ -10,9 +9,9 @@ use Rattle.pcc_steps.specs.declared.wiring.Wiring.{Wiring}
 use Rattle.pcc_steps.specs.declared.wiring.Style.{Style}
 use Rattle.pcc_steps.specs.declared.wiring.Style.TheVariants.{Headed, Joined3, Separate3, Joined4, Separate4, Reduced5}
 use Rattle.pcc_steps.specs.declared.ask.AskStage.{AskStage}
-use Rattle.pcc_steps.specs.declared.ask.AskStage.TheVariants.{AskRest, PostBlock, LookWord}
-use Rattle.pcc_steps.specs.Wires.{style_of, heads_of, block_of, block_header}
-use Rattle.pcc_steps.specs.Asking.{Ask, AskOk, AskSized, CodeFits, LooksLeft, ask_begun, ask_looking, ask_budgeted, rose}
+use Rattle.pcc_steps.specs.declared.ask.AskStage.TheVariants.{AskRest, LookWord}
+use Rattle.pcc_steps.specs.Wires.{style_of, heads_of, block_header}
+use Rattle.pcc_steps.specs.Asking.{Ask, AskOk, CodeFits, LooksLeft, ask_begun, ask_looking, ask_budgeted, rose}
 use Rattle.shmem_header.specs.Layout.{signature_of}
 use Rattle.shmem_header.proofs.Commands.{signature_of-add}
 use Rattle.pcc_bytes.proofs.Bytes.{IsBytes-drop}
@@ -105,7 +104,7 @@ module _ (exec : Device) (start : List ℕ) where
   looks_at : (x : Asker) (y : Answerer) (c : Core) → x.m.in_flight ≡ true → x.m.looks < x.m.budget → Agreed exec start (at AskRest x) y c → Agreed exec start (at LookWord x) y c
   looks_at x y c flies left g = let ok = g.ask_ok in
       moves exec start (at AskRest x) y c c LookWord x.m.kept x.m.error x.m.loaded x.m.looks x.clears g (record { wired = ok.wired; sized = ok.sized; place = tt; flies = flies; looks = left; posts = ok.posts; kept = ok.kept; mask = ok.mask; id = ok.id; code = ok.code }) g.irq
-          (subst (λ (f : Bool). Fits (resting f) (turn y.m) (at AskRest x) y c) flies g.fits)
+      (subst (λ (f : Bool). Fits (resting f) (turn y.m) (at AskRest x) y c) flies g.fits)
 
   -- a run that looks begins
   pub looks_begin : (x : Asker) → x.m.stage ≡ AskRest → x.m.in_flight ≡ true → x.m.looks < x.m.budget → (ws : List ℕ) (y : Answerer) → Agree exec start ws x y → Agree exec start ws (record x { m = ask_looking x.m }) y

@@ -1,20 +1,16 @@
 -- Each step of the asking end keeps the relation.
-use Rattle.std.proofs.Common.{◌≡◌, ◌≢◌, ℕ, ◌+◌, ◌^◌, ◌<◌, ◌≤◌, Bool, true, false, not, eqb, List, [], ◌∷◌, ◌++◌, length, get_or, set, take, drop, refl, sym, ap, ◌∙◌, subst, ⊎_elim, inl, arith, length-set}
+use Rattle.std.proofs.Common.{◌≡◌, ◌≢◌, ℕ, ◌+◌, ◌^◌, ◌<◌, ◌≤◌, Bool, true, false, List, length, get_or, set, refl, sym, ap, ◌∙◌, subst, inl, arith}
 use borrow.Author.Tests.{ltb-true, ltb-false}
-use Rattle.pcc_bytes.specs.Bytes.{IsBytes}
 use Rattle.pcc_history.specs.Devices.{Device}
-use Rattle.pcc_history.specs.Channel.{Exchange}
-use Rattle.pcc_steps.specs.declared.wiring.Wiring.{Wiring}
 use Rattle.pcc_steps.specs.declared.wiring.Style.{Style}
 use Rattle.pcc_steps.specs.declared.wiring.Style.TheVariants.{Headed, Joined3, Separate3, Joined4, Separate4, Reduced5}
 use Rattle.pcc_steps.specs.declared.ask.AskStage.{AskStage}
-use Rattle.pcc_steps.specs.declared.ask.AskStage.TheVariants.{AskRest, PostBlock, PostHeader, PostUpdateLoad, PostUpdateStore, PostMarkLoad, PostMarkStore, PostBellLoad, PostBellStore, PostLine, LookWord, LookError, LookBlock, LookLine, LookLineStore, LookAckLoad, LookAckStore}
-use Rattle.shmem_header.specs.Spelling.{words_of, bytes_of}
-use Rattle.pcc_steps.specs.Wires.{style_of, heads_of, block_of, sent_header, sees_done, tells_by, tells_error, header_error, acknowledges, masked_by, without, update_place}
-use Rattle.pcc_steps.specs.Asking.{Ask, AskOk, AskSized, AskPlace, AskUpdates, AskClears, AskRings, Flies, LooksLeft, PostsLeft, CodeFits, has_more, ask_next_at, ask_fed_at, store_on, look_on, after_block, after_update, after_mark, after_bell, after_look}
-use Rattle.pcc_steps.specs.Agree.{Core, Others, listed, act, Finds, mix, Asker, Answerer, asker_fed_at, Pose, free, writing, cleared, waiting, reading, resting, bell_pose, pose_at, pose, Turn, quiet, taken, replying, turn, opened, closed, finished, Marked, Row, Flight, flight, answered, reply_block, ShowsBy, IsDone, Waits, IsReading, Fits, Spells, flying, Agreed, Agree}
-use Rattle.pcc_steps.proofs.Lists.{mix_more, mix_all, take_all, loads, set_block, get_block}
-use Rattle.pcc_steps.proofs.Bits.{closed_unset, finished_opened, error_seen, error_shown, clears_mark, clears_update}
+use Rattle.pcc_steps.specs.declared.ask.AskStage.TheVariants.{PostBlock, PostHeader, PostUpdateLoad, PostUpdateStore, PostMarkLoad, PostMarkStore, PostBellLoad, PostBellStore, PostLine}
+use Rattle.pcc_steps.specs.Wires.{style_of, block_of, sent_header, masked_by, without, update_place}
+use Rattle.pcc_steps.specs.Asking.{Ask, AskOk, AskPlace, AskUpdates, AskClears, AskRings, Flies, LooksLeft, PostsLeft, has_more, ask_next_at, store_on, after_block, after_update, after_mark, after_bell}
+use Rattle.pcc_steps.specs.Agree.{Core, act, Finds, mix, Asker, Answerer, asker_fed_at, Pose, writing, cleared, bell_pose, pose_at, pose, Turn, turn, closed, Marked, flight, Waits, Fits, flying, Agreed, Agree}
+use Rattle.pcc_steps.proofs.Lists.{mix_more, mix_all, set_block}
+use Rattle.pcc_steps.proofs.Bits.{clears_mark, clears_update}
 
 -- the asking end at this stage
 abbrev pub at : AskStage → Asker → Asker
@@ -72,12 +68,12 @@ module _ (exec : Device) (start : List ℕ) where
       → Agreed exec start (record x { m = store_on b j (at (PostBlock j) x).m }) y (record c { block = set c.block j (get_or x.m.sent j 0) })
   stored true j x y c more g = let ok = g.ask_ok in let n : ℕ = block_of x.m.wiring in let fits = g.fits.1 in let long : length x.m.sent ≡ n = ok.sized.sent in let long' : length x.m.shown ≡ n = ok.sized.shown in let here : j < n = ok.place in
       moves (at (PostBlock j) x) y c (record c { block = set c.block j (get_or x.m.sent j 0) }) (PostBlock (j + 1)) x.m.kept x.m.error x.m.loaded x.m.looks x.clears g (steps_on (at (PostBlock j) x).m (PostBlock (j + 1)) x.m.kept ok ok.kept (ltb-true (j + 1) n more) ok.flies ok.looks ok.posts) g.irq
-          (g.fits.0, record { completion = fits.completion; line = fits.line; block = ap (λ (l : List ℕ). set l j (get_or x.m.sent j 0)) fits.block ∙ mix_more j x.m.sent x.m.shown (omega arith) (omega arith); done = fits.done })
+      (g.fits.0, record { completion = fits.completion; line = fits.line; block = ap (λ (l : List ℕ). set l j (get_or x.m.sent j 0)) fits.block ∙ mix_more j x.m.sent x.m.shown (omega arith) (omega arith); done = fits.done })
   stored false j x y c more g = let ok = g.ask_ok in let n : ℕ = block_of x.m.wiring in let fits = g.fits.1 in let long : length x.m.sent ≡ n = ok.sized.sent in let long' : length x.m.shown ≡ n = ok.sized.shown in let here : j < n = ok.place in
       let last : n ≤ j + 1 = ltb-false (j + 1) n more in let all : j + 1 ≡ n = omega arith in let s : Style = style_of x.m.wiring in let a : Ask = record x.m { stage = after_block s } in let d : Core = record c { block = set c.block j (get_or x.m.sent j 0) } in
       moves (at (PostBlock j) x) y c d (after_block s) x.m.kept x.m.error x.m.loaded x.m.looks x.clears g (block_ok s x.m refl (record { wired = ok.wired; sized = ok.sized; place = omega arith; flies = ok.flies; looks = ok.looks; posts = ok.posts; kept = ok.kept; mask = ok.mask; id = ok.id; code = ok.code })) g.irq
-          (subst (λ (q : Pose). Fits q (turn y.m) (record x { m = a }) y d) (sym (pose_after s a refl))
-              (g.fits.0, record { completion = fits.completion; line = fits.line; block = ap (λ (l : List ℕ). set l j (get_or x.m.sent j 0)) fits.block ∙ (mix_more j x.m.sent x.m.shown (omega arith) (omega arith) ∙ ap (λ (k : ℕ). mix k x.m.sent x.m.shown) all); done = fits.done }))
+      (subst (λ (q : Pose). Fits q (turn y.m) (record x { m = a }) y d) (sym (pose_after s a refl))
+      (g.fits.0, record { completion = fits.completion; line = fits.line; block = ap (λ (l : List ℕ). set l j (get_or x.m.sent j 0)) fits.block ∙ (mix_more j x.m.sent x.m.shown (omega arith) (omega arith) ∙ ap (λ (k : ℕ). mix k x.m.sent x.m.shown) all); done = fits.done }))
 
   pub stores_block : (j : ℕ) → Keeps (PostBlock j)
   stores_block j x y ws v g f small = let c = g.0 in let o = g.1.0 in let s : ℕ = get_or x.m.sent j 0 in (
@@ -97,7 +93,7 @@ module _ (exec : Device) (start : List ℕ) where
       ap (λ (l : List ℕ). set l 0 z) g.1.1,
       moves (at PostHeader x) y c d PostBellLoad x.m.kept x.m.error x.m.loaded x.m.looks x.clears h (steps_on (at PostHeader x).m PostBellLoad x.m.kept ok ok.kept (subst AskRings (sym headed) tt) ok.flies ok.looks ok.posts) h.irq
           (subst (λ (q : Pose). Fits q (turn y.m) (at PostBellLoad x) y d) (sym (ap (λ (s : Style). bell_pose s (block_of w)) headed))
-              (h.fits.0, record { completion = subst (λ (s : Style). Marked s w x.m.code closed z) (sym headed) refl; line = fits.line; block = written x y c PostHeader ok fits.block; done = fits.done })),
+          (h.fits.0, record { completion = subst (λ (s : Style). Marked s w x.m.code closed z) (sym headed) refl; line = fits.line; block = written x y c PostHeader ok fits.block; done = fits.done })),
     ),
   )
 
@@ -152,7 +148,7 @@ module _ (exec : Device) (start : List ℕ) where
       ap (λ (l : List ℕ). set l 0 z) g.1.1,
       moves (at PostUpdateStore x) y c d PostBellLoad x.m.kept x.m.error x.m.loaded x.m.looks x.clears h (steps_on (at PostUpdateStore x).m PostBellLoad x.m.kept ok ok.kept (subst AskRings (sym e) tt) ok.flies ok.looks ok.posts) h.irq
           (subst (λ (q : Pose). Fits q (turn y.m) (at PostBellLoad x) y d) (sym (ap (λ (s : Style). bell_pose s (block_of w)) e))
-              (h.fits.0, record { completion = subst (λ (s : Style). Marked s w x.m.code closed z) (sym e) (clears_update w x.m.code x.m.kept e ok.wired); line = fits.line; block = written x y c PostUpdateStore ok fits.block; done = fits.done })),
+          (h.fits.0, record { completion = subst (λ (s : Style). Marked s w x.m.code closed z) (sym e) (clears_update w x.m.code x.m.kept e ok.wired); line = fits.line; block = written x y c PostUpdateStore ok fits.block; done = fits.done })),
     ),
   )
   updated Separate3 x y ws e u g = let c = g.0 in let o = g.1.0 in let h = g.1.2 in let ok = h.ask_ok in let z : ℕ = masked_by x.m.wiring.update x.m.kept in (

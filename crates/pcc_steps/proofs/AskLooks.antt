@@ -1,18 +1,16 @@
 -- Each step of a look keeps the relation.
-use Rattle.std.proofs.Common.{◌≡◌, ℕ, ◌+◌, ◌/◌, ◌^◌, ◌<◌, ◌≤◌, Bool, true, false, eqb, List, [], ◌∷◌, ◌++◌, length, get_or, set, take, drop, refl, sym, ap, ◌∙◌, subst, ⊎_elim, arith, length-set}
+use Rattle.std.proofs.Common.{◌≡◌, ℕ, ◌+◌, ◌<◌, ◌≤◌, Bool, true, false, eqb, List, [], ◌∷◌, ◌++◌, length, get_or, set, take, drop, refl, sym, ap, ◌∙◌, subst, ⊎_elim, arith, length-set}
 use Rattle.std.proofs.lemmas.List.{length-append}
 use borrow.Author.Tests.{ltb-true, ltb-false}
 use Rattle.pcc_bytes.specs.Bytes.{IsBytes}
 use Rattle.pcc_history.specs.Devices.{Device}
-use Rattle.pcc_history.specs.Channel.{Exchange}
-use Rattle.pcc_steps.specs.declared.wiring.Wiring.{Wiring}
 use Rattle.pcc_steps.specs.declared.wiring.Style.{Style}
 use Rattle.pcc_steps.specs.declared.ask.AskStage.{AskStage}
 use Rattle.pcc_steps.specs.declared.ask.AskStage.TheVariants.{AskRest, PostBlock, PostHeader, PostUpdateLoad, PostUpdateStore, PostMarkLoad, PostMarkStore, PostBellLoad, PostBellStore, PostLine, LookWord, LookError, LookBlock, LookLine, LookLineStore, LookAckLoad, LookAckStore}
 use Rattle.shmem_header.specs.Spelling.{words_of, bytes_of}
-use Rattle.pcc_steps.specs.Wires.{style_of, heads_of, block_of, meets, is_complete, sees_done, tells_by, tells_error, header_error, acknowledges, masked_by}
-use Rattle.pcc_steps.specs.Asking.{Ask, AskOk, AskPlace, Flies, LooksLeft, PostsLeft, has_more, look_on, read_on, block_on, line_on, lowered_on, drained, after_look, look_told, read_told, end_told, line_told}
-use Rattle.pcc_steps.specs.Agree.{Core, Others, listed, act, Finds, Asker, Answerer, done_after, clears_after, Pose, reading, resting, pose_at, pose, Turn, quiet, taken, replying, turn, closed, finished, Marked, Row, Flight, flight, answered, reply_block, ShowsBy, IsDone, Waits, Knows, IsReading, Fits, Spells, flying, Agreed, Agree}
+use Rattle.pcc_steps.specs.Wires.{style_of, heads_of, block_of, meets, is_complete, sees_done, tells_error, header_error, acknowledges, masked_by}
+use Rattle.pcc_steps.specs.Asking.{Ask, AskOk, has_more, look_on, read_on, block_on, line_on, lowered_on, drained, after_look, look_told, read_told, end_told, line_told}
+use Rattle.pcc_steps.specs.Agree.{Core, Asker, Answerer, done_after, clears_after, Pose, reading, resting, pose_at, Turn, quiet, taken, replying, turn, closed, Row, flight, answered, reply_block, IsDone, Waits, Knows, Fits, flying, Agreed}
 use Rattle.pcc_steps.proofs.Lists.{take_all, loads, get_block}
 use Rattle.pcc_steps.proofs.Bits.{closed_unset, finished_opened, error_seen, error_shown}
 use Rattle.pcc_steps.proofs.Spaces.{block_long, behind_front, space_again, some_words}
@@ -48,11 +46,11 @@ module _ (exec : Device) (start : List ℕ) where
   looked_at true v x y c seen same g = let ok = g.ask_ok in let w = x.m.wiring in let s : Style = style_of w in let t : Bool = tells_error w in let a : Ask = record x.m { stage = after_look t; error = header_error s v } in
       let now : is_complete s w.check_mask c.completion ≡ true = ap (is_complete s w.check_mask) (sym same) ∙ seen in let d = sees (turn y.m) s (at LookWord x) y c ok refl now g.fits in
       moves exec start (at LookWord x) y c c (after_look t) x.m.kept (header_error s v) x.m.loaded x.m.looks x.clears g (look_ok t x.m (header_error s v) refl (some_words (heads_of s) w.room ok.wired.least) ok) g.irq
-          (subst (λ (q : Pose). Fits q (turn y.m) (record x { m = a }) y c) (sym (pose_look t a))
-              (d.0, record { error = d.1.0.0; output = d.1.0.1; is = d.1.1; loaded = refl; knows = knows_look t d.1.0.0 (header_error s v) (λ quietly. error_seen s w.reports w x.m.code c.completion v c.error d.1.0.0 ok.id ok.code quietly same d.1.1.row.completion d.1.1.shows) }))
+      (subst (λ (q : Pose). Fits q (turn y.m) (record x { m = a }) y c) (sym (pose_look t a))
+      (d.0, record { error = d.1.0.0; output = d.1.0.1; is = d.1.1; loaded = refl; knows = knows_look t d.1.0.0 (header_error s v) (λ quietly. error_seen s w.reports w x.m.code c.completion v c.error d.1.0.0 ok.id ok.code quietly same d.1.1.row.completion d.1.1.shows) }))
   looked_at false v x y c seen same g = let ok = g.ask_ok in
       moves exec start (at LookWord x) y c c AskRest x.m.kept x.m.error x.m.loaded (x.m.looks + 1) (x.clears + 1) g (record { wired = ok.wired; sized = ok.sized; place = tt; flies = tt; looks = let l = ok.looks in omega arith; posts = ok.posts; kept = ok.kept; mask = ok.mask; id = ok.id; code = ok.code }) g.irq
-          (subst (λ (f : Bool). Fits (resting f) (turn y.m) (record { m = look_on false v (at LookWord x).m; done = x.done; clears = x.clears + 1 }) y c) (sym ok.flies) g.fits)
+      (subst (λ (f : Bool). Fits (resting f) (turn y.m) (record { m = look_on false v (at LookWord x).m; done = x.done; clears = x.clears + 1 }) y c) (sym ok.flies) g.fits)
 
   looks_word : Keeps exec start LookWord
   looks_word x y ws v g f small = let same : v ≡ g.0.completion = f ∙ ap (λ (l : List ℕ). get_or l 0 0) g.1.1 in (g.0, (g.1.0, g.1.1, looked_at (sees_done x.m.wiring v) v x y g.0 refl same g.1.2))
@@ -91,12 +89,15 @@ module _ (exec : Device) (start : List ℕ) where
         carries = g.carries;
         posts = omega arith;
         irq = low;
-        fits = (rests, record {
-          completion = finished_opened (style_of w) w x.m.code d.completion e ok.id ok.code is.row.completion;
-          line = is.row.line;
-          block = is.row.block ∙ sym whole;
-          done = is.row.done ∙ ap (λ (z : Bool × List ℕ). x.done ++ answered (flight x) z.0 z.1 ∷ []) (λ i. (sym knows i, sym space i));
-        });
+        fits = (
+          rests,
+          record {
+            completion = finished_opened (style_of w) w x.m.code d.completion e ok.id ok.code is.row.completion;
+            line = is.row.line;
+            block = is.row.block ∙ sym whole;
+            done = is.row.done ∙ ap (λ (z : Bool × List ℕ). x.done ++ answered (flight x) z.0 z.1 ∷ []) (λ i. (sym knows i, sym space i));
+          },
+        );
       }
 
   -- the last word of the block is loaded
@@ -105,7 +106,7 @@ module _ (exec : Device) (start : List ℕ) where
       Agreed exec start (record { m = block_on b a; done = done_after (end_told b x.m.error) x.done (block_on b a); clears = clears_after (end_told b x.m.error) x.clears }) y c
   blocked true j l x y c e output asks g long is loaded knows rests = let ok = g.ask_ok in
       moves exec start (at (LookBlock j) x) y c c LookLine x.m.kept x.m.error l x.m.looks x.clears g (record { wired = ok.wired; sized = record { sent = ok.sized.sent; shown = ok.sized.shown; loaded = long; input = ok.sized.input; space = ok.sized.space }; place = asks; flies = ok.flies; looks = ok.looks; posts = ok.posts; kept = ok.kept; mask = ok.mask; id = ok.id; code = ok.code }) g.irq
-          (rests, record { error = e; output = output; is = is; loaded = loaded; knows = knows })
+      (rests, record { error = e; output = output; is = is; loaded = loaded; knows = knows })
   blocked false j l x y c e output asks g long is loaded knows rests = let ok = g.ask_ok in drains x y c c (LookBlock j) l e output g ok.flies ok.looks ok.posts long g.irq rests is loaded knows
 
   read : (b : Bool) (j v : ℕ) (x : Asker) (y : Answerer) (c : Core) → has_more j x.m.wiring ≡ b → v ≡ get_or c.block j 0 → Agreed exec start (at (LookBlock j) x) y c
@@ -113,8 +114,8 @@ module _ (exec : Device) (start : List ℕ) where
   read true j v x y c more same g = let ok = g.ask_ok in let w = x.m.wiring in let n : ℕ = block_of w in let r = g.fits.1 in let here : j < n = ok.place in let long : length x.m.loaded ≡ n = ok.sized.loaded in
       let long' : length (reply_block (flight x) r.output) ≡ n = block_long (heads_of (style_of w)) w.room x.m.sent r.output ok.sized.sent r.is.long in
       moves exec start (at (LookBlock j) x) y c c (LookBlock (j + 1)) x.m.kept x.m.error (set x.m.loaded j v) x.m.looks x.clears g
-          (record { wired = ok.wired; sized = record { sent = ok.sized.sent; shown = ok.sized.shown; loaded = length-set x.m.loaded j v ∙ long; input = ok.sized.input; space = ok.sized.space }; place = ltb-true (j + 1) n more; flies = ok.flies; looks = ok.looks; posts = ok.posts; kept = ok.kept; mask = ok.mask; id = ok.id; code = ok.code }) g.irq
-          (g.fits.0, record { error = r.error; output = r.output; is = r.is; loaded = loads j x.m.loaded (reply_block (flight x) r.output) v (omega arith) (omega arith) (same ∙ ap (λ (l : List ℕ). get_or l j 0) r.is.row.block) r.loaded; knows = r.knows })
+      (record { wired = ok.wired; sized = record { sent = ok.sized.sent; shown = ok.sized.shown; loaded = length-set x.m.loaded j v ∙ long; input = ok.sized.input; space = ok.sized.space }; place = ltb-true (j + 1) n more; flies = ok.flies; looks = ok.looks; posts = ok.posts; kept = ok.kept; mask = ok.mask; id = ok.id; code = ok.code }) g.irq
+      (g.fits.0, record { error = r.error; output = r.output; is = r.is; loaded = loads j x.m.loaded (reply_block (flight x) r.output) v (omega arith) (omega arith) (same ∙ ap (λ (l : List ℕ). get_or l j 0) r.is.row.block) r.loaded; knows = r.knows })
   read false j v x y c more same g = let ok = g.ask_ok in let w = x.m.wiring in let n : ℕ = block_of w in let r = g.fits.1 in let here : j < n = ok.place in let long : length x.m.loaded ≡ n = ok.sized.loaded in
       let long' : length (reply_block (flight x) r.output) ≡ n = block_long (heads_of (style_of w)) w.room x.m.sent r.output ok.sized.sent r.is.long in
       let last : n ≤ j + 1 = ltb-false (j + 1) n more in let all : j + 1 ≡ n = omega arith in let l : List ℕ = set x.m.loaded j v in

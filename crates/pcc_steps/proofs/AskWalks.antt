@@ -1,7 +1,7 @@
 -- The asking machine walks its tables.
-use Rattle.std.proofs.Common.{◌≡◌, ◌≢◌, ℕ, zero, suc, ◌+◌, ◌-◌, ◌<◌, ◌≤◌, Bool, true, false, eqb, ◌==◌, if◌then◌else◌, List, [], ◌∷◌, ◌++◌, length, get_or, set, take, drop, refl, sym, ap, ◌∙◌, subst, arith, length-set, add-one}
+use Rattle.std.proofs.Common.{◌≡◌, ◌≢◌, ℕ, zero, suc, ◌+◌, ◌-◌, ◌<◌, ◌≤◌, Bool, true, false, eqb, ◌==◌, if◌then◌else◌, List, [], ◌∷◌, ◌++◌, length, get_or, set, take, drop, refl, sym, ap, ◌∙◌, subst, arith, length-set}
 use Rattle.std.proofs.lemmas.List.{take_more_set}
-use borrow.Author.Tests.{ltb-true, ltb-false}
+use borrow.Author.Tests.{ltb-false}
 use Rattle.pcc_steps.specs.declared.wiring.Wiring.{Wiring}
 use Rattle.pcc_steps.specs.declared.wiring.Style.{Style}
 use Rattle.pcc_steps.specs.declared.wiring.Style.TheVariants.{Headed, Joined3, Separate3, Joined4, Separate4, Reduced5}
@@ -12,11 +12,11 @@ use Rattle.pcc_steps.specs.Laws.{AsksByTable, PostsByTable, LooksByTable}
 use Rattle.pcc_steps.specs.declared.ask.AskOutcome.{AskOutcome}
 use Rattle.pcc_steps.specs.declared.ask.AskOutcome.TheVariants.{Posted, Clear, Drained}
 use Rattle.pcc_steps.specs.declared.wiring.Action.{Action}
-use Rattle.pcc_steps.specs.declared.wiring.Action.TheVariants.{Load, Store}
+use Rattle.pcc_steps.specs.declared.wiring.Action.TheVariants.{Load}
 use Rattle.pcc_steps.specs.declared.ask.AskStage.{AskStage}
 use Rattle.pcc_steps.specs.declared.ask.AskStage.TheVariants.{AskRest, PostBlock, PostHeader, PostUpdateLoad, PostUpdateStore, PostMarkLoad, PostMarkStore, PostBellLoad, PostBellStore, PostLine, LookWord, LookError, LookBlock, LookLine, LookLineStore, LookAckLoad, LookAckStore}
-use Rattle.pcc_steps.specs.Wires.{style_of, heads_of, block_of, sent_header, meets, sees_done, tells_error, header_error, acknowledges, masked_by, without, update_place, block_header}
-use Rattle.pcc_steps.specs.Runs.{Run, ends, loads, stores, swaps, executes, store_words, load_words, PostStep, post_steps, posting, post_run, AskEnd, posts, sees_clear, drains, LookStep, look_table, look_steps, looking, look_run, acknowledging, masked_write, Seen}
+use Rattle.pcc_steps.specs.Wires.{style_of, block_of, meets, sees_done, tells_error, header_error, acknowledges, block_header}
+use Rattle.pcc_steps.specs.Runs.{Run, ends, loads, stores, swaps, executes, store_words, load_words, PostStep, post_steps, posting, AskEnd, posts, sees_clear, drains, LookStep, look_table, look_steps, looking, acknowledging, masked_write, Seen}
 use Rattle.pcc_steps.specs.Asking.{Ask, AskOk, AskUpdates, AskClears, AskRings, has_more, rose, ask_stepped, ask_next_at, ask_fed_at, ask_told_at, store_on, look_on, read_on, block_on, line_on, lowered_on, look_told, read_told, end_told, line_told, after_block, after_update, after_mark, after_bell, after_look}
 use Rattle.pcc_steps.specs.Walk.{post_number, look_number, from, behind, ask_left_by, ask_left, ask_after, Takes}
 

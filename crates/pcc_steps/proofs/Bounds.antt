@@ -1,5 +1,5 @@
 -- How many word steps a run takes.
-use Rattle.std.proofs.Common.{◌≡◌, ℕ, zero, suc, ◌+◌, ◌-◌, ◌*◌, ◌/◌, ◌<◌, ◌≤◌, ◌==◌, Bool, true, false, if◌then◌else◌, List, [], ◌∷◌, ◌++◌, length, drop, refl, sym, ap, ◌∙◌, subst, arith, length-drop}
+use Rattle.std.proofs.Common.{◌≡◌, ℕ, zero, suc, ◌+◌, ◌-◌, ◌*◌, ◌<◌, ◌≤◌, ◌==◌, Bool, true, false, if◌then◌else◌, List, [], ◌∷◌, ◌++◌, length, drop, ◌∙◌, subst, arith, length-drop}
 use Rattle.std.proofs.lemmas.List.{length-append}
 use Rattle.shmem_header.specs.Spelling.{words_of, bytes_of}
 use Rattle.shmem_header.proofs.Places.{length-words_of, length-bytes_of}
@@ -7,7 +7,7 @@ use Rattle.pcc_steps.specs.declared.wiring.Wiring.{Wiring}
 use Rattle.pcc_steps.specs.declared.wiring.Style.{Style}
 use Rattle.pcc_steps.specs.declared.wiring.Style.TheVariants.{Headed, Joined3, Separate3, Joined4, Separate4, Reduced5}
 use Rattle.pcc_steps.specs.Wires.{style_of, heads_of, block_of, meets, header_error, sees_done, tells_error, acknowledges, four_by, asks_by}
-use Rattle.pcc_steps.specs.Runs.{Run, ends, loads, stores, swaps, executes, Within, store_words, load_words, only, PostStep, post_steps, posting, post_run, AskEnd, LookStep, looks_at_error, looks_at_block, lowers_interrupt, look_table, looking, look_run, acknowledging, Seen, AnswerStep, acknowledges_bell, executes_command, replies_space, replies_error, rings_bell, raises_interrupt, taking_steps, completing_steps, answer_steps, answering, answer_run, AnswerEnd, Got}
+use Rattle.pcc_steps.specs.Runs.{Run, ends, loads, stores, swaps, executes, Within, store_words, load_words, only, post_steps, posting, post_run, looks_at_error, looks_at_block, lowers_interrupt, looking, Seen, acknowledges_bell, executes_command, replies_space, taking_steps, completing_steps, answering, Got}
 use Rattle.pcc_steps.specs.Laws.{PostsWithin, LooksWithin, AnswersWithin}
 use Rattle.pcc_steps.proofs.AnswerWalks.{closing, replied}
 

@@ -1,8 +1,8 @@
 -- Histories that grow at their end.
-use Rattle.std.proofs.Common.{◌≡◌, ℕ, Bool, List, [], ◌∷◌, ◌++◌, refl, sym, ap, subst}
+use Rattle.std.proofs.Common.{◌≡◌, ℕ, Bool, List, [], ◌∷◌, ◌++◌, refl}
 use Rattle.pcc_exec.specs.Execution.{IsSpace}
 use Rattle.pcc_history.specs.Devices.{Device}
-use Rattle.pcc_history.specs.Channel.{Exchange, both, exchange_of}
+use Rattle.pcc_history.specs.Channel.{Exchange, exchange_of}
 use Rattle.pcc_history.specs.Histories.{Legal, state_after}
 use Rattle.pcc_steps.specs.Agree.{HasRoom}
 

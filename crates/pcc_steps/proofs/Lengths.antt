@@ -1,6 +1,6 @@
 -- A run of a machine is no longer than its table says.
-use Rattle.std.specs.Prelude.{Option, None, Some}
-use Rattle.std.proofs.Common.{◌≡◌, ◌≢◌, ℕ, ◌+◌, ◌-◌, ◌*◌, ◌/◌, ◌%◌, ◌<◌, ◌≤◌, Bool, true, false, eqb, List, [], ◌∷◌, length, drop, refl, sym, ap, ◌∙◌, subst, arith, length-drop}
+use Rattle.std.specs.Prelude.{Option, None}
+use Rattle.std.proofs.Common.{◌≡◌, ◌≢◌, ℕ, ◌+◌, ◌-◌, ◌/◌, ◌%◌, ◌<◌, Bool, true, false, eqb, List, [], ◌∷◌, length, drop, refl, sym, ap, ◌∙◌, subst, arith, length-drop}
 use Rattle.shmem_header.specs.Spelling.{bytes_of}
 use Rattle.shmem_header.proofs.Places.{length-bytes_of}
 use Rattle.pcc_steps.specs.declared.wiring.Action.{Action}
@@ -10,12 +10,12 @@ use Rattle.pcc_steps.specs.declared.ask.AskOutcome.{AskOutcome}
 use Rattle.pcc_steps.specs.declared.answer.AnswerStage.{AnswerStage}
 use Rattle.pcc_steps.specs.declared.answer.AnswerStage.TheVariants.{AnswerRest, TakeLine, TakeAckLoad, TakeAckStore, TakeHeader, TakeBlock, RunDevice, ReplyBlock, ReplyError, ReplyHeader, ReplyUpdateLoad, ReplyUpdateStore, ReplyMarkLoad, ReplyMarkStore, CloseBellLoad, CloseBellStore, CloseLine}
 use Rattle.pcc_steps.specs.declared.answer.AnswerOutcome.{AnswerOutcome}
-use Rattle.pcc_steps.specs.Wires.{style_of, heads_of, block_of, sees_done, acknowledges}
-use Rattle.pcc_steps.specs.Runs.{Run, ends, loads, stores, swaps, executes, Within, AskEnd, AnswerEnd}
-use Rattle.pcc_steps.specs.Asking.{Ask, AskOk, IsAskRunning, has_more, ask_fed_at, ask_told_at, ask_next, ask_fed, ask_told, look_on, look_told, read_on, read_told, block_on, end_told, line_on, line_told, lowered_on}
-use Rattle.pcc_steps.specs.Answering.{Answer, AnswerOk, answer_fed_at, answer_told_at, answer_next, answer_fed, answer_told, take_on, take_told, served_at, after_update, done_stage, after_close, asks_notify, ran_with}
+use Rattle.pcc_steps.specs.Wires.{style_of, heads_of, sees_done, acknowledges}
+use Rattle.pcc_steps.specs.Runs.{Run, ends, loads, stores, swaps, executes, Within, AnswerEnd}
+use Rattle.pcc_steps.specs.Asking.{Ask, has_more, ask_fed_at, ask_told_at, ask_next, ask_fed, ask_told, look_on, look_told, read_on, read_told, block_on, end_told, line_on, line_told, lowered_on}
+use Rattle.pcc_steps.specs.Answering.{Answer, answer_fed_at, answer_told_at, answer_next, answer_fed, answer_told, take_on, take_told, served_at, after_update, done_stage, after_close, asks_notify, ran_with}
 use Rattle.pcc_steps.specs.Walk.{ask_left, ask_after, answer_left, answer_after, Takes, Gives}
-use Rattle.pcc_steps.specs.Laws.{IsAskRun, AskRunsWithin, Event, finds, replies, IsAnswerRun, word_steps, AnswerRunsWithin}
+use Rattle.pcc_steps.specs.Laws.{AskRunsWithin, Event, finds, replies, IsAnswerRun, AnswerRunsWithin}
 use Rattle.pcc_steps.proofs.AskWalks.{asks_by_table}
 use Rattle.pcc_steps.proofs.AnswerWalks.{answer_steps_by_table, executes_by_table}
 

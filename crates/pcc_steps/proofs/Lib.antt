@@ -16,3 +16,5 @@ pub mod AnswerWalks
 pub mod Bounds
 pub mod Lengths
 pub mod Nexts
+pub mod Asks
+pub mod Turns

@@ -1,11 +1,10 @@
 -- The relation holds of two new machines, and what it says of the two histories.
-use Rattle.std.proofs.Common.{◌≡◌, ◌≢◌, ◌⊎◌, ℕ, ◌+◌, ◌/◌, ◌^◌, ◌<◌, ◌==◌, Bool, true, false, not, List, [], ◌∷◌, ◌++◌, length, drop, refl, sym, ap, ◌∙◌, subst, inl, inr, arith, ne_eqb}
+use Rattle.std.proofs.Common.{◌≡◌, ◌⊎◌, ℕ, ◌+◌, ◌/◌, ◌^◌, ◌<◌, Bool, true, false, not, List, [], ◌∷◌, ◌++◌, drop, refl, sym, ap, ◌∙◌, subst, inl, inr, arith, ne_eqb}
 use lib.Bits.{bit_and}
 use Rattle.std.specs.Int.Bits.{and_self}
 use Rattle.pcc_bytes.specs.Bytes.{IsBytes}
 use Rattle.pcc_history.specs.Devices.{Device}
 use Rattle.pcc_history.specs.Channel.{Exchange}
-use Rattle.shmem_header.specs.HeaderBits.{is_set, header_word}
 use Rattle.shmem_header.specs.Layout.{signature_of}
 use Rattle.shmem_header.proofs.Commands.{is_set-header_word_complete, signature_of-add}
 use Rattle.shmem_header.specs.Spelling.{words_of}
@@ -16,10 +15,10 @@ use Rattle.pcc_steps.specs.declared.ask.AskStage.{AskStage}
 use Rattle.pcc_steps.specs.declared.ask.AskStage.TheVariants.{AskRest}
 use Rattle.pcc_steps.specs.declared.answer.AnswerStage.{AnswerStage}
 use Rattle.pcc_steps.specs.declared.answer.AnswerStage.TheVariants.{AnswerRest}
-use Rattle.pcc_steps.specs.Wires.{style_of, heads_of, block_of, IsRight, is_complete, opening_word, opening_header, opening_words}
+use Rattle.pcc_steps.specs.Wires.{style_of, heads_of, IsRight, is_complete, opening_word, opening_header, opening_words}
 use Rattle.pcc_steps.specs.Asking.{Ask, AskOk, IsNewAsk}
 use Rattle.pcc_steps.specs.Answering.{Answer, AnswerOk, IsNewAnswer}
-use Rattle.pcc_steps.specs.Agree.{Core, Asker, Answerer, Pose, free, writing, cleared, waiting, reading, pose, pose_at, Turn, quiet, taken, replying, turn, turn_at, opened, Marked, Row, Fits, Waits, flight, answered, Spells, Carries, flying, IsBetween, Agreed, Agree}
+use Rattle.pcc_steps.specs.Agree.{Core, Asker, Answerer, Pose, free, writing, cleared, waiting, reading, pose, pose_at, Turn, quiet, taken, replying, turn, turn_at, Fits, flight, answered, Carries, flying, IsBetween, Agree}
 use Rattle.pcc_steps.proofs.Bits.{set_opened, unheaded}
 
 opened_first : (s : Style) (w : Wiring) → style_of w ≡ s → IsRight w → w.id < 2 ^ 8 → is_complete s w.check_mask (opening_word s w) ≡ true

@@ -1,9 +1,9 @@
 -- The answering machine as data, and what one word step makes of it.
-use Rattle.std.specs.Prelude.{◌≡◌, ◌≢◌, ℕ, ◌+◌, ◌^◌, ◌<◌, ◌≤◌, ◌==◌, Bool, true, false, eqb, List, [], ◌++◌, length, get_or, set, take, drop, bit_or, Option, Some, None}
+use Rattle.std.specs.Prelude.{◌≡◌, ◌≢◌, ℕ, ◌+◌, ◌^◌, ◌<◌, ◌≤◌, Bool, true, false, eqb, List, ◌++◌, length, get_or, set, take, drop, bit_or, Option, Some, None}
 use Rattle.pcc_exec.specs.declared.executor.ExecStatus.{ExecStatus}
 use Rattle.pcc_steps.specs.declared.wiring.Wiring.{Wiring}
 use Rattle.pcc_steps.specs.declared.wiring.Style.{Style}
-use Rattle.pcc_steps.specs.declared.wiring.Style.TheVariants.{Headed, Joined3, Separate3, Joined4, Separate4, Reduced5}
+use Rattle.pcc_steps.specs.declared.wiring.Style.TheVariants.{Headed, Joined4, Separate4}
 use Rattle.pcc_steps.specs.declared.wiring.Action.{Action}
 use Rattle.pcc_steps.specs.declared.wiring.Action.TheVariants.{Load, Store, Swap, Execute, Rest}
 use Rattle.pcc_steps.specs.declared.answer.AnswerStage.{AnswerStage}
@@ -239,3 +239,30 @@ pub record AnswerOk (a : Answer) : Type 0 where
 
 abbrev pub IsAnswerStepping : Answer → Type 0
 IsAnswerStepping a = (a.stage ≢ AnswerRest) × (a.stage ≢ RunDevice)
+
+-- a step that takes the command
+abbrev pub IsTaking : AnswerStage → Type 0
+IsTaking TakeLine = Unit {0}
+IsTaking TakeAckLoad = Unit {0}
+IsTaking TakeAckStore = Unit {0}
+IsTaking TakeHeader = Unit {0}
+IsTaking (TakeBlock j) = Unit {0}
+IsTaking _ = ⊥
+
+-- a step that stores the reply
+abbrev pub IsReplying : AnswerStage → Type 0
+IsReplying (ReplyBlock j) = Unit {0}
+IsReplying ReplyError = Unit {0}
+IsReplying _ = ⊥
+
+-- a step that completes the command, or closes the run
+abbrev pub IsCompleting : AnswerStage → Type 0
+IsCompleting ReplyHeader = Unit {0}
+IsCompleting ReplyUpdateLoad = Unit {0}
+IsCompleting ReplyUpdateStore = Unit {0}
+IsCompleting ReplyMarkLoad = Unit {0}
+IsCompleting ReplyMarkStore = Unit {0}
+IsCompleting CloseBellLoad = Unit {0}
+IsCompleting CloseBellStore = Unit {0}
+IsCompleting CloseLine = Unit {0}
+IsCompleting _ = ⊥

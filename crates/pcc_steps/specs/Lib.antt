@@ -6,3 +6,4 @@ pub mod Agree
 pub mod Lending
 pub mod Laws
 pub mod Walk
+pub mod Asked

@@ -1,9 +1,7 @@
 -- The machines as cursors over their runs: what is left of the run at each stage.
-use Rattle.std.specs.Prelude.{◌≡◌, ℕ, bit_or, ◌+◌, ◌-◌, ◌<◌, ◌==◌, Bool, true, false, if◌then◌else◌, List, [], ◌∷◌, length, take, drop, Option, Some, None}
-use Rattle.pcc_steps.specs.declared.wiring.Wiring.{Wiring}
-use Rattle.pcc_steps.specs.declared.wiring.Style.{Style}
+use Rattle.std.specs.Prelude.{◌≡◌, ℕ, bit_or, ◌+◌, ◌-◌, ◌==◌, Bool, false, if◌then◌else◌, List, [], ◌∷◌, take, drop, Option, Some, None}
 use Rattle.pcc_steps.specs.declared.wiring.Action.{Action}
-use Rattle.pcc_steps.specs.declared.wiring.Action.TheVariants.{Load, Store, Swap, Execute, Rest}
+use Rattle.pcc_steps.specs.declared.wiring.Action.TheVariants.{Load, Store, Swap, Execute}
 use Rattle.pcc_steps.specs.declared.ask.AskStage.{AskStage}
 use Rattle.pcc_steps.specs.declared.ask.AskStage.TheVariants.{AskRest, PostBlock, PostHeader, PostUpdateLoad, PostUpdateStore, PostMarkLoad, PostMarkStore, PostBellLoad, PostBellStore, PostLine, LookWord, LookError, LookBlock, LookLine, LookLineStore, LookAckLoad, LookAckStore}
 use Rattle.pcc_steps.specs.declared.ask.AskOutcome.{AskOutcome}
@@ -12,11 +10,10 @@ use Rattle.pcc_steps.specs.declared.answer.AnswerStage.{AnswerStage}
 use Rattle.pcc_steps.specs.declared.answer.AnswerStage.TheVariants.{AnswerRest, TakeLine, TakeAckLoad, TakeAckStore, TakeHeader, TakeBlock, RunDevice, ReplyBlock, ReplyError, ReplyHeader, ReplyUpdateLoad, ReplyUpdateStore, ReplyMarkLoad, ReplyMarkStore, CloseBellLoad, CloseBellStore, CloseLine}
 use Rattle.pcc_steps.specs.declared.answer.AnswerOutcome.{AnswerOutcome}
 use Rattle.pcc_steps.specs.declared.answer.AnswerOutcome.TheVariants.{Idle, Served}
-use Rattle.shmem_header.specs.Spelling.{words_of}
-use Rattle.pcc_steps.specs.Wires.{style_of, heads_of, block_of, tells_error, acknowledges, four_by, asks_by, masked_by, without, update_place}
-use Rattle.pcc_steps.specs.Runs.{Run, ends, loads, stores, swaps, executes, store_words, load_words, masked_write, PostStep, stores_block, stores_header, writes_update, clears_completion, writes_bell, raises_bell, post_steps, posting, post_run, AskEnd, posts, sees_clear, drains, LookStep, looks_at_completion, looks_at_error, looks_at_block, lowers_interrupt, look_steps, looking, look_run, acknowledging, Seen, AnswerStep, takes_bell, acknowledges_bell, takes_header, takes_block, executes_command, replies_space, replies_error, replies_status, replies_update, replies_completion, rings_bell, raises_interrupt, answer_steps, answering, answer_run, AnswerEnd, finds_none, serves, Got}
-use Rattle.pcc_steps.specs.Asking.{Ask, ask_next, ask_fed_at, ask_told_at}
-use Rattle.pcc_steps.specs.Answering.{Answer, answer_next, answer_fed_at, answer_told_at, answer_code, ran_with}
+use Rattle.pcc_steps.specs.Wires.{style_of, block_of, masked_by, without, update_place}
+use Rattle.pcc_steps.specs.Runs.{Run, ends, loads, stores, swaps, executes, store_words, load_words, masked_write, PostStep, stores_block, stores_header, writes_update, clears_completion, writes_bell, raises_bell, post_steps, posting, AskEnd, posts, sees_clear, drains, LookStep, looks_at_completion, looks_at_error, looks_at_block, lowers_interrupt, look_steps, looking, acknowledging, AnswerStep, takes_bell, acknowledges_bell, takes_header, takes_block, executes_command, replies_space, replies_error, replies_status, replies_update, replies_completion, rings_bell, raises_interrupt, answer_steps, answering, AnswerEnd, finds_none, serves, Got}
+use Rattle.pcc_steps.specs.Asking.{Ask}
+use Rattle.pcc_steps.specs.Answering.{Answer}
 
 -- ---- places in a table
 

@@ -1,5 +1,5 @@
 -- How a subspace is wired, and what its words say (ACPI 6.5, 14.1 and 14.2).
-use Rattle.std.specs.Prelude.{◌≡◌, ◌≢◌, ℕ, ◌+◌, ◌-◌, ◌*◌, ◌/◌, ◌%◌, ◌^◌, ◌<◌, ◌≤◌, ◌==◌, Bool, true, false, not, eqb, ltb, if◌then◌else◌, List, [], ◌∷◌, ◌++◌, length, get_or, take, drop, bit_and, bit_or}
+use Rattle.std.specs.Prelude.{◌≡◌, ◌≢◌, ℕ, ◌+◌, ◌-◌, ◌/◌, ◌%◌, ◌^◌, ◌≤◌, ◌==◌, Bool, true, false, not, ltb, if◌then◌else◌, List, [], ◌∷◌, ◌++◌, get_or, bit_and, bit_or}
 use Rattle.pcc_gas.specs.declared.mask.Masks.{Masks}
 use Rattle.shmem_header.specs.HeaderBits.{header_word, is_set, code_in, command_in}
 use Rattle.shmem_header.specs.Layout.{signature_of}

@@ -1,14 +1,15 @@
 //! The answering machine: it takes commands and answers them, one word step at a time (ACPI 6.5, 14.5).
 
-ghost use Rattle.std.specs.Prelude.{◌≡◌, ◌↔◌, ◌<◌, ◌≤◌, ◌+◌, ◌/◌, ◌%◌, ◌^◌, ◌++◌, List, length, take, IfOk};
+ghost use Rattle.std.specs.Prelude.{ℕ, ◌≡◌, ◌↔◌, ◌<◌, ◌+◌, ◌/◌, ◌%◌, ◌^◌, ◌++◌, length, take, IfOk, Some};
 ghost use Rattle.std.specs.Borrow.{sem};
 ghost use Rattle.shmem_header.specs.Spelling.{words_of};
-ghost use Rattle.pcc_steps.specs.declared.answer.AnswerStage.TheVariants.{AnswerRest, RunDevice};
+ghost use Rattle.pcc_steps.specs.declared.answer.AnswerStage.TheVariants.{AnswerRest, RunDevice, TakeLine};
+ghost use Rattle.pcc_steps.specs.declared.answer.AnswerOutcome.TheVariants.{Idle};
 ghost use Rattle.pcc_steps.specs.declared.wiring.Action.TheVariants.{Rest};
 ghost use Rattle.pcc_steps.specs.Asking.{IsWithin};
-ghost use Rattle.pcc_steps.specs.Wires.{IsRight, style_of, heads_of, block_of, status_of, code_by, asks_by, four_by};
+ghost use Rattle.pcc_steps.specs.Wires.{IsRight, style_of, block_of, status_of, code_by, asks_by, four_by};
 ghost use Rattle.pcc_steps.specs.Runs.{error_word};
-ghost use Rattle.pcc_steps.specs.Answering.{Answer, AnswerOk, IsNewAnswer, IsAnswerStepping, IsExecute, answer_next, answer_fed, answer_told, answer_begun, answer_ran, ran_with, answer_code, served_at, after_ack, after_take, after_error, after_reply, after_close, after_done, done_stage, asks_notify, update_stage, AnswerPlace};
+ghost use Rattle.pcc_steps.specs.Answering.{Answer, AnswerOk, IsNewAnswer, IsAnswerStepping, IsTaking, IsReplying, IsCompleting, answer_fed_at, answer_told_at, IsExecute, answer_next, answer_fed, answer_told, answer_begun, answer_ran, ran_with, answer_code, served_at, after_ack, after_take, after_error, after_reply, after_close, after_done, done_stage, asks_notify, update_stage, AnswerPlace};
 ghost use Rattle.pcc_exec.specs.Execution.{is_bad};
 ghost use Rattle.pcc_steps.specs.Lending.{LendsSpace};
 
@@ -17,7 +18,10 @@ use crate::wiring::{Action, Style, Wiring, place};
 use pcc_exec::{ExecStatus, Executor};
 use pcc_gas::masked;
 use pcc_io::NoMemory;
-use shmem_header::{EXTENDED_NOTIFY_BIT, NOTIFY_BIT, bytes_into, code_in, command_in, is_set, with_status, words_into};
+use shmem_header::{
+    EXTENDED_NOTIFY_BIT, NOTIFY_BIT, bytes_into, code_in, command_in, is_set, with_status,
+    words_into,
+};
 use std::alloc::Global;
 use std::marker::Model;
 
@@ -154,7 +158,9 @@ pub fn answer_next(answer: &AnswerState) -> Action
         }
         AnswerStage::TakeHeader => Action::Load(place::COMPLETION),
         AnswerStage::TakeBlock(at) => Action::Load(place::BLOCK + at),
-        AnswerStage::RunDevice => Action::Execute { code: code_of(wiring, answer.header, &answer.loaded) },
+        AnswerStage::RunDevice => Action::Execute {
+            code: code_of(wiring, answer.header, &answer.loaded),
+        },
         AnswerStage::ReplyBlock(at) => Action::Store(place::BLOCK + at, answer.out[at as usize]),
         AnswerStage::ReplyError => Action::Store(place::ERROR, error_word(wiring, answer.bad)),
         AnswerStage::ReplyHeader => {
@@ -167,7 +173,10 @@ pub fn answer_next(answer: &AnswerState) -> Action
             Action::Store(update_place(wiring.style()), word)
         }
         AnswerStage::ReplyMarkLoad => Action::Load(place::COMPLETION),
-        AnswerStage::ReplyMarkStore => Action::Store(place::COMPLETION, answer.kept | wiring.check_mask),
+        AnswerStage::ReplyMarkStore => Action::Store(
+            place::COMPLETION,
+            answer.kept | wiring.check_mask,
+        ),
         AnswerStage::CloseBellLoad => Action::Load(place::BELL),
         AnswerStage::CloseBellStore => {
             let word = masked(answer.kept, wiring.bell.preserve, wiring.bell.set);
@@ -179,15 +188,42 @@ pub fn answer_next(answer: &AnswerState) -> Action
 
 /// Takes what the step found: the value of a load or a swap, any number for a store. Answers how the run ended, exactly
 /// where it ended with this step.
+#[tactic(auto, using(crate::proofs::Nexts::idle_told))]
 pub fn answer_feed(answer: &mut AnswerState, value: u64) -> Option<AnswerOutcome>
     requires { IsAnswerStepping answer.old }
     ensures state { answer.new ≡ answer_fed answer.old value }
     ensures told { result ≡ answer_told answer.old value }
+    ensures idle { (answer_told answer.old value ≡ Some Idle) ↔ ((answer.old.stage ≡ TakeLine) × (value ≡ 0)) }
+{
+    let told = feed(answer, value);
+    answer.steps = rose(answer.steps);
+    told
+}
+
+fn feed(answer: &mut AnswerState, value: u64) -> Option<AnswerOutcome>
+    ensures state { answer.new ≡ answer_fed_at answer.old.stage answer.old value }
+    ensures told { result ≡ answer_told_at answer.old.stage answer.old value }
+{
+    match answer.stage {
+        AnswerStage::AnswerRest | AnswerStage::RunDevice => None,
+        AnswerStage::TakeLine
+        | AnswerStage::TakeAckLoad
+        | AnswerStage::TakeAckStore
+        | AnswerStage::TakeHeader
+        | AnswerStage::TakeBlock(_) => feed_command(answer, value),
+        AnswerStage::ReplyBlock(_) | AnswerStage::ReplyError => feed_reply(answer),
+        _ => feed_completion(answer, value),
+    }
+}
+
+// A step that takes the command.
+fn feed_command(answer: &mut AnswerState, value: u64) -> Option<AnswerOutcome>
+    requires { IsTaking answer.old.stage }
+    ensures state { answer.new ≡ answer_fed_at answer.old.stage answer.old value }
+    ensures told { result ≡ answer_told_at answer.old.stage answer.old value }
 {
     let style = answer.wiring.style();
-    answer.steps = rose(answer.steps);
     match answer.stage {
-        AnswerStage::AnswerRest | AnswerStage::RunDevice => {}
         AnswerStage::TakeLine => {
             if value == 0 {
                 answer.stage = AnswerStage::AnswerRest;
@@ -214,6 +250,19 @@ pub fn answer_feed(answer: &mut AnswerState, value: u64) -> Option<AnswerOutcome
                 answer.stage = AnswerStage::RunDevice;
             }
         }
+        _ => unreachable!(),
+    }
+    None
+}
+
+// A step that stores the reply.
+fn feed_reply(answer: &mut AnswerState) -> Option<AnswerOutcome>
+    requires { IsReplying answer.old.stage }
+    ensures state { (value : ℕ) → answer.new ≡ answer_fed_at answer.old.stage answer.old value }
+    ensures told { (value : ℕ) → result ≡ answer_told_at answer.old.stage answer.old value }
+{
+    let style = answer.wiring.style();
+    match answer.stage {
         AnswerStage::ReplyBlock(at) => {
             answer.stage = if at + 1 < answer.wiring.block() {
                 AnswerStage::ReplyBlock(at + 1)
@@ -222,17 +271,21 @@ pub fn answer_feed(answer: &mut AnswerState, value: u64) -> Option<AnswerOutcome
             };
         }
         AnswerStage::ReplyError => answer.stage = after_error(style),
-        AnswerStage::ReplyHeader | AnswerStage::ReplyMarkStore => {
-            answer.stage = done_stage(&answer.wiring, answer.header, &answer.loaded);
-            return served_at(answer.stage);
-        }
+        _ => unreachable!(),
+    }
+    None
+}
+
+// A step that completes the command, or closes the run.
+fn feed_completion(answer: &mut AnswerState, value: u64) -> Option<AnswerOutcome>
+    requires { IsCompleting answer.old.stage }
+    ensures state { answer.new ≡ answer_fed_at answer.old.stage answer.old value }
+    ensures told { result ≡ answer_told_at answer.old.stage answer.old value }
+{
+    match answer.stage {
         AnswerStage::ReplyUpdateLoad => {
             answer.kept = value;
             answer.stage = AnswerStage::ReplyUpdateStore;
-        }
-        AnswerStage::ReplyUpdateStore => {
-            answer.stage = after_update(&answer.wiring, answer.header, &answer.loaded);
-            return served_at(answer.stage);
         }
         AnswerStage::ReplyMarkLoad => {
             answer.kept = value;
@@ -242,6 +295,14 @@ pub fn answer_feed(answer: &mut AnswerState, value: u64) -> Option<AnswerOutcome
             answer.kept = value;
             answer.stage = AnswerStage::CloseBellStore;
         }
+        AnswerStage::ReplyHeader | AnswerStage::ReplyMarkStore => {
+            answer.stage = done_stage(&answer.wiring, answer.header, &answer.loaded);
+            return served_at(answer.stage);
+        }
+        AnswerStage::ReplyUpdateStore => {
+            answer.stage = after_update(&answer.wiring, answer.header, &answer.loaded);
+            return served_at(answer.stage);
+        }
         AnswerStage::CloseBellStore => {
             answer.stage = after_close(asks_notify(&answer.wiring, answer.header, &answer.loaded));
             return served_at(answer.stage);
@@ -250,6 +311,7 @@ pub fn answer_feed(answer: &mut AnswerState, value: u64) -> Option<AnswerOutcome
             answer.stage = AnswerStage::AnswerRest;
             return Some(AnswerOutcome::Served);
         }
+        _ => unreachable!(),
     }
     None
 }
@@ -386,7 +448,11 @@ fn after_ack(style: Style) -> AnswerStage
 fn after_take(acknowledges: bool, style: Style) -> AnswerStage
     ensures { result ≡ after_take acknowledges style }
 {
-    if acknowledges { AnswerStage::TakeAckLoad } else { after_ack(style) }
+    if acknowledges {
+        AnswerStage::TakeAckLoad
+    } else {
+        after_ack(style)
+    }
 }
 
 fn after_error(style: Style) -> AnswerStage
@@ -402,13 +468,21 @@ fn after_error(style: Style) -> AnswerStage
 fn after_reply(tells: bool, style: Style) -> AnswerStage
     ensures { result ≡ after_reply tells style }
 {
-    if tells { AnswerStage::ReplyError } else { after_error(style) }
+    if tells {
+        AnswerStage::ReplyError
+    } else {
+        after_error(style)
+    }
 }
 
 fn after_close(asks: bool) -> AnswerStage
     ensures { result ≡ after_close asks }
 {
-    if asks { AnswerStage::CloseLine } else { AnswerStage::AnswerRest }
+    if asks {
+        AnswerStage::CloseLine
+    } else {
+        AnswerStage::AnswerRest
+    }
 }
 
 fn served_at(stage: AnswerStage) -> Option<AnswerOutcome>

@@ -1,18 +1,18 @@
 //! The asking machine: it posts commands, and looks for their completion, one word step at a time (ACPI 6.5, 14.5).
 
-ghost use Rattle.std.specs.Prelude.{◌≡◌, ◌↔◌, ◌<◌, ◌≤◌, ◌+◌, ◌/◌, ◌%◌, ◌^◌, ◌++◌, ◌∷◌, [], length, true, false, IfOk};
+ghost use Rattle.std.specs.Prelude.{◌≡◌, ◌↔◌, ◌<◌, ◌≤◌, ◌+◌, ◌/◌, ◌^◌, length, true, false, IfOk, Some};
 ghost use Rattle.pcc_history.specs.Channel.{over};
-ghost use Rattle.shmem_header.specs.Spelling.{words_of};
-ghost use Rattle.pcc_steps.specs.declared.ask.AskStage.TheVariants.{AskRest};
+ghost use Rattle.pcc_steps.specs.declared.ask.AskStage.TheVariants.{AskRest, LookWord};
 ghost use Rattle.pcc_steps.specs.declared.wiring.Action.TheVariants.{Rest};
-ghost use Rattle.pcc_steps.specs.declared.ask.AskOutcome.TheVariants.{Drained};
-ghost use Rattle.pcc_steps.specs.Wires.{IsRight, style_of, block_of, block_header, opening_header, sees_done, meets, masked_by, without, update_place, acknowledges, tells_error, header_error, sent_header};
-ghost use Rattle.pcc_steps.specs.Asking.{Ask, AskOk, IsNewAsk, CodeFits, IsAskRunning, IsWithin, ask_next, ask_fed, ask_told, ask_begun, ask_looking, ask_budgeted, drained, rose, after_block, after_update, after_mark, after_bell, after_look};
+ghost use Rattle.pcc_steps.specs.declared.ask.AskOutcome.TheVariants.{Clear, Drained};
+ghost use Rattle.pcc_steps.specs.Wires.{IsRight, block_of, sees_done, meets, update_place, acknowledges, tells_error, header_error, sent_header};
+ghost use Rattle.pcc_steps.specs.Asking.{Ask, AskOk, IsNewAsk, IsAskRunning, IsPosting, IsReading, IsWithin, ask_fed_at, ask_told_at, ask_next, ask_fed, ask_told, ask_begun, ask_looking, ask_budgeted, drained, rose, after_block, after_update, after_mark, after_bell, after_look};
 
+use crate::block::{fill_block, fill_opening, lay};
 use crate::wiring::{Action, Style, Wiring, place};
 use pcc_gas::masked;
 use pcc_io::NoMemory;
-use shmem_header::{COMPLETE_BIT, ERROR_BIT, Extended, Reduced, bytes_into, extended_to, header_word, is_set, reduced_to, signature_of, words_into};
+use shmem_header::{COMPLETE_BIT, ERROR_BIT, bytes_into, header_word, is_set};
 use std::alloc::Global;
 use std::marker::Model;
 use std::mem;
@@ -234,17 +234,23 @@ pub fn ask_budget(ask: &mut AskState, polls: u32)
 
 /// Begins a run that posts a command: its code, and the bytes that are laid over the front of the space. The code is
 /// at most 255 for types 0 to 2.
-#[tactic(auto, using(crate::proofs::AskBegins::begun_ok, crate::proofs::AskBegins::over_long, crate::proofs::AskBegins::looks_rest))]
+#[tactic(auto, using(crate::proofs::AskBegins::begun_ok, crate::proofs::Bits::code_fits, crate::proofs::AskBegins::over_long, crate::proofs::AskBegins::looks_rest))]
 pub fn ask_begin(ask: &mut AskState, code: u32, bytes: &[u8])
     requires rests { ask.old.stage ≡ AskRest }
     requires free { ask.old.in_flight ≡ false }
     requires fits { length bytes.now ≤ ask.old.wiring.room }
     requires posts { ask.old.posts < 4096 }
-    requires code { CodeFits (style_of ask.old.wiring) code }
+    requires code { ask.old.wiring.kind ≤ 2 → code < 256 }
     ensures { ask.new ≡ ask_begun ask.old code bytes.now }
 {
     lay(&ask.space, bytes, &mut ask.input);
-    fill_block(&ask.wiring, code, bytes.len() as u32, &ask.input, &mut ask.sent);
+    fill_block(
+        &ask.wiring,
+        code,
+        bytes.len() as u32,
+        &ask.input,
+        &mut ask.sent,
+    );
     ask.code = code;
     ask.stage = AskStage::PostBlock(0);
 }
@@ -261,17 +267,49 @@ pub fn ask_look(ask: &mut AskState)
 
 /// Takes what the step found: the value of a load or a swap, any number for a store. Answers how the run ended, exactly
 /// where it ended with this step.
+#[tactic(auto, using(crate::proofs::Nexts::clear_told))]
 pub fn ask_feed(ask: &mut AskState, value: u64) -> Option<AskOutcome>
     requires { IsAskRunning ask.old }
     ensures state { ask.new ≡ ask_fed ask.old value }
     ensures told { result ≡ ask_told ask.old value }
+    ensures clear { (ask_told ask.old value ≡ Some Clear) ↔ ((ask.old.stage ≡ LookWord) × (sees_done ask.old.wiring value ≡ false)) }
+{
+    let told = feed(ask, value);
+    ask.steps = rose(ask.steps);
+    told
+}
+
+fn feed(ask: &mut AskState, value: u64) -> Option<AskOutcome>
+    ensures state { ask.new ≡ ask_fed_at ask.old.stage ask.old value }
+    ensures told { result ≡ ask_told_at ask.old.stage ask.old value }
+{
+    match ask.stage {
+        AskStage::AskRest => None,
+        AskStage::LookWord => feed_completion(ask, value),
+        AskStage::LookError
+        | AskStage::LookBlock(_)
+        | AskStage::LookLine
+        | AskStage::LookLineStore
+        | AskStage::LookAckLoad
+        | AskStage::LookAckStore => feed_reply(ask, value),
+        _ => feed_post(ask, value),
+    }
+}
+
+// A step of a run that posts.
+fn feed_post(ask: &mut AskState, value: u64) -> Option<AskOutcome>
+    requires { IsPosting ask.old.stage }
+    ensures state { ask.new ≡ ask_fed_at ask.old.stage ask.old value }
+    ensures told { result ≡ ask_told_at ask.old.stage ask.old value }
 {
     let style = ask.wiring.style();
-    ask.steps = rose(ask.steps);
     match ask.stage {
-        AskStage::AskRest => {}
         AskStage::PostBlock(at) => {
-            ask.stage = if at + 1 < ask.wiring.block() { AskStage::PostBlock(at + 1) } else { after_block(style) };
+            ask.stage = if at + 1 < ask.wiring.block() {
+                AskStage::PostBlock(at + 1)
+            } else {
+                after_block(style)
+            };
         }
         AskStage::PostHeader => ask.stage = AskStage::PostBellLoad,
         AskStage::PostUpdateLoad => {
@@ -296,15 +334,34 @@ pub fn ask_feed(ask: &mut AskState, value: u64) -> Option<AskOutcome>
             ask.posts += 1;
             return Some(AskOutcome::Posted);
         }
-        AskStage::LookWord => {
-            if !sees_done(&ask.wiring, value) {
-                ask.stage = AskStage::AskRest;
-                ask.looks += 1;
-                return Some(AskOutcome::Clear);
-            }
-            ask.error = header_error(style, value);
-            ask.stage = after_look(tells_error(&ask.wiring));
-        }
+        _ => unreachable!(),
+    }
+    None
+}
+
+// The first step of a look.
+fn feed_completion(ask: &mut AskState, value: u64) -> Option<AskOutcome>
+    requires { ask.old.stage ≡ LookWord }
+    ensures state { ask.new ≡ ask_fed_at ask.old.stage ask.old value }
+    ensures told { result ≡ ask_told_at ask.old.stage ask.old value }
+{
+    if !sees_done(&ask.wiring, value) {
+        ask.stage = AskStage::AskRest;
+        ask.looks += 1;
+        return Some(AskOutcome::Clear);
+    }
+    ask.error = header_error(ask.wiring.style(), value);
+    ask.stage = after_look(tells_error(&ask.wiring));
+    None
+}
+
+// A step of a look that saw completion.
+fn feed_reply(ask: &mut AskState, value: u64) -> Option<AskOutcome>
+    requires { IsReading ask.old.stage }
+    ensures state { ask.new ≡ ask_fed_at ask.old.stage ask.old value }
+    ensures told { result ≡ ask_told_at ask.old.stage ask.old value }
+{
+    match ask.stage {
         AskStage::LookError => {
             ask.error = meets(value, ask.wiring.error_mask);
             ask.stage = AskStage::LookBlock(0);
@@ -336,6 +393,7 @@ pub fn ask_feed(ask: &mut AskState, value: u64) -> Option<AskOutcome>
             ask.stage = AskStage::LookAckStore;
         }
         AskStage::LookAckStore => return Some(drain(ask)),
+        _ => unreachable!(),
     }
     None
 }
@@ -458,57 +516,9 @@ fn after_bell(style: Style) -> AskStage
 fn after_look(tells: bool) -> AskStage
     ensures { result ≡ after_look tells }
 {
-    if tells { AskStage::LookError } else { AskStage::LookBlock(0) }
-}
-
-// The bytes over the front of the space.
-fn lay(space: &[u8], bytes: &[u8], input: &mut [u8])
-    requires same { length input.old ≡ length space.now }
-    requires fits { length bytes.now ≤ length space.now }
-    ensures { input.new ≡ over space.now bytes.now }
-{
-    input.copy_from_slice(space);
-    input[..bytes.len()].copy_from_slice(bytes);
-}
-
-// A block begins with its header words.
-fn fill(header: &[u64], space: &[u8], block: &mut [u64])
-    requires long { length block.old ≡ length header.now + length space.now / 8 }
-    requires whole { length space.now % 8 ≡ 0 }
-    ensures { block.new ≡ header.now ++ words_of space.now }
-{
-    block[..header.len()].copy_from_slice(header);
-    words_into(space, &mut block[header.len()..]);
-}
-
-fn fill_block(wiring: &Wiring, code: u32, asked: u32, space: &[u8], block: &mut [u64])
-    requires long { length block.old ≡ block_of wiring.now }
-    requires room { length space.now ≡ wiring.now.room }
-    requires whole { wiring.now.room % 8 ≡ 0 }
-    requires asked { asked ≤ 4096 }
-    ensures { block.new ≡ block_header (style_of wiring.now) wiring.now code asked ++ words_of space.now }
-{
-    let signature = signature_of(wiring.id);
-    match wiring.style() {
-        Style::Headed => fill(&[], space, block),
-        Style::Reduced5 => fill(&[reduced_to(Reduced { signature, command: code })], space, block),
-        _ => {
-            let flags = if wiring.notify { Extended::NOTIFY } else { 0 };
-            fill(&extended_to(Extended { signature, flags, length: 4 + asked, command: code }), space, block)
-        }
-    }
-}
-
-fn fill_opening(wiring: &Wiring, space: &[u8], block: &mut [u64])
-    requires long { length block.old ≡ block_of wiring.now }
-    requires room { length space.now ≡ wiring.now.room }
-    requires whole { wiring.now.room % 8 ≡ 0 }
-    ensures { block.new ≡ opening_header (style_of wiring.now) wiring.now ++ words_of space.now }
-{
-    let signature = u64::from(signature_of(wiring.id));
-    match wiring.style() {
-        Style::Headed => fill(&[], space, block),
-        Style::Reduced5 => fill(&[signature], space, block),
-        _ => fill(&[signature, 0], space, block),
+    if tells {
+        AskStage::LookError
+    } else {
+        AskStage::LookBlock(0)
     }
 }

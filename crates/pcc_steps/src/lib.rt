@@ -3,12 +3,24 @@
 
 mod answer;
 mod ask;
+mod block;
 mod laws;
 mod whole;
 mod wiring;
 
-pub use answer::{AnswerOutcome, AnswerStage, AnswerState, answer_execute, answer_feed, answer_next, answer_ran, answer_space, answer_start};
-pub use ask::{AskOutcome, AskStage, AskState, ask_begin, ask_budget, ask_feed, ask_look, ask_next};
-pub use laws::{answering_laws, answering_tables, asking_laws, asking_tables, history_laws};
+pub use answer::{
+    AnswerOutcome, AnswerStage, AnswerState, answer_execute, answer_feed, answer_next, answer_ran,
+    answer_space, answer_start,
+};
+pub use ask::{
+    AskOutcome, AskStage, AskState, ask_begin, ask_budget, ask_feed, ask_look, ask_next,
+};
+pub use laws::{
+    answering_laws, answering_tables, asked_laws, asking_laws, asking_tables, device_laws,
+    history_laws,
+};
 pub use whole::whole_call;
 pub use wiring::{Action, Style, Wiring};
+
+#[cfg(test)]
+mod tests;

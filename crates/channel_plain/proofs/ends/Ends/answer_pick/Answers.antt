@@ -26,4 +26,4 @@ settle-requires-clause-reports g c = let x = c.self.inside in let s : PlainState
 pub invariant_of-self : goal.invariant_of-self
 invariant_of-self g c = let x = c.self.inside in let s : PlainState = record { words = x.words.items; ask = x.ask; answer = x.answer; device = g.E.Executor.state x.device; start = g.E.Executor.state x.first.value; calls = x.book; executed = x.register.commands } in let exec = g.E.Executor.exec_of in let is_state = g.E.Executor.is_state in let room_of = g.E.Executor.room_of in let t : Action = c.answer_next-action.result in let v : ℕ = c.perform-value.result in let ev : v ≡ found t s.words = c.perform-value.ensures.value ∙ ap (λ (l : List ℕ). found t l) c.deref_mut.ensures.value in let n : x.words.len ≡ length x.words.items = search rules in
     settled_holds exec is_state room_of c.answering_laws.ensures.begin c.answering_laws.ensures.step c.history_laws.ensures s x.register c.settle.new.register c.start.new.answer c.answer_feed-told.new.answer c.settle.new.answer (g.E.Executor.state c.settle.new.device) (take x.words.len (c.perform-value.new.words ++ drop (length c.perform-value.new.words) x.words.items)) t v c.start.ensures c.answer_next-action.ensures.action ev (search rules) c.answer_feed-told.ensures.state
-        (whole x.words.len t c.perform-value.new.words c.deref_mut.result.now x.words.items c.perform-value.ensures.words c.deref_mut.ensures.value n) refl c.settle.ensures c.self.invariant
+    (whole x.words.len t c.perform-value.new.words c.deref_mut.result.now x.words.items c.perform-value.ensures.words c.deref_mut.ensures.value n) refl c.settle.ensures c.self.invariant
