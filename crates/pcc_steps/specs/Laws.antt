@@ -26,7 +26,7 @@ AskStepAgrees = (exec : Device) (start ws : List ℕ) (x : Asker) (y : Answerer)
 
 -- a post is begun
 abbrev pub PostBeginAgrees : Type 0
-PostBeginAgrees = (exec : Device) (start ws : List ℕ) (x : Asker) (y : Answerer) (code : ℕ) (bytes : List ℕ) → x.m.stage ≡ AskRest → x.m.in_flight ≡ false → length bytes ≤ x.m.wiring.room → x.m.posts < 4096 → CodeFits (style_of x.m.wiring) code → IsBytes bytes
+PostBeginAgrees = (exec : Device) (start ws : List ℕ) (x : Asker) (y : Answerer) (code : ℕ) (bytes : List ℕ) → x.m.stage ≡ AskRest → x.m.in_flight ≡ false → length bytes ≤ x.m.wiring.room → x.m.posts < 4096 → (x.m.wiring.kind ≤ 2 → code < 256) → code < 2 ^ 32 → IsBytes bytes
     → Agree exec start ws x y → Agree exec start ws (record x { m = ask_begun x.m code bytes }) y
 
 -- a look is begun
