@@ -6,6 +6,7 @@ use Rattle.pcc_steps.specs.Agree.{asker_fed_at, answerer_fed_at, act, pose, turn
 use Rattle.pcc_steps.specs.Asking.{ask_next}
 use Rattle.pcc_steps.specs.Answering.{answer_next}
 use Rattle.pcc_steps.specs.Laws.{StartsAgreed, AskStepAgrees, PostBeginAgrees, LookBeginAgrees, BudgetAgrees, AnswerBeginAgrees, AnswerStepAgrees, DeviceStays, HistoriesAgree}
+use Rattle.pcc_steps.proofs.Bits.{code_fits}
 use Rattle.pcc_steps.proofs.AskLooks.{ask_keeps}
 use Rattle.pcc_steps.proofs.AnswerReplies.{answer_keeps}
 use Rattle.pcc_steps.proofs.AskBegins as asks
@@ -20,7 +21,7 @@ pub ask_step_agrees : AskStepAgrees
 ask_step_agrees exec start ws x y v g f small = asks.steps exec start (asker_fed_at x.m.stage x v) y (act (ask_next x.m) ws) (ask_keeps exec start x.m.stage x y ws v g f small)
 
 pub post_begin_agrees : PostBeginAgrees
-post_begin_agrees exec start ws x y code bytes rest unflown short left low fits g = asks.begins exec start x code bytes rest unflown short left low fits ws y g
+post_begin_agrees exec start ws x y code bytes rest unflown short left byte word fits g = asks.begins exec start x code bytes rest unflown short left (code_fits x.m.wiring code byte word) fits ws y g
 
 pub look_begin_agrees : LookBeginAgrees
 look_begin_agrees exec start ws x y rest flies left g = asks.looks_begin exec start x rest flies left ws y g

@@ -1,5 +1,5 @@
 -- The history of the asking end is whole.
-use Rattle.std.proofs.Common.{◌≡◌, ℕ, ◌≤◌, Bool, true, false, eqb, List, [], ◌∷◌, ◌++◌, set, drop, refl, sym, ap, ◌∙◌, subst}
+use Rattle.std.proofs.Common.{◌≡◌, ℕ, Bool, true, false, eqb, List, [], ◌∷◌, ◌++◌, set, refl, sym, ap, ◌∙◌, subst}
 use Rattle.pcc_history.specs.Channel.{Exchange, over}
 use Rattle.pcc_history.specs.Histories.{WholeHistory, space_after}
 use Rattle.pcc_steps.specs.declared.wiring.Style.{Style}
@@ -7,7 +7,7 @@ use Rattle.pcc_steps.specs.declared.wiring.Style.TheVariants.{Headed, Joined3, S
 use Rattle.pcc_steps.specs.declared.ask.AskStage.{AskStage}
 use Rattle.pcc_steps.specs.declared.ask.AskStage.TheVariants.{AskRest, PostBlock, PostHeader, PostUpdateLoad, PostUpdateStore, PostMarkLoad, PostMarkStore, PostBellLoad, PostBellStore, PostLine, LookWord, LookError, LookBlock, LookLine, LookLineStore, LookAckLoad, LookAckStore}
 use Rattle.pcc_steps.specs.Wires.{style_of, sees_done, tells_error, acknowledges}
-use Rattle.pcc_steps.specs.Asking.{Ask, AskOk, Flies, has_more, ask_begun, store_on, look_on, read_on, block_on, line_on, lowered_on, after_block, after_update, after_mark, after_bell, after_look, look_told, read_told, end_told, line_told, rose}
+use Rattle.pcc_steps.specs.Asking.{Ask, AskOk, Flies, has_more, store_on, look_on, read_on, block_on, line_on, lowered_on, after_block, after_update, after_mark, after_bell, after_look, look_told, read_told, end_told, line_told, rose}
 use Rattle.pcc_steps.specs.Agree.{Asker, asker_fed_at, done_after, clears_after}
 use Rattle.pcc_steps.specs.Asked.{is_pending_at, is_pending, HasAskedBy, HasAsked, AskedNothing, AsksMore, LookAsksNothing, BudgetAsksNothing, StepAsksNothing}
 use Rattle.pcc_steps.proofs.AskKeeps.{at}

@@ -200,3 +200,11 @@ code_known Reduced5 w code header sent id fits has carries = carries
 
 pub unheaded : (w : Wiring) → style_of w ≢ Headed → 3 ≤ w.kind
 unheaded w other = high_kind w other
+
+fits_by : (s : Style) (code : ℕ) → (s ≡ Headed → code < 256) → code < 2 ^ 32 → CodeFits s code
+fits_by Headed code byte word = byte refl
+fits_by _ code byte word = word
+
+-- a code that the header can carry
+pub code_fits : (w : Wiring) (code : ℕ) → (w.kind ≤ 2 → code < 256) → code < 2 ^ 32 → CodeFits (style_of w) code
+code_fits w code byte word = fits_by (style_of w) code (λ e. byte (low_kind w e)) word

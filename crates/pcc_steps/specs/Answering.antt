@@ -239,3 +239,30 @@ pub record AnswerOk (a : Answer) : Type 0 where
 
 abbrev pub IsAnswerStepping : Answer → Type 0
 IsAnswerStepping a = (a.stage ≢ AnswerRest) × (a.stage ≢ RunDevice)
+
+-- a step that takes the command
+abbrev pub IsTaking : AnswerStage → Type 0
+IsTaking TakeLine = Unit {0}
+IsTaking TakeAckLoad = Unit {0}
+IsTaking TakeAckStore = Unit {0}
+IsTaking TakeHeader = Unit {0}
+IsTaking (TakeBlock j) = Unit {0}
+IsTaking _ = ⊥
+
+-- a step that stores the reply
+abbrev pub IsReplying : AnswerStage → Type 0
+IsReplying (ReplyBlock j) = Unit {0}
+IsReplying ReplyError = Unit {0}
+IsReplying _ = ⊥
+
+-- a step that completes the command, or closes the run
+abbrev pub IsCompleting : AnswerStage → Type 0
+IsCompleting ReplyHeader = Unit {0}
+IsCompleting ReplyUpdateLoad = Unit {0}
+IsCompleting ReplyUpdateStore = Unit {0}
+IsCompleting ReplyMarkLoad = Unit {0}
+IsCompleting ReplyMarkStore = Unit {0}
+IsCompleting CloseBellLoad = Unit {0}
+IsCompleting CloseBellStore = Unit {0}
+IsCompleting CloseLine = Unit {0}
+IsCompleting _ = ⊥

@@ -1,5 +1,5 @@
 -- The bytes that were asked, and the history of the asking end.
-use Rattle.std.specs.Prelude.{◌≡◌, ℕ, ◌≤◌, Bool, true, false, List, [], ◌∷◌, ◌++◌}
+use Rattle.std.specs.Prelude.{◌≡◌, ℕ, Bool, true, false, List, [], ◌∷◌, ◌++◌}
 use Rattle.pcc_history.specs.Channel.{over}
 use Rattle.pcc_history.specs.Histories.{WholeHistory, space_after}
 use Rattle.pcc_steps.specs.declared.wiring.Wiring.{Wiring}

@@ -302,3 +302,26 @@ pub record AskOk (a : Ask) : Type 0 where
 
 abbrev pub IsAskRunning : Ask → Type 0
 IsAskRunning a = a.stage ≢ AskRest
+
+-- a step of a run that posts
+abbrev pub IsPosting : AskStage → Type 0
+IsPosting (PostBlock j) = Unit {0}
+IsPosting PostHeader = Unit {0}
+IsPosting PostUpdateLoad = Unit {0}
+IsPosting PostUpdateStore = Unit {0}
+IsPosting PostMarkLoad = Unit {0}
+IsPosting PostMarkStore = Unit {0}
+IsPosting PostBellLoad = Unit {0}
+IsPosting PostBellStore = Unit {0}
+IsPosting PostLine = Unit {0}
+IsPosting _ = ⊥
+
+-- a step of a look that saw completion
+abbrev pub IsReading : AskStage → Type 0
+IsReading LookError = Unit {0}
+IsReading (LookBlock j) = Unit {0}
+IsReading LookLine = Unit {0}
+IsReading LookLineStore = Unit {0}
+IsReading LookAckLoad = Unit {0}
+IsReading LookAckStore = Unit {0}
+IsReading _ = ⊥

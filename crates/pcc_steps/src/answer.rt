@@ -1,6 +1,6 @@
 //! The answering machine: it takes commands and answers them, one word step at a time (ACPI 6.5, 14.5).
 
-ghost use Rattle.std.specs.Prelude.{◌≡◌, ◌↔◌, ◌<◌, ◌≤◌, ◌+◌, ◌/◌, ◌%◌, ◌^◌, ◌++◌, List, length, take, IfOk};
+ghost use Rattle.std.specs.Prelude.{ℕ, ◌≡◌, ◌↔◌, ◌<◌, ◌≤◌, ◌+◌, ◌/◌, ◌%◌, ◌^◌, ◌++◌, List, length, take, IfOk};
 ghost use Rattle.std.specs.Borrow.{sem};
 ghost use Rattle.shmem_header.specs.Spelling.{words_of};
 ghost use Rattle.pcc_steps.specs.declared.answer.AnswerStage.TheVariants.{AnswerRest, RunDevice};
@@ -8,7 +8,7 @@ ghost use Rattle.pcc_steps.specs.declared.wiring.Action.TheVariants.{Rest};
 ghost use Rattle.pcc_steps.specs.Asking.{IsWithin};
 ghost use Rattle.pcc_steps.specs.Wires.{IsRight, style_of, heads_of, block_of, status_of, code_by, asks_by, four_by};
 ghost use Rattle.pcc_steps.specs.Runs.{error_word};
-ghost use Rattle.pcc_steps.specs.Answering.{Answer, AnswerOk, IsNewAnswer, IsAnswerStepping, IsExecute, answer_next, answer_fed, answer_told, answer_begun, answer_ran, ran_with, answer_code, served_at, after_ack, after_take, after_error, after_reply, after_close, after_done, done_stage, asks_notify, update_stage, AnswerPlace};
+ghost use Rattle.pcc_steps.specs.Answering.{Answer, AnswerOk, IsNewAnswer, IsAnswerStepping, IsTaking, IsReplying, IsCompleting, answer_fed_at, answer_told_at, IsExecute, answer_next, answer_fed, answer_told, answer_begun, answer_ran, ran_with, answer_code, served_at, after_ack, after_take, after_error, after_reply, after_close, after_done, done_stage, asks_notify, update_stage, AnswerPlace};
 ghost use Rattle.pcc_exec.specs.Execution.{is_bad};
 ghost use Rattle.pcc_steps.specs.Lending.{LendsSpace};
 
@@ -192,10 +192,35 @@ pub fn answer_feed(answer: &mut AnswerState, value: u64) -> Option<AnswerOutcome
     ensures state { answer.new ≡ answer_fed answer.old value }
     ensures told { result ≡ answer_told answer.old value }
 {
-    let style = answer.wiring.style();
+    let told = feed(answer, value);
     answer.steps = rose(answer.steps);
+    told
+}
+
+fn feed(answer: &mut AnswerState, value: u64) -> Option<AnswerOutcome>
+    ensures state { answer.new ≡ answer_fed_at answer.old.stage answer.old value }
+    ensures told { result ≡ answer_told_at answer.old.stage answer.old value }
+{
     match answer.stage {
-        AnswerStage::AnswerRest | AnswerStage::RunDevice => {}
+        AnswerStage::AnswerRest | AnswerStage::RunDevice => None,
+        AnswerStage::TakeLine
+        | AnswerStage::TakeAckLoad
+        | AnswerStage::TakeAckStore
+        | AnswerStage::TakeHeader
+        | AnswerStage::TakeBlock(_) => feed_command(answer, value),
+        AnswerStage::ReplyBlock(_) | AnswerStage::ReplyError => feed_reply(answer),
+        _ => feed_completion(answer, value),
+    }
+}
+
+// A step that takes the command.
+fn feed_command(answer: &mut AnswerState, value: u64) -> Option<AnswerOutcome>
+    requires { IsTaking answer.old.stage }
+    ensures state { answer.new ≡ answer_fed_at answer.old.stage answer.old value }
+    ensures told { result ≡ answer_told_at answer.old.stage answer.old value }
+{
+    let style = answer.wiring.style();
+    match answer.stage {
         AnswerStage::TakeLine => {
             if value == 0 {
                 answer.stage = AnswerStage::AnswerRest;
@@ -222,6 +247,19 @@ pub fn answer_feed(answer: &mut AnswerState, value: u64) -> Option<AnswerOutcome
                 answer.stage = AnswerStage::RunDevice;
             }
         }
+        _ => unreachable!(),
+    }
+    None
+}
+
+// A step that stores the reply.
+fn feed_reply(answer: &mut AnswerState) -> Option<AnswerOutcome>
+    requires { IsReplying answer.old.stage }
+    ensures state { (value : ℕ) → answer.new ≡ answer_fed_at answer.old.stage answer.old value }
+    ensures told { (value : ℕ) → result ≡ answer_told_at answer.old.stage answer.old value }
+{
+    let style = answer.wiring.style();
+    match answer.stage {
         AnswerStage::ReplyBlock(at) => {
             answer.stage = if at + 1 < answer.wiring.block() {
                 AnswerStage::ReplyBlock(at + 1)
@@ -230,17 +268,21 @@ pub fn answer_feed(answer: &mut AnswerState, value: u64) -> Option<AnswerOutcome
             };
         }
         AnswerStage::ReplyError => answer.stage = after_error(style),
-        AnswerStage::ReplyHeader | AnswerStage::ReplyMarkStore => {
-            answer.stage = done_stage(&answer.wiring, answer.header, &answer.loaded);
-            return served_at(answer.stage);
-        }
+        _ => unreachable!(),
+    }
+    None
+}
+
+// A step that completes the command, or closes the run.
+fn feed_completion(answer: &mut AnswerState, value: u64) -> Option<AnswerOutcome>
+    requires { IsCompleting answer.old.stage }
+    ensures state { answer.new ≡ answer_fed_at answer.old.stage answer.old value }
+    ensures told { result ≡ answer_told_at answer.old.stage answer.old value }
+{
+    match answer.stage {
         AnswerStage::ReplyUpdateLoad => {
             answer.kept = value;
             answer.stage = AnswerStage::ReplyUpdateStore;
-        }
-        AnswerStage::ReplyUpdateStore => {
-            answer.stage = after_update(&answer.wiring, answer.header, &answer.loaded);
-            return served_at(answer.stage);
         }
         AnswerStage::ReplyMarkLoad => {
             answer.kept = value;
@@ -250,6 +292,14 @@ pub fn answer_feed(answer: &mut AnswerState, value: u64) -> Option<AnswerOutcome
             answer.kept = value;
             answer.stage = AnswerStage::CloseBellStore;
         }
+        AnswerStage::ReplyHeader | AnswerStage::ReplyMarkStore => {
+            answer.stage = done_stage(&answer.wiring, answer.header, &answer.loaded);
+            return served_at(answer.stage);
+        }
+        AnswerStage::ReplyUpdateStore => {
+            answer.stage = after_update(&answer.wiring, answer.header, &answer.loaded);
+            return served_at(answer.stage);
+        }
         AnswerStage::CloseBellStore => {
             answer.stage = after_close(asks_notify(&answer.wiring, answer.header, &answer.loaded));
             return served_at(answer.stage);
@@ -258,6 +308,7 @@ pub fn answer_feed(answer: &mut AnswerState, value: u64) -> Option<AnswerOutcome
             answer.stage = AnswerStage::AnswerRest;
             return Some(AnswerOutcome::Served);
         }
+        _ => unreachable!(),
     }
     None
 }

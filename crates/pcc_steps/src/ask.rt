@@ -3,11 +3,11 @@
 ghost use Rattle.std.specs.Prelude.{◌≡◌, ◌↔◌, ◌<◌, ◌≤◌, ◌+◌, ◌/◌, ◌%◌, ◌^◌, ◌++◌, ◌∷◌, [], length, true, false, IfOk};
 ghost use Rattle.pcc_history.specs.Channel.{over};
 ghost use Rattle.shmem_header.specs.Spelling.{words_of};
-ghost use Rattle.pcc_steps.specs.declared.ask.AskStage.TheVariants.{AskRest};
+ghost use Rattle.pcc_steps.specs.declared.ask.AskStage.TheVariants.{AskRest, LookWord};
 ghost use Rattle.pcc_steps.specs.declared.wiring.Action.TheVariants.{Rest};
 ghost use Rattle.pcc_steps.specs.declared.ask.AskOutcome.TheVariants.{Drained};
 ghost use Rattle.pcc_steps.specs.Wires.{IsRight, style_of, block_of, block_header, opening_header, sees_done, meets, masked_by, without, update_place, acknowledges, tells_error, header_error, sent_header};
-ghost use Rattle.pcc_steps.specs.Asking.{Ask, AskOk, IsNewAsk, CodeFits, IsAskRunning, IsWithin, ask_next, ask_fed, ask_told, ask_begun, ask_looking, ask_budgeted, drained, rose, after_block, after_update, after_mark, after_bell, after_look};
+ghost use Rattle.pcc_steps.specs.Asking.{Ask, AskOk, IsNewAsk, CodeFits, IsAskRunning, IsPosting, IsReading, IsWithin, ask_fed_at, ask_told_at, ask_next, ask_fed, ask_told, ask_begun, ask_looking, ask_budgeted, drained, rose, after_block, after_update, after_mark, after_bell, after_look};
 
 use crate::wiring::{Action, Style, Wiring, place};
 use pcc_gas::masked;
@@ -237,13 +237,13 @@ pub fn ask_budget(ask: &mut AskState, polls: u32)
 
 /// Begins a run that posts a command: its code, and the bytes that are laid over the front of the space. The code is
 /// at most 255 for types 0 to 2.
-#[tactic(auto, using(crate::proofs::AskBegins::begun_ok, crate::proofs::AskBegins::over_long, crate::proofs::AskBegins::looks_rest))]
+#[tactic(auto, using(crate::proofs::AskBegins::begun_ok, crate::proofs::Bits::code_fits, crate::proofs::AskBegins::over_long, crate::proofs::AskBegins::looks_rest))]
 pub fn ask_begin(ask: &mut AskState, code: u32, bytes: &[u8])
     requires rests { ask.old.stage ≡ AskRest }
     requires free { ask.old.in_flight ≡ false }
     requires fits { length bytes.now ≤ ask.old.wiring.room }
     requires posts { ask.old.posts < 4096 }
-    requires code { CodeFits (style_of ask.old.wiring) code }
+    requires code { ask.old.wiring.kind ≤ 2 → code < 256 }
     ensures { ask.new ≡ ask_begun ask.old code bytes.now }
 {
     lay(&ask.space, bytes, &mut ask.input);
@@ -275,10 +275,36 @@ pub fn ask_feed(ask: &mut AskState, value: u64) -> Option<AskOutcome>
     ensures state { ask.new ≡ ask_fed ask.old value }
     ensures told { result ≡ ask_told ask.old value }
 {
-    let style = ask.wiring.style();
+    let told = feed(ask, value);
     ask.steps = rose(ask.steps);
+    told
+}
+
+fn feed(ask: &mut AskState, value: u64) -> Option<AskOutcome>
+    ensures state { ask.new ≡ ask_fed_at ask.old.stage ask.old value }
+    ensures told { result ≡ ask_told_at ask.old.stage ask.old value }
+{
     match ask.stage {
-        AskStage::AskRest => {}
+        AskStage::AskRest => None,
+        AskStage::LookWord => feed_completion(ask, value),
+        AskStage::LookError
+        | AskStage::LookBlock(_)
+        | AskStage::LookLine
+        | AskStage::LookLineStore
+        | AskStage::LookAckLoad
+        | AskStage::LookAckStore => feed_reply(ask, value),
+        _ => feed_post(ask, value),
+    }
+}
+
+// A step of a run that posts.
+fn feed_post(ask: &mut AskState, value: u64) -> Option<AskOutcome>
+    requires { IsPosting ask.old.stage }
+    ensures state { ask.new ≡ ask_fed_at ask.old.stage ask.old value }
+    ensures told { result ≡ ask_told_at ask.old.stage ask.old value }
+{
+    let style = ask.wiring.style();
+    match ask.stage {
         AskStage::PostBlock(at) => {
             ask.stage = if at + 1 < ask.wiring.block() {
                 AskStage::PostBlock(at + 1)
@@ -309,15 +335,34 @@ pub fn ask_feed(ask: &mut AskState, value: u64) -> Option<AskOutcome>
             ask.posts += 1;
             return Some(AskOutcome::Posted);
         }
-        AskStage::LookWord => {
-            if !sees_done(&ask.wiring, value) {
-                ask.stage = AskStage::AskRest;
-                ask.looks += 1;
-                return Some(AskOutcome::Clear);
-            }
-            ask.error = header_error(style, value);
-            ask.stage = after_look(tells_error(&ask.wiring));
-        }
+        _ => unreachable!(),
+    }
+    None
+}
+
+// The first step of a look.
+fn feed_completion(ask: &mut AskState, value: u64) -> Option<AskOutcome>
+    requires { ask.old.stage ≡ LookWord }
+    ensures state { ask.new ≡ ask_fed_at ask.old.stage ask.old value }
+    ensures told { result ≡ ask_told_at ask.old.stage ask.old value }
+{
+    if !sees_done(&ask.wiring, value) {
+        ask.stage = AskStage::AskRest;
+        ask.looks += 1;
+        return Some(AskOutcome::Clear);
+    }
+    ask.error = header_error(ask.wiring.style(), value);
+    ask.stage = after_look(tells_error(&ask.wiring));
+    None
+}
+
+// A step of a look that saw completion.
+fn feed_reply(ask: &mut AskState, value: u64) -> Option<AskOutcome>
+    requires { IsReading ask.old.stage }
+    ensures state { ask.new ≡ ask_fed_at ask.old.stage ask.old value }
+    ensures told { result ≡ ask_told_at ask.old.stage ask.old value }
+{
+    match ask.stage {
         AskStage::LookError => {
             ask.error = meets(value, ask.wiring.error_mask);
             ask.stage = AskStage::LookBlock(0);
@@ -349,6 +394,7 @@ pub fn ask_feed(ask: &mut AskState, value: u64) -> Option<AskOutcome>
             ask.stage = AskStage::LookAckStore;
         }
         AskStage::LookAckStore => return Some(drain(ask)),
+        _ => unreachable!(),
     }
     None
 }
