@@ -3,6 +3,7 @@
 
 mod answer;
 mod ask;
+mod block;
 mod laws;
 mod whole;
 mod wiring;
