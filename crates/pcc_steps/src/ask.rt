@@ -1,10 +1,10 @@
 //! The asking machine: it posts commands, and looks for their completion, one word step at a time (ACPI 6.5, 14.5).
 
-ghost use Rattle.std.specs.Prelude.{◌≡◌, ◌↔◌, ◌<◌, ◌≤◌, ◌+◌, ◌/◌, ◌^◌, length, true, false, IfOk};
+ghost use Rattle.std.specs.Prelude.{◌≡◌, ◌↔◌, ◌<◌, ◌≤◌, ◌+◌, ◌/◌, ◌^◌, length, true, false, IfOk, Some};
 ghost use Rattle.pcc_history.specs.Channel.{over};
 ghost use Rattle.pcc_steps.specs.declared.ask.AskStage.TheVariants.{AskRest, LookWord};
 ghost use Rattle.pcc_steps.specs.declared.wiring.Action.TheVariants.{Rest};
-ghost use Rattle.pcc_steps.specs.declared.ask.AskOutcome.TheVariants.{Drained};
+ghost use Rattle.pcc_steps.specs.declared.ask.AskOutcome.TheVariants.{Clear, Drained};
 ghost use Rattle.pcc_steps.specs.Wires.{IsRight, block_of, sees_done, meets, update_place, acknowledges, tells_error, header_error, sent_header};
 ghost use Rattle.pcc_steps.specs.Asking.{Ask, AskOk, IsNewAsk, IsAskRunning, IsPosting, IsReading, IsWithin, ask_fed_at, ask_told_at, ask_next, ask_fed, ask_told, ask_begun, ask_looking, ask_budgeted, drained, rose, after_block, after_update, after_mark, after_bell, after_look};
 
@@ -267,10 +267,12 @@ pub fn ask_look(ask: &mut AskState)
 
 /// Takes what the step found: the value of a load or a swap, any number for a store. Answers how the run ended, exactly
 /// where it ended with this step.
+#[tactic(auto, using(crate::proofs::Nexts::clear_told))]
 pub fn ask_feed(ask: &mut AskState, value: u64) -> Option<AskOutcome>
     requires { IsAskRunning ask.old }
     ensures state { ask.new ≡ ask_fed ask.old value }
     ensures told { result ≡ ask_told ask.old value }
+    ensures clear { (ask_told ask.old value ≡ Some Clear) ↔ ((ask.old.stage ≡ LookWord) × (sees_done ask.old.wiring value ≡ false)) }
 {
     let told = feed(ask, value);
     ask.steps = rose(ask.steps);
