@@ -11,7 +11,7 @@ use Rattle.pcc_steps.specs.declared.ask.AskStage.{AskStage}
 use Rattle.pcc_steps.specs.declared.ask.AskStage.TheVariants.{AskRest, PostBlock, PostHeader, PostUpdateLoad, PostUpdateStore, PostMarkLoad, PostMarkStore, PostBellLoad, PostBellStore, PostLine, LookWord, LookError, LookBlock, LookLine, LookLineStore, LookAckLoad, LookAckStore}
 use Rattle.pcc_steps.specs.declared.answer.AnswerStage.{AnswerStage}
 use Rattle.pcc_steps.specs.declared.answer.AnswerStage.TheVariants.{AnswerRest, TakeLine, TakeAckLoad, TakeAckStore, TakeHeader, TakeBlock, RunDevice, ReplyBlock, ReplyError, ReplyHeader, ReplyUpdateLoad, ReplyUpdateStore, ReplyMarkLoad, ReplyMarkStore, CloseBellLoad, CloseBellStore, CloseLine}
-use Rattle.pcc_steps.specs.Wires.{style_of, heads_of, block_of, update_place, sees_done, acknowledges}
+use Rattle.pcc_steps.specs.Wires.{style_of, block_of, update_place, sees_done, acknowledges}
 use Rattle.pcc_steps.specs.Asking.{Ask, AskOk, IsWithin, has_more, ask_next_at, ask_next, ask_told_at, ask_told, look_told, read_told, end_told, line_told}
 use Rattle.pcc_steps.specs.Answering.{Answer, AnswerOk, IsExecute, answer_next_at, answer_next, answer_told_at, answer_told, take_told, served_at, done_stage, after_update, after_close, asks_notify}
 

@@ -1,8 +1,8 @@
 -- The device's turn, as part of a word step.
-use Rattle.std.proofs.Common.{◌≡◌, ◌≢◌, ℕ, refl, ap}
+use Rattle.std.proofs.Common.{◌≡◌, ◌≢◌, refl, ap}
 use Rattle.pcc_history.specs.Devices.{Device}
 use Rattle.pcc_steps.specs.declared.answer.AnswerStage.{AnswerStage}
-use Rattle.pcc_steps.specs.declared.answer.AnswerStage.TheVariants.{AnswerRest, RunDevice}
+use Rattle.pcc_steps.specs.declared.answer.AnswerStage.TheVariants.{RunDevice}
 use Rattle.pcc_steps.specs.Answering.{answer_fed_at}
 use Rattle.pcc_steps.specs.Agree.{Answerer, answerer_stepped, settle_at}
 use Rattle.pcc_steps.specs.Laws.{DeviceTurns, DeviceRests}
