@@ -1,5 +1,5 @@
 -- A Bank stays a Bank of its room.
-use Rattle.std.specs.Prelude.{◌≡◌, ℕ, ◌==◌, Bool, true, false, if◌then◌else◌, List, ◌∷◌, length, drop}
+use Rattle.std.specs.Prelude.{ℕ, ◌==◌, Bool, true, false, if◌then◌else◌, List, ◌∷◌, drop}
 use Rattle.std.proofs.Common.{refl, sym, ◌∙◌, subst, length-drop}
 use Rattle.pcc_bytes.specs.Bytes.{IsBytes}
 use Rattle.pcc_history.specs.Devices.{bank_exec}

@@ -17,3 +17,4 @@ pub mod Bounds
 pub mod Lengths
 pub mod Nexts
 pub mod Asks
+pub mod Turns

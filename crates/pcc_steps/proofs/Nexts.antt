@@ -1,5 +1,9 @@
 -- What the next actions are.
-use Rattle.std.proofs.Common.{◌≡◌, ◌↔◌, ℕ, ◌+◌, ◌<◌, ◌≤◌, refl, sym, subst, arith}
+use Rattle.std.specs.Prelude.{Some}
+use borrow.Author.Tests.{eqb-true}
+use Rattle.pcc_steps.specs.declared.ask.AskOutcome.TheVariants.{Clear}
+use Rattle.pcc_steps.specs.declared.answer.AnswerOutcome.TheVariants.{Idle}
+use Rattle.std.proofs.Common.{ap, Bool, true, false, eqb, ◌≡◌, ◌↔◌, ℕ, ◌+◌, ◌<◌, ◌≤◌, refl, sym, subst, arith, ◌≢◌}
 use Rattle.pcc_steps.specs.declared.wiring.Style.{Style}
 use Rattle.pcc_steps.specs.declared.wiring.Style.TheVariants.{Headed, Joined3}
 use Rattle.pcc_steps.specs.declared.wiring.Action.TheVariants.{Rest}
@@ -7,9 +11,9 @@ use Rattle.pcc_steps.specs.declared.ask.AskStage.{AskStage}
 use Rattle.pcc_steps.specs.declared.ask.AskStage.TheVariants.{AskRest, PostBlock, PostHeader, PostUpdateLoad, PostUpdateStore, PostMarkLoad, PostMarkStore, PostBellLoad, PostBellStore, PostLine, LookWord, LookError, LookBlock, LookLine, LookLineStore, LookAckLoad, LookAckStore}
 use Rattle.pcc_steps.specs.declared.answer.AnswerStage.{AnswerStage}
 use Rattle.pcc_steps.specs.declared.answer.AnswerStage.TheVariants.{AnswerRest, TakeLine, TakeAckLoad, TakeAckStore, TakeHeader, TakeBlock, RunDevice, ReplyBlock, ReplyError, ReplyHeader, ReplyUpdateLoad, ReplyUpdateStore, ReplyMarkLoad, ReplyMarkStore, CloseBellLoad, CloseBellStore, CloseLine}
-use Rattle.pcc_steps.specs.Wires.{style_of, block_of, update_place}
-use Rattle.pcc_steps.specs.Asking.{Ask, AskOk, IsWithin, ask_next_at, ask_next}
-use Rattle.pcc_steps.specs.Answering.{Answer, AnswerOk, IsExecute, answer_next_at, answer_next}
+use Rattle.pcc_steps.specs.Wires.{style_of, block_of, update_place, sees_done, acknowledges}
+use Rattle.pcc_steps.specs.Asking.{Ask, AskOk, IsWithin, has_more, ask_next_at, ask_next, ask_told_at, ask_told, look_told, read_told, end_told, line_told}
+use Rattle.pcc_steps.specs.Answering.{Answer, AnswerOk, IsExecute, answer_next_at, answer_next, answer_told_at, answer_told, take_told, served_at, done_stage, after_update, after_close, asks_notify}
 
 register_place : (s : Style) (n : ℕ) → update_place s < 8 + n
 register_place Headed n = omega arith
@@ -90,3 +94,50 @@ within' CloseLine a ok = low_place 4 (block_of a.wiring) (omega arith)
 
 pub answer_within : (a : Answer) → AnswerOk a → IsWithin (8 + block_of a.wiring) (answer_next a)
 answer_within a ok = within' a.stage a ok
+
+-- ---- what is told
+
+ended_clear : (b e : Bool) → end_told b e ≢ Some Clear
+ended_clear true e h = cc
+ended_clear false e h = cc
+
+read_clear : (b n e : Bool) → read_told b n e ≢ Some Clear
+read_clear true n e h = cc
+read_clear false n e h = ended_clear n e h
+
+lined_clear : (b e : Bool) → line_told b e ≢ Some Clear
+lined_clear true e h = cc
+lined_clear false e h = cc
+
+looked_clear : (b : Bool) → look_told b ≡ Some Clear → b ≡ false
+looked_clear true h = cc
+looked_clear false h = refl
+
+clear_at : (st : AskStage) (a : Ask) (v : ℕ) → ask_told_at st a v ≡ Some Clear → (st ≡ LookWord) × (sees_done a.wiring v ≡ false)
+clear_at LookWord a v h = (refl, looked_clear (sees_done a.wiring v) h)
+clear_at (LookBlock j) a v h = absurd (read_clear (has_more j a.wiring) a.wiring.notify a.error h)
+clear_at LookLine a v h = absurd (lined_clear (eqb v 0) a.error h)
+clear_at LookLineStore a v h = absurd (ended_clear (acknowledges a.wiring) a.error h)
+clear_at _ a v h = cc
+
+pub clear_told : (a : Ask) (v : ℕ) → (ask_told a v ≡ Some Clear) ↔ ((a.stage ≡ LookWord) × (sees_done a.wiring v ≡ false))
+clear_told a v = (clear_at a.stage a v, λ h. subst (λ (st : AskStage). ask_told_at st a v ≡ Some Clear) (sym h.0) (ap look_told h.1))
+
+served_idle : (st : AnswerStage) → served_at st ≢ Some Idle
+served_idle AnswerRest h = cc
+served_idle _ h = cc
+
+taken_idle : (v : ℕ) (b : Bool) → eqb v 0 ≡ b → take_told b ≡ Some Idle → v ≡ 0
+taken_idle v true e h = eqb-true v 0 e
+taken_idle v false e h = cc
+
+idle_at : (st : AnswerStage) (a : Answer) (v : ℕ) → answer_told_at st a v ≡ Some Idle → (st ≡ TakeLine) × (v ≡ 0)
+idle_at TakeLine a v h = (refl, taken_idle v (eqb v 0) refl h)
+idle_at ReplyHeader a v h = absurd (served_idle (done_stage a) h)
+idle_at ReplyUpdateStore a v h = absurd (served_idle (after_update (style_of a.wiring) a) h)
+idle_at ReplyMarkStore a v h = absurd (served_idle (done_stage a) h)
+idle_at CloseBellStore a v h = absurd (served_idle (after_close (asks_notify a)) h)
+idle_at _ a v h = cc
+
+pub idle_told : (a : Answer) (v : ℕ) → (answer_told a v ≡ Some Idle) ↔ ((a.stage ≡ TakeLine) × (v ≡ 0))
+idle_told a v = (idle_at a.stage a v, λ h. subst (λ (st : AnswerStage). answer_told_at st a v ≡ Some Idle) (sym h.0) (ap (λ (n : ℕ). take_told (eqb n 0)) h.1))

@@ -296,7 +296,17 @@ pub record IsReading (x : Asker) (hp : List Exchange) (c : Core) (j : ℕ) : Typ
   pub loaded : take j x.m.loaded ≡ take j (reply_block (flight x) output)
   pub knows : Knows x.m.stage error x.m.error
 
--- The phases: free, writing, cleared, in flight (rung, taken, replying or done), and done while it is read.
+-- The phases. Behind "done" stands a look that saw completion and reads the reply. Where the answering end is quiet it is at rest, about to
+-- begin, or closing a run.
+--
+--   phase       word 0  line  block                          asking end                     answering end                 histories
+--   free        set     0     as it stood                    at rest, nothing in flight     quiet                         equal
+--   writing j   set     0     j words sent, then as it stood posts, past j words            quiet                         equal
+--   cleared     clear   0     sent                           posts, line not yet raised     quiet                         equal
+--   rung        clear   1     sent                           in flight                      quiet                         equal
+--   taken j     clear   0     sent                           in flight                      has loaded j words            equal
+--   replying j  clear   0     j words of the reply, sent     in flight                      has executed, past j words    one more
+--   done        set     0     the reply                      in flight, or reading it       quiet                         one more
 abbrev pub Fits : Pose → Turn → Asker → Answerer → Core → Type 0
 Fits free t x y c = (t ≡ quiet) × Row x.m.wiring x.m.code y.done c opened 0 x.m.shown x.done
 Fits (writing j) t x y c = (t ≡ quiet) × Row x.m.wiring x.m.code y.done c opened 0 (mix j x.m.sent x.m.shown) x.done

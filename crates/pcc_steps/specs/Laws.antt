@@ -1,8 +1,8 @@
 -- What the word steps of both ends keep, from any state that has the relation.
-use Rattle.std.specs.Prelude.{◌≡◌, ◌⊎◌, ℕ, ◌+◌, ◌*◌, ◌≤◌, ◌<◌, ◌^◌, Bool, true, false, List, [], ◌∷◌, ◌++◌, length, drop}
+use Rattle.std.specs.Prelude.{◌≢◌, ◌≡◌, ◌⊎◌, ℕ, ◌+◌, ◌*◌, ◌≤◌, ◌<◌, ◌^◌, Bool, true, false, List, [], ◌∷◌, ◌++◌, length, drop}
 use Rattle.pcc_bytes.specs.Bytes.{IsBytes}
 use Rattle.pcc_history.specs.Devices.{Device}
-use Rattle.pcc_history.specs.Channel.{Exchange, over}
+use Rattle.pcc_history.specs.Channel.{Exchange, over, exchange_of}
 use Rattle.pcc_history.specs.Histories.{Legal, state_after}
 use Rattle.shmem_header.specs.Spelling.{words_of, bytes_of}
 use Rattle.pcc_steps.specs.declared.wiring.Wiring.{Wiring}
@@ -10,7 +10,7 @@ use Rattle.pcc_steps.specs.declared.ask.AskStage.TheVariants.{AskRest}
 use Rattle.pcc_steps.specs.declared.answer.AnswerStage.TheVariants.{AnswerRest, RunDevice}
 use Rattle.pcc_steps.specs.Wires.{style_of, heads_of, block_of, block_header, opening_words}
 use Rattle.pcc_steps.specs.Asking.{Ask, AskOk, IsNewAsk, IsAskRunning, ask_next, ask_fed, ask_told, ask_begun, ask_looking, ask_budgeted}
-use Rattle.pcc_steps.specs.Answering.{Answer, AnswerOk, IsNewAnswer, IsAnswerStepping, answer_next, answer_fed, answer_told, answer_begun, ran_with}
+use Rattle.pcc_steps.specs.Answering.{Answer, AnswerOk, IsNewAnswer, IsAnswerStepping, answer_next, answer_fed, answer_told, answer_begun, answer_code, ran_with}
 use Rattle.pcc_steps.specs.Runs.{Within, post_run, look_run, answer_run}
 use Rattle.pcc_steps.specs.Walk.{ask_left, ask_after, answer_left, answer_after, Takes, Gives}
 use Rattle.pcc_steps.specs.Agree.{act, Finds, Asker, Answerer, asker_fed, answerer_fed, Agree}
@@ -54,6 +54,15 @@ DeviceStays exec is_state room_of = (start ws : List ℕ) (x : Asker) (y : Answe
 -- the asking end's history is the answering end's, or all of it but the last exchange; the answering end's is legal
 abbrev pub HistoriesAgree : Type 0
 HistoriesAgree = (exec : Device) (start ws : List ℕ) (x : Asker) (y : Answerer) → Agree exec start ws x y → ((y.done ≡ x.done) ⊎ ((e : Exchange) × (y.done ≡ x.done ++ e ∷ []))) × Legal exec x.m.wiring.reports start y.done × (y.device ≡ state_after exec start y.done)
+
+-- where the step loaded the last word of the block, the answering end goes on with what the device leaves
+abbrev pub DeviceTurns : Type 0
+DeviceTurns = (exec : Device) (y : Answerer) (v : ℕ) → let a : Answer = answer_fed y.m v in a.stage ≡ RunDevice → let e = exec y.device (answer_code a) a.space in
+    answerer_fed exec y v ≡ record { m = ran_with (record a { space = e.space }) e.bad; device = e.state; done = y.done ++ exchange_of exec a.wiring.reports y.device (answer_code a) a.space ∷ [] }
+
+-- else the device does nothing
+abbrev pub DeviceRests : Type 0
+DeviceRests = (exec : Device) (y : Answerer) (v : ℕ) → (answer_fed y.m v).stage ≢ RunDevice → answerer_fed exec y v ≡ record y { m = answer_fed y.m v }
 
 -- ---- the machines and their tables
 

@@ -1,5 +1,7 @@
 -- The runs of both ends, step by step, and which words each step loads, stores and swaps.
 -- A run never looks ahead: each step may use what the steps before it found.
+-- Places: 0 completion, 1 doorbell register, 2 doorbell line, 3 error register, 4 interrupt line, 5 acknowledge register, 6 update register
+-- where it isn't the check register, 7 unused, from 8 on the block. This order of words and steps is this project's own, after ACPI 6.5, 14.5.
 use Rattle.std.specs.Prelude.{ℕ, bit_or, ◌+◌, ◌-◌, ◌<◌, ◌≡◌, ◌==◌, zero, suc, Bool, true, false, if◌then◌else◌, List, [], ◌∷◌, ◌++◌, length, drop}
 use Rattle.pcc_gas.specs.declared.mask.Masks.{Masks}
 use Rattle.pcc_steps.specs.declared.wiring.Wiring.{Wiring}

@@ -1,12 +1,13 @@
 //! The answering machine: it takes commands and answers them, one word step at a time (ACPI 6.5, 14.5).
 
-ghost use Rattle.std.specs.Prelude.{ℕ, ◌≡◌, ◌↔◌, ◌<◌, ◌≤◌, ◌+◌, ◌/◌, ◌%◌, ◌^◌, ◌++◌, List, length, take, IfOk};
+ghost use Rattle.std.specs.Prelude.{ℕ, ◌≡◌, ◌↔◌, ◌<◌, ◌+◌, ◌/◌, ◌%◌, ◌^◌, ◌++◌, length, take, IfOk, Some};
 ghost use Rattle.std.specs.Borrow.{sem};
 ghost use Rattle.shmem_header.specs.Spelling.{words_of};
-ghost use Rattle.pcc_steps.specs.declared.answer.AnswerStage.TheVariants.{AnswerRest, RunDevice};
+ghost use Rattle.pcc_steps.specs.declared.answer.AnswerStage.TheVariants.{AnswerRest, RunDevice, TakeLine};
+ghost use Rattle.pcc_steps.specs.declared.answer.AnswerOutcome.TheVariants.{Idle};
 ghost use Rattle.pcc_steps.specs.declared.wiring.Action.TheVariants.{Rest};
 ghost use Rattle.pcc_steps.specs.Asking.{IsWithin};
-ghost use Rattle.pcc_steps.specs.Wires.{IsRight, style_of, heads_of, block_of, status_of, code_by, asks_by, four_by};
+ghost use Rattle.pcc_steps.specs.Wires.{IsRight, style_of, block_of, status_of, code_by, asks_by, four_by};
 ghost use Rattle.pcc_steps.specs.Runs.{error_word};
 ghost use Rattle.pcc_steps.specs.Answering.{Answer, AnswerOk, IsNewAnswer, IsAnswerStepping, IsTaking, IsReplying, IsCompleting, answer_fed_at, answer_told_at, IsExecute, answer_next, answer_fed, answer_told, answer_begun, answer_ran, ran_with, answer_code, served_at, after_ack, after_take, after_error, after_reply, after_close, after_done, done_stage, asks_notify, update_stage, AnswerPlace};
 ghost use Rattle.pcc_exec.specs.Execution.{is_bad};
@@ -187,10 +188,12 @@ pub fn answer_next(answer: &AnswerState) -> Action
 
 /// Takes what the step found: the value of a load or a swap, any number for a store. Answers how the run ended, exactly
 /// where it ended with this step.
+#[tactic(auto, using(crate::proofs::Nexts::idle_told))]
 pub fn answer_feed(answer: &mut AnswerState, value: u64) -> Option<AnswerOutcome>
     requires { IsAnswerStepping answer.old }
     ensures state { answer.new ≡ answer_fed answer.old value }
     ensures told { result ≡ answer_told answer.old value }
+    ensures idle { (answer_told answer.old value ≡ Some Idle) ↔ ((answer.old.stage ≡ TakeLine) × (value ≡ 0)) }
 {
     let told = feed(answer, value);
     answer.steps = rose(answer.steps);

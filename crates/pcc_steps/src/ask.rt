@@ -1,21 +1,18 @@
 //! The asking machine: it posts commands, and looks for their completion, one word step at a time (ACPI 6.5, 14.5).
 
-ghost use Rattle.std.specs.Prelude.{◌≡◌, ◌↔◌, ◌<◌, ◌≤◌, ◌+◌, ◌/◌, ◌%◌, ◌^◌, ◌++◌, ◌∷◌, [], length, true, false, IfOk};
+ghost use Rattle.std.specs.Prelude.{◌≡◌, ◌↔◌, ◌<◌, ◌≤◌, ◌+◌, ◌/◌, ◌^◌, length, true, false, IfOk, Some};
 ghost use Rattle.pcc_history.specs.Channel.{over};
-ghost use Rattle.shmem_header.specs.Spelling.{words_of};
 ghost use Rattle.pcc_steps.specs.declared.ask.AskStage.TheVariants.{AskRest, LookWord};
 ghost use Rattle.pcc_steps.specs.declared.wiring.Action.TheVariants.{Rest};
-ghost use Rattle.pcc_steps.specs.declared.ask.AskOutcome.TheVariants.{Drained};
-ghost use Rattle.pcc_steps.specs.Wires.{IsRight, style_of, block_of, block_header, opening_header, sees_done, meets, masked_by, without, update_place, acknowledges, tells_error, header_error, sent_header};
-ghost use Rattle.pcc_steps.specs.Asking.{Ask, AskOk, IsNewAsk, CodeFits, IsAskRunning, IsPosting, IsReading, IsWithin, ask_fed_at, ask_told_at, ask_next, ask_fed, ask_told, ask_begun, ask_looking, ask_budgeted, drained, rose, after_block, after_update, after_mark, after_bell, after_look};
+ghost use Rattle.pcc_steps.specs.declared.ask.AskOutcome.TheVariants.{Clear, Drained};
+ghost use Rattle.pcc_steps.specs.Wires.{IsRight, block_of, sees_done, meets, update_place, acknowledges, tells_error, header_error, sent_header};
+ghost use Rattle.pcc_steps.specs.Asking.{Ask, AskOk, IsNewAsk, IsAskRunning, IsPosting, IsReading, IsWithin, ask_fed_at, ask_told_at, ask_next, ask_fed, ask_told, ask_begun, ask_looking, ask_budgeted, drained, rose, after_block, after_update, after_mark, after_bell, after_look};
 
+use crate::block::{fill_block, fill_opening, lay};
 use crate::wiring::{Action, Style, Wiring, place};
 use pcc_gas::masked;
 use pcc_io::NoMemory;
-use shmem_header::{
-    COMPLETE_BIT, ERROR_BIT, Extended, Reduced, bytes_into, extended_to, header_word, is_set,
-    reduced_to, signature_of, words_into,
-};
+use shmem_header::{COMPLETE_BIT, ERROR_BIT, bytes_into, header_word, is_set};
 use std::alloc::Global;
 use std::marker::Model;
 use std::mem;
@@ -270,10 +267,12 @@ pub fn ask_look(ask: &mut AskState)
 
 /// Takes what the step found: the value of a load or a swap, any number for a store. Answers how the run ended, exactly
 /// where it ended with this step.
+#[tactic(auto, using(crate::proofs::Nexts::clear_told))]
 pub fn ask_feed(ask: &mut AskState, value: u64) -> Option<AskOutcome>
     requires { IsAskRunning ask.old }
     ensures state { ask.new ≡ ask_fed ask.old value }
     ensures told { result ≡ ask_told ask.old value }
+    ensures clear { (ask_told ask.old value ≡ Some Clear) ↔ ((ask.old.stage ≡ LookWord) × (sees_done ask.old.wiring value ≡ false)) }
 {
     let told = feed(ask, value);
     ask.steps = rose(ask.steps);
@@ -521,73 +520,5 @@ fn after_look(tells: bool) -> AskStage
         AskStage::LookError
     } else {
         AskStage::LookBlock(0)
-    }
-}
-
-// The bytes over the front of the space.
-fn lay(space: &[u8], bytes: &[u8], input: &mut [u8])
-    requires same { length input.old ≡ length space.now }
-    requires fits { length bytes.now ≤ length space.now }
-    ensures { input.new ≡ over space.now bytes.now }
-{
-    input.copy_from_slice(space);
-    input[..bytes.len()].copy_from_slice(bytes);
-}
-
-// A block begins with its header words.
-fn fill(header: &[u64], space: &[u8], block: &mut [u64])
-    requires long { length block.old ≡ length header.now + length space.now / 8 }
-    requires whole { length space.now % 8 ≡ 0 }
-    ensures { block.new ≡ header.now ++ words_of space.now }
-{
-    block[..header.len()].copy_from_slice(header);
-    words_into(space, &mut block[header.len()..]);
-}
-
-fn fill_block(wiring: &Wiring, code: u32, asked: u32, space: &[u8], block: &mut [u64])
-    requires long { length block.old ≡ block_of wiring.now }
-    requires room { length space.now ≡ wiring.now.room }
-    requires whole { wiring.now.room % 8 ≡ 0 }
-    requires asked { asked ≤ 4096 }
-    ensures { block.new ≡ block_header (style_of wiring.now) wiring.now code asked ++ words_of space.now }
-{
-    let signature = signature_of(wiring.id);
-    match wiring.style() {
-        Style::Headed => fill(&[], space, block),
-        Style::Reduced5 => fill(
-            &[reduced_to(Reduced {
-                signature,
-                command: code,
-            })],
-            space,
-            block,
-        ),
-        _ => {
-            let flags = if wiring.notify { Extended::NOTIFY } else { 0 };
-            fill(
-                &extended_to(Extended {
-                    signature,
-                    flags,
-                    length: 4 + asked,
-                    command: code,
-                }),
-                space,
-                block,
-            )
-        }
-    }
-}
-
-fn fill_opening(wiring: &Wiring, space: &[u8], block: &mut [u64])
-    requires long { length block.old ≡ block_of wiring.now }
-    requires room { length space.now ≡ wiring.now.room }
-    requires whole { wiring.now.room % 8 ≡ 0 }
-    ensures { block.new ≡ opening_header (style_of wiring.now) wiring.now ++ words_of space.now }
-{
-    let signature = u64::from(signature_of(wiring.id));
-    match wiring.style() {
-        Style::Headed => fill(&[], space, block),
-        Style::Reduced5 => fill(&[signature], space, block),
-        _ => fill(&[signature, 0], space, block),
     }
 }

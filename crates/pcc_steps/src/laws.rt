@@ -1,7 +1,7 @@
 //! What holds of the words and both ends between any two word steps, as laws. Each step goes from any state that has the
 //! relation, from the stepping end's own state and its one word, so the laws serve one owner of the words, and two
 //! threads that share them.
-ghost use Rattle.pcc_steps.specs.Laws.{StartsAgreed, AskStepAgrees, PostBeginAgrees, LookBeginAgrees, BudgetAgrees, AnswerBeginAgrees, AnswerStepAgrees, DeviceStays, HistoriesAgree, PostsByTable, LooksByTable, AsksByTable, PostsWithin, LooksWithin, AskRunsWithin, AnswersByTable, AnswerStepsByTable, ExecutesByTable, AnswersWithin, AnswerRunsWithin};
+ghost use Rattle.pcc_steps.specs.Laws.{StartsAgreed, AskStepAgrees, PostBeginAgrees, LookBeginAgrees, BudgetAgrees, AnswerBeginAgrees, AnswerStepAgrees, DeviceStays, DeviceTurns, DeviceRests, HistoriesAgree, PostsByTable, LooksByTable, AsksByTable, PostsWithin, LooksWithin, AskRunsWithin, AnswersByTable, AnswerStepsByTable, ExecutesByTable, AnswersWithin, AnswerRunsWithin};
 ghost use Rattle.pcc_steps.specs.Asked.{AskedNothing, AsksMore, LookAsksNothing, BudgetAsksNothing, StepAsksNothing};
 
 use pcc_exec::Executor;
@@ -55,6 +55,12 @@ pub fn answering_tables()
     // A run takes at most 11 word steps more than twice the words of the block.
     ensures answers { AnswersWithin }
     ensures runs { AnswerRunsWithin }
+{}
+
+/// When the device executes: with the word step that loads the last word of the block, and no other. It does nothing.
+pub fn device_laws()
+    ensures turn { DeviceTurns }
+    ensures rest { DeviceRests }
 {}
 
 /// Each end's history, by the relation. It does nothing.

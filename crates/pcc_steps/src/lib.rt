@@ -3,6 +3,7 @@
 
 mod answer;
 mod ask;
+mod block;
 mod laws;
 mod whole;
 mod wiring;
@@ -15,7 +16,8 @@ pub use ask::{
     AskOutcome, AskStage, AskState, ask_begin, ask_budget, ask_feed, ask_look, ask_next,
 };
 pub use laws::{
-    answering_laws, answering_tables, asked_laws, asking_laws, asking_tables, history_laws,
+    answering_laws, answering_tables, asked_laws, asking_laws, asking_tables, device_laws,
+    history_laws,
 };
 pub use whole::whole_call;
 pub use wiring::{Action, Style, Wiring};

@@ -152,14 +152,15 @@ fn a_command_with_a_notification_is_posted_answered_and_drained(rt: HostRuntime)
 #[test]
 fn a_look_that_sees_clear_leaves_the_command_in_flight(rt: HostRuntime) {
     let wiring = headed(0, false, false);
-    let mut ask = AskState::new(rt.alloc(), wiring, &[5; 8]).expect(&rt, "memory");
-    ask_budget(&mut ask, 1);
-    ask_begin(&mut ask, 255, &[]);
+    let mut ask = AskState::new(rt.alloc(), wiring, &[0; 8]).expect(&rt, "memory");
+    let mut answer = AnswerState::new(rt.alloc(), wiring).expect(&rt, "memory");
+    ask_budget(&mut ask, 3);
+    ask_begin(&mut ask, 16, &[1, 2]);
     let posted = [
-        (Store(8, 0x0505_0505_0505_0505), 0),
-        (Store(0, 0x0000_00ff_5043_4300), 0),
-        (Load(1), 0xff),
-        (Store(1, 0xff), 0),
+        (Store(8, 0x201), 0),
+        (Store(0, 0x0000_0010_5043_4300), 0),
+        (Load(1), 0),
+        (Store(1, 1), 0),
         (Store(2, 1), 0),
     ];
     assert!(rt; ask_along(&mut ask, &posted) == Some(AskOutcome::Posted));
@@ -167,9 +168,34 @@ fn a_look_that_sees_clear_leaves_the_command_in_flight(rt: HostRuntime) {
         panic!(rt; "a look can begin");
     }
     ask_look(&mut ask);
-    let clear = [(Load(0), 0x0000_00ff_5043_4300)];
+    let clear = [(Load(0), 0x0000_0010_5043_4300)];
     assert!(rt; ask_along(&mut ask, &clear) == Some(AskOutcome::Clear));
     assert!(rt; ask.looks() == 1 && ask.in_flight() && ask.posts() == 1);
+    answer_start(&mut answer);
+    let taken = [
+        (Swap(2, 0), 1),
+        (Load(0), 0x0000_0010_5043_4300),
+        (Load(8), 0x201),
+    ];
+    assert!(rt; answer_along(&mut answer, &taken).is_none());
+    assert!(rt;
+        executes(
+            &mut answer,
+            16,
+            &[1, 2, 0, 0, 0, 0, 0, 0],
+            &[0; 8],
+            ExecStatus::Good
+        )
+    );
+    let served = [(Store(8, 0), 0), (Store(0, 0x0001_0010_5043_4300), 0)];
+    assert!(rt; answer_along(&mut answer, &served) == Some(AnswerOutcome::Served));
+    if !ask.in_flight() || ask.looks() >= ask.budget() || ask_next(&ask) != Action::Rest {
+        panic!(rt; "a look can begin");
+    }
+    ask_look(&mut ask);
+    let drained = [(Load(0), 0x0001_0010_5043_4300), (Load(8), 0)];
+    assert!(rt; ask_along(&mut ask, &drained) == Some(AskOutcome::Drained { error: false }));
+    assert!(rt; ask.steps() == 8 && answer.steps() == 5);
 }
 
 #[test]

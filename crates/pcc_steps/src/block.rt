@@ -1,0 +1,76 @@
+//! The words of a block: its header words, and those of a space.
+ghost use Rattle.std.specs.Prelude.{◌≡◌, ◌≤◌, ◌+◌, ◌/◌, ◌%◌, ◌++◌, length};
+ghost use Rattle.pcc_history.specs.Channel.{over};
+ghost use Rattle.shmem_header.specs.Spelling.{words_of};
+ghost use Rattle.pcc_steps.specs.Wires.{block_header, block_of, opening_header, style_of};
+
+use crate::wiring::{Style, Wiring};
+use shmem_header::{Extended, Reduced, extended_to, reduced_to, signature_of, words_into};
+
+// The bytes over the front of the space.
+pub(crate) fn lay(space: &[u8], bytes: &[u8], input: &mut [u8])
+    requires same { length input.old ≡ length space.now }
+    requires fits { length bytes.now ≤ length space.now }
+    ensures { input.new ≡ over space.now bytes.now }
+{
+    input.copy_from_slice(space);
+    input[..bytes.len()].copy_from_slice(bytes);
+}
+
+// A block begins with its header words.
+fn fill(header: &[u64], space: &[u8], block: &mut [u64])
+    requires long { length block.old ≡ length header.now + length space.now / 8 }
+    requires whole { length space.now % 8 ≡ 0 }
+    ensures { block.new ≡ header.now ++ words_of space.now }
+{
+    block[..header.len()].copy_from_slice(header);
+    words_into(space, &mut block[header.len()..]);
+}
+
+pub(crate) fn fill_block(wiring: &Wiring, code: u32, asked: u32, space: &[u8], block: &mut [u64])
+    requires long { length block.old ≡ block_of wiring.now }
+    requires room { length space.now ≡ wiring.now.room }
+    requires whole { wiring.now.room % 8 ≡ 0 }
+    requires asked { asked ≤ 4096 }
+    ensures { block.new ≡ block_header (style_of wiring.now) wiring.now code asked ++ words_of space.now }
+{
+    let signature = signature_of(wiring.id);
+    match wiring.style() {
+        Style::Headed => fill(&[], space, block),
+        Style::Reduced5 => fill(
+            &[reduced_to(Reduced {
+                signature,
+                command: code,
+            })],
+            space,
+            block,
+        ),
+        _ => {
+            let flags = if wiring.notify { Extended::NOTIFY } else { 0 };
+            fill(
+                &extended_to(Extended {
+                    signature,
+                    flags,
+                    length: 4 + asked,
+                    command: code,
+                }),
+                space,
+                block,
+            )
+        }
+    }
+}
+
+pub(crate) fn fill_opening(wiring: &Wiring, space: &[u8], block: &mut [u64])
+    requires long { length block.old ≡ block_of wiring.now }
+    requires room { length space.now ≡ wiring.now.room }
+    requires whole { wiring.now.room % 8 ≡ 0 }
+    ensures { block.new ≡ opening_header (style_of wiring.now) wiring.now ++ words_of space.now }
+{
+    let signature = u64::from(signature_of(wiring.id));
+    match wiring.style() {
+        Style::Headed => fill(&[], space, block),
+        Style::Reduced5 => fill(&[signature], space, block),
+        _ => fill(&[signature, 0], space, block),
+    }
+}
