@@ -1,5 +1,5 @@
 -- The lines of a text, and the bytes behind the last line feed.
-use Rattle.std.proofs.Common.{◌≡◌, ℕ, ◌≤◌, eqb, List, [], ◌∷◌, ◌++◌, length, refl, sym, ap, ◌∙◌, arith}
+use Rattle.std.proofs.Common.{◌≡◌, ℕ, ◌≤◌, eqb, List, [], ◌∷◌, ◌++◌, length, refl, ap, ◌∙◌, arith}
 use Rattle.std.proofs.lemmas.List.Splits.{length-slice_split}
 use Rattle.pcc_bytes.specs.Fields.{split_at}
 use Rattle.pcc_script.specs.Reading.{front_of, last_of}

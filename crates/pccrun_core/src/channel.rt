@@ -9,9 +9,9 @@ ghost use Rattle.pccrun_core.specs.StepRun.{has_byte_codes};
 ghost use Rattle.pccrun_core.specs.BankChannels.{IsAnswered, new_bank};
 
 use crate::reply::Outcome;
+use pcc_exec::{Bank, ExecStatus};
 use pcc_io::{Bytes, Clock, LineClock, NoMemory};
 use pcc_journal::{Journal, JournalHead, Record, ReserveRefusal};
-use pcc_exec::{Bank, ExecStatus};
 use pcc_steps::whole_call;
 use rate_limit::{Limits, Times, earliest};
 use std::alloc::Global;

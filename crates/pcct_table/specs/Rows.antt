@@ -1,5 +1,5 @@
 -- The fields of the Platform Communications Channel Table and of its structures, a row for each (ACPI 6.5, 14.1).
-use Rattle.std.specs.Prelude.{ℕ, ◌+◌, ◌==◌, if◌then◌else◌, List, [], ◌∷◌, ◌++◌, map, take, drop, Option, Some, None, codes}
+use Rattle.std.specs.Prelude.{ℕ, ◌==◌, if◌then◌else◌, List, [], ◌∷◌, ◌++◌, map, take, drop, Option, Some, None, codes}
 use Rattle.std.specs.Str.{bytes_eq}
 use Rattle.pcc_bytes.specs.Bytes.{number_at}
 use Rattle.pcct_table.specs.declared.rows.Kind.{Kind}

@@ -1,4 +1,3 @@
-use Rattle.std.proofs.Common.{sym}
 use Rattle.pcc_script.specs.Reading.{entry_statement}
 use Rattle.pcc_script.proofs.Going.{going_fault, going_more}
 use Rattle.pcc_script.proofs.reading.read.Goals as goal
