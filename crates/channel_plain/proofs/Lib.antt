@@ -11,4 +11,6 @@ pub mod AskTurns
 pub mod AnswerTurns
 pub mod Kepts
 pub mod WordRunOf
+pub mod Goods
 pub mod Written
+pub mod Stayings

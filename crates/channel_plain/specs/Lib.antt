@@ -7,3 +7,4 @@ pub mod Standing
 pub mod Steps
 pub mod News
 pub mod Weaving
+pub mod Good

@@ -1,16 +1,16 @@
 //! A channel on a plain list of words with its clock, and a whole run of picks.
 
-ghost use Rattle.std.specs.Prelude.{◌≡◌, List, ℕ, IfOk, OnErr};
+ghost use Rattle.std.specs.Prelude.{◌≡◌, ◌≤◌, List, ℕ, IfOk, OnErr, length};
 ghost use Rattle.std.specs.Option.{option_copied};
-ghost use Rattle.rate_limit.specs.RateLimits.{WithinLimits};
-ghost use Rattle.pcc_journal.specs.Records.{times_of};
+ghost use Rattle.pcc_journal.specs.Records.{exchanges_of_commands};
 ghost use Rattle.pcc_steps.specs.Wires.{IsRight};
 ghost use Rattle.channel_plain.specs.Picks.{asks_by, pending_by, picked};
-ghost use Rattle.channel_plain.specs.Holding.{post_of};
 ghost use Rattle.channel_plain.specs.Standing.{HavePolls, IsServing, Stands};
 ghost use Rattle.channel_plain.specs.Steps.{Reads};
-ghost use Rattle.channel_plain.specs.News.{IsNew};
-ghost use Rattle.channel_plain.specs.Weaving.{IsFresh, PicksOnce, Wove};
+ghost use Rattle.channel_plain.specs.News.{IsNew, opening_of};
+ghost use Rattle.channel_plain.specs.Weaving.{IsFresh, PicksOnce, Readings, Wove};
+ghost use Rattle.channel_plain.specs.WordRuns.{WordRun, flown};
+ghost use Rattle.channel_plain.specs.Good.{IsGood, Stays};
 
 use crate::ends::Ends;
 use crate::pick::Pick;
@@ -18,7 +18,7 @@ use crate::trace::{Asked, Side, Trace, TraceLine};
 use pcc_exec::Executor;
 use pcc_io::{Clock, Items, NoMemory};
 use pcc_journal::{Commands, Journal, Pending};
-use pcc_steps::Wiring;
+use pcc_steps::{Wiring, answering_tables, asking_tables, history_laws};
 use rate_limit::Limits;
 use std::alloc::Global;
 
@@ -56,11 +56,12 @@ impl<E: Executor, K: Clock> Plain<E, K> {
         ensures err { OnErr result ((self.new.ends ≡ self.old.ends) × (self.new.clock ≡ self.old.clock)) }
         ensures serving { IsServing calls.now self.new.ends }
 
-        // What holds before and behind each pick: the relation of the words with both ends and their histories, and the limits.
+        // What holds before and behind each pick: the relation of the words with both ends and their histories, and what the journal is worth.
         ensures stood { Stands E.exec_of E.is_state E.room_of self.old.ends }
         ensures stands { Stands E.exec_of E.is_state E.room_of self.new.ends }
-        ensures limits { WithinLimits self.new.ends.calls.limits (times_of self.new.ends.calls.records) (post_of self.new.ends.calls.sent) }
+        ensures good { IsGood E.exec_of self.new.ends }
     {
+        history_laws();
         self.ends.stand();
         let picked = self.side_pick(side, calls);
         self.ends.stand();
@@ -112,9 +113,9 @@ fn asks(wiring: &Wiring, side: Side) -> bool
     }
 }
 
-/// Runs the picks in order on a new channel. After `NoMemory` the picks before it stand.
+// Picks in order, one after the other.
 #[tactic(auto, using(crate::proofs::Weaves::woven_start, crate::proofs::Weaves::woven_end))]
-pub fn weave<E: Executor, K: Clock>(
+fn pick_all<E: Executor, K: Clock>(
     alloc: Global,
     plain: &mut Plain<E, K>,
     calls: &[Asked],
@@ -130,4 +131,28 @@ pub fn weave<E: Executor, K: Clock>(
         trace.push(line)?;
     }
     Ok(trace)
+}
+
+/// Runs the picks in order on a new channel. The trace has a line for each; the steps of each side are runs of the tables, the last one
+/// perhaps cut. After `NoMemory` the picks before it stand.
+pub fn weave<E: Executor, K: Clock>(
+    alloc: Global,
+    plain: &mut Plain<E, K>,
+    calls: &[Asked],
+    picks: &[Side],
+) -> Result<Trace, NoMemory>
+    requires fresh { IsFresh plain.old.ends }
+    requires polls { HavePolls calls.now }
+    ensures run { IfOk result (λ trace. (readings : List ℕ) × Readings K.taken K.tells plain.old.clock readings plain.new.clock × (length readings ≤ length picks.now)
+        × WordRun E.exec_of plain.old.ends.ask.wiring plain.old.ends.calls.limits plain.old.ends.start (opening_of plain.old.ends.ask.wiring) calls.now picks.now trace readings
+            plain.new.ends.calls.records (flown plain.new.ends.ask.in_flight plain.new.ends.calls.sent) (exchanges_of_commands plain.new.ends.executed)) }
+    ensures good { IsGood E.exec_of plain.new.ends }
+    ensures stays { IfOk result (λ _. Stays plain.old.ends plain.new.ends) }
+{
+    let trace = pick_all(alloc, plain, calls, picks);
+    asking_tables();
+    answering_tables();
+    history_laws();
+    plain.ends.stand();
+    trace
 }

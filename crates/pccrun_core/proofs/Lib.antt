@@ -5,7 +5,6 @@ pub mod Steps
 pub mod Actions
 pub mod Wired
 pub mod Weaves
-pub mod Picked
 pub mod Woven
 pub mod Refused
 pub mod Tops

@@ -1,13 +1,13 @@
 -- The readings and the journal of a woven trace.
-use Rattle.std.proofs.Common.{◌≡◌, ◌⊎◌, inl, inr, ℕ, zero, suc, ◌+◌, ◌-◌, ◌^◌, ◌<◌, ◌≤◌, min, ltb, Bool, true, false, List, [], ◌∷◌, ◌++◌, length, get_or, refl, sym, ap, ◌∙◌, subst, arith}
-use Rattle.std.specs.Prelude.{IfSome, Option, Some, None, slice_get, map, replicate}
+use Rattle.std.proofs.Common.{◌≡◌, ℕ, zero, suc, ◌+◌, ◌-◌, ◌^◌, ◌<◌, ◌≤◌, min, ltb, Bool, true, false, List, [], ◌∷◌, ◌++◌, length, get_or, refl, sym, ap, ◌∙◌, subst, arith}
+use Rattle.std.specs.Prelude.{IfSome, Option, Some, None, slice_get, slice_index, map, replicate}
 use Rattle.std.specs.List.{AllByRecursion}
 use Rattle.std.proofs.lemmas.Bool.{le-ltb, ltb-false, ltb-true}
-use Rattle.std.proofs.lemmas.List.{append-nil, get_or_append_left, length-append, length-map}
+use Rattle.std.proofs.lemmas.List.{get_or_append_left, length-append, length-map}
 use Rattle.std.proofs.Math.Seq.{get_or-append_seam}
-use Rattle.pcc_causes.specs.Clock.{line_reading, tells_from}
+use Rattle.pcc_causes.specs.Clock.{line_reading}
 use Rattle.pcc_history.specs.Channel.{Exchange}
-use Rattle.pcc_history.specs.Devices.{Device, bank_exec}
+use Rattle.pcc_history.specs.Devices.{bank_exec}
 use Rattle.pcc_history.specs.Histories.{Legal}
 use Rattle.pcc_io.specs.LineClocks.{LineState, line_tells}
 use Rattle.pcc_script.specs.declared.scenario.Letter.{Letter}
@@ -16,72 +16,62 @@ use Rattle.pcc_script.specs.declared.scenario.Line.TheVariants as line
 use Rattle.pcc_script.specs.declared.scenario.Scenario.{Scenario}
 use Rattle.pcc_script.specs.Limits.{IsAction}
 use Rattle.rate_limit.specs.declared.Limits.{Limits}
-use Rattle.rate_limit.specs.RateLimits.{WithinLimits}
+use Rattle.rate_limit.specs.declared.Times.{Times}
+use Rattle.rate_limit.specs.RateLimits.{WithinLimits, posts_of}
 use Rattle.pcc_journal.specs.JournalText.{journal_text}
 use Rattle.pcc_journal.specs.Records.{exchanges_of, exchanges_of_commands, times_of}
 use Rattle.pcct_table.specs.declared.subspace.Subspace.{Subspace}
 use Rattle.pcct_table.specs.declared.table.Table.{Table}
-use Rattle.pcc_exec.specs.Execution.{IsBank, bank_room}
 use Rattle.pcc_steps.specs.declared.wiring.Wiring.{Wiring}
-use Rattle.pcc_steps.specs.Laws.{HistoriesAgree}
+use Rattle.channel_plain.specs.declared.sent.Sent.{Sent}
 use Rattle.channel_plain.specs.declared.trace.Asked.{Asked}
-use Rattle.channel_plain.specs.News.{IsNew}
-use Rattle.channel_plain.specs.Standing.{HavePolls, Stands, answerer_of, asker_of}
-use Rattle.channel_plain.specs.TraceText.{trace_text}
 use Rattle.channel_plain.specs.declared.trace.Side.{Side}
 use Rattle.channel_plain.specs.declared.trace.TraceLine.{TraceLine}
+use Rattle.channel_plain.specs.Good.{IsGood, Stays}
 use Rattle.channel_plain.specs.Holding.{Takes, post_of}
-use Rattle.channel_plain.specs.Picks.{CallBook, PlainState, pending_by, picked}
-use Rattle.channel_plain.specs.Weaving.{Wove, picks, unpicked, reading_of}
+use Rattle.channel_plain.specs.News.{IsNew, opening_of}
+use Rattle.channel_plain.specs.Picks.{CallBook, PlainState, command_in, pending_by}
+use Rattle.channel_plain.specs.Standing.{HavePolls}
+use Rattle.channel_plain.specs.TraceText.{trace_text}
+use Rattle.channel_plain.specs.Weaving.{Readings, reads, unread}
+use Rattle.channel_plain.specs.WordRuns.{WordRun, flown}
 use Rattle.pccrun_core.specs.SetUp.{IsPromptCall, head_of}
-use Rattle.pccrun_core.specs.Weaving.{AreReadings, IsWoven, WovenBy, asked_by, line_clock, side_of}
+use Rattle.pccrun_core.specs.Weaving.{AreReadings, IsWoven, asked_by, side_of}
 use Rattle.pccrun_core.specs.Wirings.{wiring_of}
-use Rattle.pccrun_core.proofs.Picked.{Keeps, keeps_on, picked_keeps}
-
--- a part of a legal history from its start on is legal
-pub legal_front : (exec : Device) (reports : Bool) (state : List ℕ) (xs ys : List Exchange) → Legal exec reports state (xs ++ ys) → Legal exec reports state xs
-legal_front exec reports state [] ys h = tt
-legal_front exec reports state (x ∷ xs) ys h = (h.0, h.1, legal_front exec reports (exec state x.code x.input).state xs ys h.2)
-
-pub legal_by : (exec : Device) (reports : Bool) (state : List ℕ) (all xs : List Exchange) → (all ≡ xs) ⊎ ((e : Exchange) × (all ≡ xs ++ e ∷ [])) → Legal exec reports state all → Legal exec reports state xs
-legal_by exec reports state all xs (inl e) h = subst (Legal exec reports state) e h
-legal_by exec reports state all xs (inr e) h = legal_front exec reports state xs (e.0 ∷ []) (subst (Legal exec reports state) e.1 h)
 
 -- ---- readings
 
+-- the clock of a script, before its first reading
+abbrev pub line_clock : Scenario → LineState
+line_clock s = record { start = s.start; step = s.step; added = 0; taken = 0; told_from = 0 }
+
+abbrev ticks_of : LineState → ℕ
+ticks_of c = c.taken
+
 -- the clock after some readings: it tells what it told, and gave these
-record Ticked (s : Scenario) (readings : List ℕ) (clock : LineState) (most : ℕ) : Type 0 where
+record Ticked (s : Scenario) (readings : List ℕ) (clock : LineState) : Type 0 where
   told : (k : ℕ) → line_tells clock k ≡ line_tells (line_clock s) k
   count : clock.taken ≡ length readings
-  few : length readings ≤ most
   read : AreReadings s readings
 
-no_reading : (s : Scenario) (most : ℕ) → Ticked s [] (line_clock s) most
-no_reading s most = record { told = λ k. refl; count = refl; few = omega arith; read = λ k lt. absurd (omega arith) }
+told_is : (o : Option ℕ) (x r : ℕ) → o ≡ Some x → IfSome o (λ y. r ≡ y) → r ≡ x
+told_is None x r e h = absurd cc
+told_is (Some y) x r e h = let same : y ≡ x = cc in h ∙ same
+
+-- a script's clock tells all readings
+all_told : (s : Scenario) (k : ℕ) → line_tells (line_clock s) k ≡ Some (line_reading s.start s.step 0 k)
+all_told s k = rw (le-ltb k 0 (omega arith)) refl
 
 -- one reading more
-one_reading : (s : Scenario) (rs : List ℕ) (m m' : LineState) (r most : ℕ) → most < 2 ^ 64 - 1 → Takes (λ (c : LineState). c.taken) line_tells m m' true r → Ticked s rs m most → Ticked s (rs ++ r ∷ []) m' (most + 1)
-one_reading s rs m m' r most small takes t =
-    let few : length rs ≤ most = t.few in
+one_reading : (s : Scenario) (rs : List ℕ) (m m' : LineState) (r : ℕ) → length rs < 2 ^ 64 - 1 → Takes ticks_of line_tells m m' true r → Ticked s rs m → Ticked s (rs ++ r ∷ []) m'
+one_reading s rs m m' r small takes t =
     let count : m.taken ≡ length rs = t.count in
     let len : length (rs ++ r ∷ []) ≡ length rs + 1 = length-append rs (r ∷ []) in
     let taken : m'.taken ≡ min (m.taken + 1) (2 ^ 64 - 1) = takes.0 in
     let told : IfSome (line_tells m m.taken) (λ x. r ≡ x) = takes.1 (omega arith) in
-    let here : r ≡ line_reading s.start s.step 0 m.taken = told_is (line_tells m m.taken) (line_reading s.start s.step 0 m.taken) r (t.told m.taken ∙ all_told m.taken) told in
-    record {
-      told = λ k. takes.2 k ∙ t.told k;
-      count = omega arith;
-      few = omega arith;
-      read = λ k lt. at k (omega arith) here;
-    }
+    let here : r ≡ line_reading s.start s.step 0 m.taken = told_is (line_tells m m.taken) (line_reading s.start s.step 0 m.taken) r (t.told m.taken ∙ all_told s m.taken) told in
+    record { told = λ k. takes.2 k ∙ t.told k; count = omega arith; read = λ k lt. by_place (ltb k (length rs)) k refl (omega arith) here }
   where
-    all_told : (k : ℕ) → line_tells (line_clock s) k ≡ Some (line_reading s.start s.step 0 k)
-    all_told k = rw (le-ltb k 0 (omega arith)) refl
-
-    told_is : (o : Option ℕ) (x r : ℕ) → o ≡ Some x → IfSome o (λ y. r ≡ y) → r ≡ x
-    told_is None x r e h = absurd cc
-    told_is (Some y) x r e h = let same : y ≡ x = cc in h ∙ same
-
     seam : (k : ℕ) → k ≡ length rs → r ≡ line_reading s.start s.step 0 m.taken → get_or (rs ++ r ∷ []) k 0 ≡ line_reading s.start s.step 0 k
     seam k e here = ap (λ (n : ℕ). get_or (rs ++ r ∷ []) n 0) e ∙ get_or-append_seam rs r [] 0 ∙ here ∙ ap (line_reading s.start s.step 0) (t.count ∙ sym e)
 
@@ -89,37 +79,37 @@ one_reading s rs m m' r most small takes t =
     by_place true k e lt here = get_or_append_left rs (r ∷ []) 0 k (ltb-true k (length rs) e) ∙ t.read k (ltb-true k (length rs) e)
     by_place false k e lt here = let ge : length rs ≤ k = ltb-false k (length rs) e in seam k (omega arith) here
 
-    at : (k : ℕ) → k < length rs + 1 → r ≡ line_reading s.start s.step 0 m.taken → get_or (rs ++ r ∷ []) k 0 ≡ line_reading s.start s.step 0 k
-    at k lt here = by_place (ltb k (length rs)) k refl lt here
-
-same_readings : (s : Scenario) (rs : List ℕ) (m m' : LineState) (most : ℕ) → m' ≡ m → Ticked s rs m most → Ticked s (rs ++ []) m' (most + 1)
-same_readings s rs m m' most e t =
-    let P : LineState → Type 0 = λ c. Ticked s (rs ++ []) c (most + 1) in
-    let Q : List ℕ → Type 0 = λ v. Ticked s v m (most + 1) in
-    let few : length rs ≤ most = t.few in
-    subst P (sym e) (subst Q (sym (append-nil rs)) (record { told = t.told; count = t.count; few = omega arith; read = t.read }))
-
-ticked_by : (s : Scenario) (rs : List ℕ) (m m' : LineState) (b : Bool) (r most : ℕ) → most < 2 ^ 64 - 1 → Takes (λ (c : LineState). c.taken) line_tells m m' b r → Ticked s rs m most → Ticked s (rs ++ reading_of b r) m' (most + 1)
-ticked_by s rs m m' true r most small takes t = one_reading s rs m m' r most small takes t
-ticked_by s rs m m' false r most small takes t = same_readings s rs m m' most takes t
-
-ticked : (s : Scenario) (begin : PlainState) (sides : List Side) (trace : List TraceLine) (rs : List ℕ) (end : PlainState) (clock : LineState) → length sides < 2 ^ 64 - 1 → WovenBy s sides begin (line_clock s) trace rs end clock → Ticked s rs clock (length sides)
-ticked s begin sides trace rs end clock small unpicked = no_reading s 0
-ticked s begin sides trace rs end clock small (picks before ls qs t m m' side r w stands serving takes) =
-    let len : length (before ++ side ∷ []) ≡ length before + 1 = length-append before (side ∷ []) in
-    let P : ℕ → Type 0 = Ticked s rs clock in
-    subst P (sym len) (ticked_by s qs m m' _ r (length before) (omega arith) takes (ticked s begin before ls qs t m (omega arith) w))
-
--- the readings of a woven trace are the first ones of the clock
-pub readings_are : (s : Scenario) (begin : PlainState) (sides : List Side) (trace : List TraceLine) (rs : List ℕ) (end : PlainState) (clock : LineState) → length sides < 2 ^ 64 - 1 → WovenBy s sides begin (line_clock s) trace rs end clock → AreReadings s rs
-readings_are s begin sides trace rs end clock small w = (ticked s begin sides trace rs end clock small w).read
+ticked : (s : Scenario) (rs : List ℕ) (m : LineState) → length rs < 2 ^ 64 - 1 → Readings ticks_of line_tells (line_clock s) rs m → Ticked s rs m
+ticked s rs m small unread = record { told = λ k. refl; count = refl; read = λ k lt. absurd (omega arith) }
+ticked s rs m small (reads qs n n' r before takes) =
+    let len = length-append qs (r ∷ []) in
+    one_reading s qs n n' r (omega arith) takes (ticked s qs n (omega arith) before)
 
 -- ---- the journal
 
-woven_keeps : (s : Scenario) (begin : PlainState) (clock0 : LineState) (sides : List Side) (trace : List TraceLine) (rs : List ℕ) (end : PlainState) (clock : LineState) → WovenBy s sides begin clock0 trace rs end clock → Keeps begin end
-woven_keeps s begin clock0 sides trace rs end clock unpicked = record { wiring = refl; start = refl; limits = refl }
-woven_keeps s begin clock0 sides trace rs end clock (picks before ls qs t m m' side r w stands serving takes) =
-    keeps_on begin t _ (woven_keeps s begin clock0 before ls qs t m w) (picked_keeps bank_exec (map asked_by s.actions) side r t)
+-- without the pending command the limits are kept too
+without : (l : Limits) (ts : List Times) (p : ℕ) → WithinLimits l ts (Some p) → WithinLimits l ts None
+without l ts p h = record {
+  turnaround = λ i lt. let n = more in let later : i + 1 < length (posts_of ts (Some p)) = omega arith in rw (← same (i + 1) lt) (h.turnaround i later);
+  rate = λ i ne lt. let n = more in let later : i + l.per_minute < length (posts_of ts (Some p)) = omega arith in let first : i < length (posts_of ts None) = omega arith in rw (← same i first, ← same (i + l.per_minute) lt) (h.rate i ne later);
+}
+  where
+    more : length (posts_of ts (Some p)) ≡ length (posts_of ts None) + 1
+    more = length-append (map (λ t. t.post) ts) (p ∷ [])
+
+    same : (i : ℕ) → i < length (posts_of ts None) → slice_index (posts_of ts (Some p)) i ≡ slice_index (posts_of ts None) i
+    same i lt = get_or_append_left (map (λ t. t.post) ts) (p ∷ []) 0 i lt
+
+limits_flown : (l : Limits) (ts : List Times) (b : Bool) (o : Option Sent) → WithinLimits l ts (post_of o) → WithinLimits l ts (post_of (flown b o))
+limits_flown l ts true o h = h
+limits_flown l ts false None h = h
+limits_flown l ts false (Some sent) h = without l ts sent.command.post h
+
+pending_flown : (b : Bool) (o : Option Sent) → pending_by b o ≡ command_in (flown b o)
+pending_flown true o = refl
+pending_flown false o = refl
+
+-- ---- the calls
 
 -- each line looks at least once
 least_of : (ls : List Line) → AllByRecursion IsPromptCall ls → AllByRecursion IsAction ls → (i : ℕ) (c : Asked) → slice_get (map asked_by ls) i ≡ Some c → 0 < c.polls
@@ -140,35 +130,34 @@ have_polls ls calls h k e = subst HavePolls (sym e) (record { least = least_of l
 pub is_woven : (s : Scenario) (t : Table) (u : Subspace) (letters : List Letter) (w : Wiring) (limits : Limits) (state : List ℕ) (begin end : PlainState) (clock0 clock : LineState) (calls : List Asked) (sides : List Side) (trace : List TraceLine) (rs text : List ℕ)
     → slice_get t.subspaces 0 ≡ Some u → s.picks ≡ Some letters → length letters ≤ 65536 → w ≡ wiring_of 0 t.flags u → limits ≡ (head_of 0 u).limits → state ≡ 0 ∷ replicate (head_of 0 u).room 0
     → IsNew w limits state begin → clock0 ≡ line_clock s → calls ≡ map asked_by s.actions → sides ≡ map side_of letters
-    → Wove (λ (c : LineState). c.taken) line_tells bank_exec calls IsBank bank_room begin clock0 sides trace rs end clock
-    → Stands bank_exec IsBank bank_room end → WithinLimits end.calls.limits (times_of end.calls.records) (post_of end.calls.sent) → HistoriesAgree
+    → Readings ticks_of line_tells clock0 rs clock → length rs ≤ length sides
+    → WordRun bank_exec begin.ask.wiring begin.calls.limits begin.start (opening_of begin.ask.wiring) calls sides trace rs end.calls.records (flown end.ask.in_flight end.calls.sent) (exchanges_of_commands end.executed)
+    → IsGood bank_exec end → Stays begin end
     → text ≡ trace_text trace ++ journal_text (head_of 0 u) end.calls.records (pending_by end.ask.in_flight end.calls.sent) → IsWoven s t text
-is_woven s t u letters w limits state begin end clock0 clock calls sides trace rs text first chosen few wired limited stated new clocked called sided wove stands within agree is =
-    let W : List Asked × List Side × LineState → Type 0 = λ z. Wove (λ (c : LineState). c.taken) line_tells bank_exec z.0 IsBank bank_room begin z.2 z.1 trace rs end clock in
-    let woven : WovenBy s (map side_of letters) begin (line_clock s) trace rs end clock = subst W (λ i. (called i, sided i, clocked i)) wove in
-    let kept = woven_keeps s begin (line_clock s) (map side_of letters) trace rs end clock woven in
+is_woven s t u letters w limits state begin end clock0 clock calls sides trace rs text first chosen few wired limited stated new clocked called sided readings bound run good stay is =
     let n : length (map side_of letters) ≡ length letters = length-map letters side_of in
-    let N : Wiring × Limits × List ℕ → Type 0 = λ z. IsNew z.0 z.1 z.2 begin in
-    let history = agree bank_exec end.start end.words (asker_of end stands.clears) (answerer_of end) stands.agree in
-    let reports : end.ask.wiring.reports ≡ true = ap (λ (x : Wiring). x.reports) (kept.wiring ∙ new.ask.0 ∙ wired) in
-    let start : end.start ≡ 0 ∷ replicate (head_of 0 u).room 0 = kept.start ∙ new.start ∙ stated in
-    let lims : end.calls.limits ≡ (head_of 0 u).limits = kept.limits ∙ ap (λ (k : CallBook). k.limits) new.calls ∙ limited in
+    let m : length sides ≡ length (map side_of letters) = ap length sided in
+    let wires : begin.ask.wiring ≡ wiring_of 0 t.flags u = new.ask.0 ∙ wired in
+    let lims : begin.calls.limits ≡ (head_of 0 u).limits = ap (λ (k : CallBook). k.limits) new.calls ∙ limited in
+    let start : begin.start ≡ 0 ∷ replicate (head_of 0 u).room 0 = new.start ∙ stated in
+    let R : Wiring × Limits × List ℕ × List Asked × List Side → Type 0 = λ z. WordRun bank_exec z.0 z.1 z.2 (opening_of z.0) z.3 z.4 trace rs end.calls.records (flown end.ask.in_flight end.calls.sent) (exchanges_of_commands end.executed) in
+    let C : LineState → Type 0 = λ c. Readings ticks_of line_tells c rs clock in
+    let reports : end.ask.wiring.reports ≡ true = ap (λ (x : Wiring). x.reports) (stay.wiring ∙ wires) in
     let L : Bool × List ℕ → Type 0 = λ z. Legal bank_exec z.0 z.1 (exchanges_of end.calls.records) in
-    let K : Limits → Type 0 = λ l. WithinLimits l (times_of end.calls.records) (post_of end.calls.sent) in
+    let K : Limits → Type 0 = λ l. WithinLimits l (times_of end.calls.records) (post_of (flown end.ask.in_flight end.calls.sent)) in
     record {
       subspace = u;
       first = first;
       letters = letters;
       picks = chosen;
-      begin = begin;
-      new = subst N (λ i. (wired i, limited i, stated i)) new;
-      end = end;
-      clock = clock;
       trace = trace;
       readings = rs;
-      woven = woven;
-      read = readings_are s begin (map side_of letters) trace rs end clock (omega arith) woven;
-      legal = subst L (λ i. (reports i, start i)) (legal_by bank_exec end.ask.wiring.reports end.start (exchanges_of_commands end.executed) (exchanges_of end.calls.records) history.0 history.1);
-      limits = subst K lims within;
-      text_is = is;
+      records = end.calls.records;
+      sent = flown end.ask.in_flight end.calls.sent;
+      executed = exchanges_of_commands end.executed;
+      run = subst R (λ i. (wires i, lims i, start i, called i, sided i)) run;
+      read = (ticked s rs clock (omega arith) (subst C clocked readings)).read;
+      legal = subst L (λ i. (reports i, (stay.start ∙ start) i)) good.legal;
+      limits = subst K (stay.limits ∙ lims) (limits_flown end.calls.limits (times_of end.calls.records) end.ask.in_flight end.calls.sent good.limits);
+      text_is = is ∙ ap (λ (p : _). trace_text trace ++ journal_text (head_of 0 u) end.calls.records p) (pending_flown end.ask.in_flight end.calls.sent);
     }

@@ -16,7 +16,6 @@ use channel_plain::{Asked, Plain, Side, trace_lines, weave as woven};
 use pcc_exec::Bank;
 use pcc_io::{Bytes, LineClock, NoMemory};
 use pcc_journal::put_journal;
-use pcc_steps::history_laws;
 use pcc_script::{Actions, Letter, Line, Picks, Scenario};
 use pcct_table::{Subspace, Table};
 use std::alloc::Global;
@@ -91,7 +90,6 @@ fn woven_text(
     requires served { IsServed subspace.now }
     ensures { IfOk result (λ v. IsWoven scenario.now table.now v.items) }
 {
-    history_laws();
     let head = head_for(subspace);
     let calls = calls_of(alloc, &scenario.actions)?;
     let sides = sides_of(alloc, picks)?;

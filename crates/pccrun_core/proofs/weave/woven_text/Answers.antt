@@ -16,8 +16,8 @@ returns c =
     let wired : c.wiring_of.result ≡ wiring_of 0 c.args.table.now.flags c.args.subspace.now =
     c.wiring_of.ensures.wiring ∙ ap (λ (h : JournalHead). wiring_of h.id c.args.table.now.flags c.args.subspace.now) head in
     is_woven c.args.scenario.now c.args.table.now c.args.subspace.now c.args.picks.now c.wiring_of.result c.head_for-head.result.limits c.in_ok-new.field-0
-    c.in_ok-plain.plain.ends c.weave.new.plain.ends c.in_ok-plain.plain.clock c.weave.new.plain.clock c.deref.result.now c.deref-2.result.now c.in_ok-trace.trace c.in_ok-trace.ensures.wove.0 c.put_journal.new.out.items
+    c.in_ok-plain.plain.ends c.weave.new.plain.ends c.in_ok-plain.plain.clock c.weave.new.plain.clock c.deref.result.now c.deref-2.result.now c.in_ok-trace.trace c.in_ok-trace.ensures.run.0 c.put_journal.new.out.items
     c.requires.first c.requires.picks (rw c.requires.picks at c.requires.within.picks).1 wired (ap (λ (h : JournalHead). h.limits) head)
     (c.in_ok-new.ensures ∙ ap (λ (h : JournalHead). 0 ∷ replicate h.room 0) head) c.in_ok-plain.ensures.new (c.in_ok-plain.ensures.clock ∙ c.new-2.ensures)
-    (c.deref.ensures.value ∙ c.in_ok-calls.ensures) (c.deref-2.ensures.value ∙ c.in_ok-sides.ensures) c.in_ok-trace.ensures.wove.1 c.in_ok-trace.ensures.stands c.in_ok-trace.ensures.limits
-    c.history_laws.ensures (rw (c.in_ok-out.ensures, head, c.as_slice.ensures, c.journal.ensures, c.pending.ensures) at c.in_ok-put_journal.ensures)
+    (c.deref.ensures.value ∙ c.in_ok-calls.ensures) (c.deref-2.ensures.value ∙ c.in_ok-sides.ensures) c.in_ok-trace.ensures.run.1 c.in_ok-trace.ensures.run.2 c.in_ok-trace.ensures.run.3 c.in_ok-trace.ensures.good c.in_ok-trace.ensures.stays
+    (rw (c.in_ok-out.ensures, head, c.as_slice.ensures, c.journal.ensures, c.pending.ensures) at c.in_ok-put_journal.ensures)
