@@ -203,7 +203,7 @@ module _ (exec : Device) where
         looks = k.looks;
         own = k.own;
       },
-      record { fits = h.1.fits; taken = λ q n. ready_on law s v k.clears s.words (answer_fed (stepping s) v).stage ready k.agree h.1.taken refl q n }
+      record { fits = h.1.fits; taken = λ q n. ready_on law s v k.clears s.words (answer_fed (stepping s) v).stage ready k.agree h.1.taken refl q n },
     )
 
     -- ---- in the words of the code
@@ -235,5 +235,5 @@ module _ (exec : Device) where
         let ready : reg'.ready ≡ ready_after (answer_fed (stepping s) v).stage reg.ready = ap (λ (r : Executions). r.ready) is.register ∙ ap (λ (a : Answer). ready_after a.stage reg.ready) e in
         let words : ws ≡ act (answer_next (stepping s)) s.words = ew ∙ ap (λ (t : Action). act t s.words) (et ∙ ap answer_next eb) in
         subst (λ (z : (List ℕ × Answer × List ℕ × List Command) × (Bool × ℕ)). Holds exec is_state room_of (record s { words = z.0.0; answer = z.0.1; device = z.0.2; executed = z.0.3 }) z.1.0 z.1.1)
-            (λ i. ((sym words i, sym (is.answer ∙ ap (λ (y : Answerer). y.m) q) i, sym (is.device ∙ ap (λ (y : Answerer). y.device) q) i, sym commands i), (sym ready i, sym (ap (λ (r : Executions). r.room) is.register) i)))
-            (answer_holds start step law s v reg.ready reg.room (found_by s b t v eb et ev) small h)
+        (λ i. ((sym words i, sym (is.answer ∙ ap (λ (y : Answerer). y.m) q) i, sym (is.device ∙ ap (λ (y : Answerer). y.device) q) i, sym commands i), (sym ready i, sym (ap (λ (r : Executions). r.room) is.register) i)))
+        (answer_holds start step law s v reg.ready reg.room (found_by s b t v eb et ev) small h)

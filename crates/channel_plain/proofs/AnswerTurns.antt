@@ -260,8 +260,8 @@ module _ (exec : Device) (w : Wiring) where
       let same : settle exec (record { m = m; device = d; done = [] }) ≡ y = ap (λ (st : AnswerStage). settle_at exec st (record { m = m; device = d; done = [] })) at in
       let next : answer_next m ≡ Execute (answer_code m) = ap (λ (st : AnswerStage). answer_next_at st m) at in
       subst (λ (t : Option AnswerOutcome). execute exec w (answer_after t m) d es ≡ record { device = (settle exec (record { m = m; device = d; done = [] })).device; executed = es ++ (settle exec (record { m = m; device = d; done = [] })).done; run = answer_after t (settle exec (record { m = m; device = d; done = [] })).m }) (sym told_none)
-          (ran_at (answer_left m) m (answer_next m) d es next wired (bytes_of (drop (heads_of (style_of m.wiring)) m.loaded)) loaded.1 (turn m loaded.0 at)
-           ∙ ap (λ (y : Answerer). record { device = y.device; executed = es ++ y.done; run = answer_left y.m }) (sym same))
+      (ran_at (answer_left m) m (answer_next m) d es next wired (bytes_of (drop (heads_of (style_of m.wiring)) m.loaded)) loaded.1 (turn m loaded.0 at)
+      ∙ ap (λ (y : Answerer). record { device = y.device; executed = es ++ y.done; run = answer_left y.m }) (sym same))
 
   -- ---- the lines of the answering side, by the channel
 
@@ -304,10 +304,10 @@ module _ (exec : Device) (w : Wiring) where
       let n : next_of (answer_left b) ≡ Some (answer_next b) = takes_next (answer_left b) (answer_next b) next tk in
       let stops : is_rest m.stage ≡ ends_run told = fed_rests b.stage b v rests runs ∙ ap ends_run (sym et) in
       let on : answer_on exec w pre v ≡ record { device = y.device; executed = exchanges_of_commands (s.executed ++ map command_of y.done); run = answer_after told y.m } =
-          ap (λ (r : Run AnswerEnd). execute exec w r s.device E) (takes_rest (answer_left b) (answer_next b) next v tk ∙ ap (λ (t : Option AnswerOutcome). answer_after t m) (sym et))
-          ∙ settled_on law turn (is_run m.stage) told m s.device E refl wired' stops (has_loaded b.stage b v m.steps runs ok rests) ok'
-          ∙ ap (λ (y : Answerer). record { device = y.device; executed = E ++ y.done; run = answer_after told y.m }) (sym ey)
-          ∙ ap (λ (l : List Exchange). record { device = y.device; executed = l; run = answer_after told y.m }) (sym (grown s.executed y.done)) in
+      ap (λ (r : Run AnswerEnd). execute exec w r s.device E) (takes_rest (answer_left b) (answer_next b) next v tk ∙ ap (λ (t : Option AnswerOutcome). answer_after t m) (sym et))
+      ∙ settled_on law turn (is_run m.stage) told m s.device E refl wired' stops (has_loaded b.stage b v m.steps runs ok rests) ok'
+      ∙ ap (λ (y : Answerer). record { device = y.device; executed = E ++ y.done; run = answer_after told y.m }) (sym ey)
+      ∙ ap (λ (l : List Exchange). record { device = y.device; executed = l; run = answer_after told y.m }) (sym (grown s.executed y.done)) in
       finish told (same ∙ stops) on n
     where
       finish : (told : Option AnswerOutcome) → is_rest y.m.stage ≡ ends_run told → answer_on exec w (record { device = s.device; executed = exchanges_of_commands s.executed; run = answer_left b }) v ≡ record { device = y.device; executed = exchanges_of_commands (s.executed ++ map command_of y.done); run = answer_after told y.m } → next_of (answer_left b) ≡ Some (answer_next b)
@@ -355,9 +355,9 @@ module _ (exec : Device) (w : Wiring) where
       go (a_resting r before) same e mw ok' rest = let b : Answer = stepping exec s in let v : ℕ = found (answer_next b) s.words in let a : Answer = s.answer in
           let eb : b ≡ answer_begun a = started_begun a.stage a r in
           step_on law turn (answer_told b v) start s side b v lines [] s.device (exchanges_of_commands s.executed) refl refl (subst AnswerOk (sym eb) (begun_ok a k.agree.1.2.answer_ok)) (ap (λ (x : Answer). is_rest x.stage) eb) (ap (λ (x : Answer). is_run x.stage) eb) (ap (λ (x : Answer). x.wiring) eb ∙ same) mw ok' (after_step exec v s) (sym e) (act (answer_next b) s.words) before
-              (ap (λ (r : Run AnswerEnd). record { device = s.device; executed = exchanges_of_commands s.executed; run = r }) (ap answer_run (sym same) ∙ (sym (table a) ∙ ap answer_left (sym eb)))) rest
+          (ap (λ (r : Run AnswerEnd). record { device = s.device; executed = exchanges_of_commands s.executed; run = r }) (ap answer_run (sym same) ∙ (sym (table a) ∙ ap answer_left (sym eb)))) rest
       go (a_running past ls d es r before walks el) same e mw ok' rest = let b : Answer = stepping exec s in let v : ℕ = found (answer_next b) s.words in let a : Answer = s.answer in let p = answer_picked exec s in
           let eb : b ≡ a = started_same a.stage a r in
           subst (λ (z : List TraceLine). AnswerTie start p.state z) (sym (ap (λ (x : List TraceLine). x ++ line_of side p ∷ []) el ∙ append_assoc past ls (line_of side p ∷ [])))
-              (step_on law turn (answer_told b v) start s side b v past ls d es refl refl (subst AnswerOk (sym eb) k.agree.1.2.answer_ok) (ap (λ (x : Answer). is_rest x.stage) eb ∙ r) (ap (λ (x : Answer). is_run x.stage) eb ∙ between_run a.stage k.agree.1.2.between) (ap (λ (x : Answer). x.wiring) eb ∙ same) mw ok' (after_step exec v s) (sym e) (act (answer_next b) s.words) before
-                  (subst (λ (x : Answer). AnswerWalks exec w (answer_from exec w d es) ls (record { device = s.device; executed = exchanges_of_commands s.executed; run = answer_left x })) (sym eb) walks) rest)
+          (step_on law turn (answer_told b v) start s side b v past ls d es refl refl (subst AnswerOk (sym eb) k.agree.1.2.answer_ok) (ap (λ (x : Answer). is_rest x.stage) eb ∙ r) (ap (λ (x : Answer). is_run x.stage) eb ∙ between_run a.stage k.agree.1.2.between) (ap (λ (x : Answer). x.wiring) eb ∙ same) mw ok' (after_step exec v s) (sym e) (act (answer_next b) s.words) before
+          (subst (λ (x : Answer). AnswerWalks exec w (answer_from exec w d es) ls (record { device = s.device; executed = exchanges_of_commands s.executed; run = answer_left x })) (sym eb) walks) rest)

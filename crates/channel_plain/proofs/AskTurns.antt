@@ -170,7 +170,7 @@ module _ (w : Wiring) (limits : Limits) (calls : List Asked) where
       let y : Calls = calls_at s s.calls.sent x.readings in let e : ℕ = earliest_call s.calls in let l : TraceLine = record { side = side; action = Rest; value = 0; end = end.TooSoon r e } in
       let same : e ≡ earliest_at w limits calls y = ap (λ (m : Limits). earliest_of m (times_of s.calls.records)) lim in
       turned w limits calls from x (end_call (take_reading y r)) (record s { calls = call_ended s.calls }) lines (l ∷ []) (lines ++ l ∷ []) (x.readings ++ r ∷ []) (ap is_rest rest) before
-          (delays x y c r l sv empty (subst (λ (n : ℕ). r < n) same (sooner r e test)) (refl, ap (λ (n : ℕ). end.TooSoon r n) same)) refl refl
+      (delays x y c r l sv empty (subst (λ (n : ℕ). r < n) same (sooner r e test)) (refl, ap (λ (n : ℕ). end.TooSoon r n) same)) refl refl
   soon_tie posts law false s side r c from x lines test rest free empty wired lim polls ok before sv =
       let e : ℕ = earliest_call s.calls in let t : PlainState = posting c r s in let a : Ask = t.ask in let v : ℕ = found (ask_next a) t.words in
       let same : e ≡ earliest_at w limits calls (calls_at t None x.readings) = ap (λ (m : Limits). earliest_of m (times_of s.calls.records)) lim in
@@ -178,7 +178,7 @@ module _ (w : Wiring) (limits : Limits) (calls : List Asked) where
       let left : posts_call w c s.ask.space ≡ ask_left a = ap (λ (w : Wiring). post_run w c.code (block_header (style_of w) w c.code (length c.bytes) ++ words_of (over s.ask.space c.bytes))) (sym wired) ∙ sym (posts s.ask c.code c.bytes) in
       let run : Running w limits calls t x [] (r ∷ []) = posts_run c r free (subst (λ (o : Option Sent). Serves w limits calls x c (calls_at s o x.readings)) empty sv) refl (subst (λ (n : ℕ). n ≤ r) same (later r e test)) left polls in
       subst (λ (rs : List ℕ). AskTie w limits calls from (ask_stepped r t).state (lines ++ line_of side (ask_stepped r t) ∷ []) rs) (append-nil (x.readings ++ r ∷ []))
-          (step_tie law t side r good refl wired from x lines [] (r ∷ []) before run)
+      (step_tie law t side r good refl wired from x lines [] (r ∷ []) before run)
 
   served_tie : PostsByTable → LooksByTable → AsksByTable → (f : Bool) (s : PlainState) (side : Side) (r : ℕ) (c : Asked) (from x : Calls) (lines : List TraceLine) → s.ask.in_flight ≡ f → s.ask.stage ≡ AskRest → AskOk s.ask → IsCarried s.ask.in_flight s.calls.sent s.ask.code s.ask.input → (f ≡ true → s.ask.looks < s.ask.budget)
       → s.ask.wiring ≡ w → s.calls.limits ≡ limits → s.ask.budget ≡ c.polls → AskOk (served f c r s).state.ask → Turns w limits calls from lines x → Serves w limits calls x c (calls_at s s.calls.sent x.readings)
@@ -187,7 +187,7 @@ module _ (w : Wiring) (limits : Limits) (calls : List Asked) where
       let t : PlainState = record s { ask = ask_looking s.ask } in let p = carried_some s.calls.sent s.ask.code s.ask.input (subst (λ (f : Bool). IsCarried f s.calls.sent s.ask.code s.ask.input) flies has) in
       let run : Running w limits calls t x [] [] = looks_run c p.0 flies sv p.1 (ap look_run (sym wired) ∙ sym (looks s.ask)) polls in
       subst (λ (rs : List ℕ). AskTie w limits calls from (ask_stepped r t).state (lines ++ line_of side (ask_stepped r t) ∷ []) (rs ++ reading_of (ask_stepped r t).reads r)) (append-nil x.readings)
-          (step_tie law t side r (looking_ok s.ask rest flies (left refl) ok) refl wired from x lines [] [] before run)
+      (step_tie law t side r (looking_ok s.ask rest flies (left refl) ok) refl wired from x lines [] [] before run)
   served_tie posts looks law false s side r c from x lines free rest ok has left wired lim polls ok' before sv =
       soon_tie posts law (ltb r (earliest_call s.calls)) s side r c from x lines refl rest free (subst (λ (f : Bool). IsCarried f s.calls.sent s.ask.code s.ask.input) free has) wired lim polls ok' before sv
 
@@ -198,7 +198,7 @@ module _ (w : Wiring) (limits : Limits) (calls : List Asked) where
       let x : Calls = calls_at s s.calls.sent rs in let l : TraceLine = record { side = side; action = Rest; value = 0; end = e } in
       let no : refusal_at w c x ≡ Some e = ap (λ (z : Wiring × ℕ). refusal_of z.0 c (length s.calls.records) z.1) (λ i. (sym wired i, in_flight_is s.ask.in_flight s.calls.sent s.ask.code s.ask.input has i)) ∙ q in
       turned w limits calls from x (end_call x) (record s { calls = call_ended s.calls }) lines (l ∷ []) (lines ++ l ∷ []) (rs ++ []) (ap is_rest rest) before (refuses x c e l idle at no (refl, refl))
-          (λ i. record (end_call x) { readings = sym (append-nil rs) i }) refl
+      (λ i. record (end_call x) { readings = sym (append-nil rs) i }) refl
   begins_tie posts looks law None s side r c from lines rs q rest ok ok1 has least wired lim idle at ok' before =
       let x : Calls = calls_at s s.calls.sent rs in let t : PlainState = record s { ask = ask_budgeted s.ask c.polls; calls = call_begun s.calls } in
       let no : refusal_at w c x ≡ None = ap (λ (z : Wiring × ℕ). refusal_of z.0 c (length s.calls.records) z.1) (λ i. (sym wired i, in_flight_is s.ask.in_flight s.calls.sent s.ask.code s.ask.input has i)) ∙ q in
@@ -216,7 +216,7 @@ module _ (w : Wiring) (limits : Limits) (calls : List Asked) where
   rest_tie posts looks law false None s side r from lines rs eb at rest ok has left serving polls wired lim ok' before = idle_tie s side from lines rs at rest before
   rest_tie posts looks law true (Some c) s side r from lines rs eb at rest ok has left serving polls wired lim ok' before = let v = serving eb in
       served_tie posts looks law s.ask.in_flight s side r c from (calls_at s s.calls.sent rs) lines refl rest ok has (λ e. subst (λ (f : Bool). LooksBegun f s.ask.looks s.ask.budget) e (left eb)) wired lim (v.polls ∙ ap (λ (c : Asked). c.polls) (same_call v.call c (sym v.at ∙ at))) ok' before
-          (goes_on (calls_at s s.calls.sent rs) c eb at)
+      (goes_on (calls_at s s.calls.sent rs) c eb at)
   rest_tie posts looks law false (Some c) s side r from lines rs eb at rest ok has left serving polls wired lim ok' before =
       begins_tie posts looks law (refusal_of s.ask.wiring c (length s.calls.records) (flying s.ask.in_flight)) s side r c from lines rs refl rest ok (budget_ok s.ask c.polls rest ok) has (polls.least s.calls.ended c at) wired lim eb at ok' before
 
@@ -229,15 +229,15 @@ module _ (w : Wiring) (limits : Limits) (calls : List Asked) where
   tie_by posts looks law true s side r from lines rs e ok has left serving polls wired lim ok' (resting n before) = let rest : s.ask.stage ≡ AskRest = rest_is s.ask.stage e in
       let same : ask_picked_at s.ask.stage calls r s ≡ from_rest s.calls.begun (slice_get calls s.calls.ended) r s = ap (λ (st : AskStage). ask_picked_at st calls r s) rest in
       subst (λ (p : Picked). AskTie w limits calls from p.state (lines ++ line_of side p ∷ []) (rs ++ reading_of p.reads r)) (sym same)
-          (rest_tie posts looks law s.calls.begun (slice_get calls s.calls.ended) s side r from lines rs refl refl rest ok (subst (λ (f : Bool). IsCarried f s.calls.sent s.ask.code s.ask.input) (ap (λ (st : AskStage). carried_at st s.ask.in_flight) rest) has)
-              (λ b. subst (λ (f : Bool). LooksBegun f s.ask.looks s.ask.budget) (both_rest (is_rest s.ask.stage) s.ask.in_flight e) (left b)) serving polls wired lim (subst (λ (p : Picked). AskOk p.state.ask) same ok') before)
+      (rest_tie posts looks law s.calls.begun (slice_get calls s.calls.ended) s side r from lines rs refl refl rest ok (subst (λ (f : Bool). IsCarried f s.calls.sent s.ask.code s.ask.input) (ap (λ (st : AskStage). carried_at st s.ask.in_flight) rest) has)
+      (λ b. subst (λ (f : Bool). LooksBegun f s.ask.looks s.ask.budget) (both_rest (is_rest s.ask.stage) s.ask.in_flight e) (left b)) serving polls wired lim (subst (λ (p : Picked). AskOk p.state.ask) same ok') before)
   tie_by posts looks law false s side r from lines rs e ok has left serving polls wired lim ok' (resting n before) = absurd (not_false (is_rest s.ask.stage) n e)
   tie_by posts looks law false s side r from lines rs e ok has left serving polls wired lim ok' (running past ls l x taken n before run el er) =
       let same : ask_picked_at s.ask.stage calls r s ≡ ask_stepped r s = runs_on s.ask.stage (λ q. not_false (is_rest s.ask.stage) (ap is_rest q) e) calls r s in let p : Picked = ask_stepped r s in
       subst (λ (p : Picked). AskTie w limits calls from p.state (lines ++ line_of side p ∷ []) (rs ++ reading_of p.reads r)) (sym same)
-          (subst (λ (z : List TraceLine × List ℕ). AskTie w limits calls from p.state z.0 z.1)
-              (λ i. (sym (ap (λ (x : List TraceLine). x ++ line_of side p ∷ []) el ∙ append_assoc past (ls ++ l ∷ []) (line_of side p ∷ [])) i, sym (ap (λ (x : List ℕ). x ++ reading_of p.reads r) er) i))
-              (step_tie law s side r ok n wired from x past (ls ++ l ∷ []) taken before run))
+      (subst (λ (z : List TraceLine × List ℕ). AskTie w limits calls from p.state z.0 z.1)
+      (λ i. (sym (ap (λ (x : List TraceLine). x ++ line_of side p ∷ []) el ∙ append_assoc past (ls ++ l ∷ []) (line_of side p ∷ [])) i, sym (ap (λ (x : List ℕ). x ++ reading_of p.reads r) er) i))
+      (step_tie law s side r ok n wired from x past (ls ++ l ∷ []) taken before run))
 
   pub pick_tie : PostsByTable → LooksByTable → AsksByTable → (exec : Device) (is_state : List ℕ → Type 0) (room_of : List ℕ → ℕ) (s : PlainState) (side : Side) (r : ℕ) (from : Calls) (lines : List TraceLine) (rs : List ℕ) → Stands exec is_state room_of s → Stands exec is_state room_of (ask_picked_at s.ask.stage calls r s).state → IsServing calls s → HavePolls calls
       → s.ask.wiring ≡ w → s.calls.limits ≡ limits → AskTie w limits calls from s lines rs → AskTie w limits calls from (ask_picked_at s.ask.stage calls r s).state (lines ++ line_of side (ask_picked_at s.ask.stage calls r s) ∷ []) (rs ++ reading_of (ask_picked_at s.ask.stage calls r s).reads r)

@@ -214,7 +214,7 @@ module _ (exec : Device) (is_state : List ℕ → Type 0) (room_of : List ℕ �
           looks = t.looks;
           own = t.own;
         },
-        record { fits = h.1.fits ∙ ap (λ (w : Wiring). w.room) (sym f.wiring); taken = λ q n. taken_on st a b told r s.calls (length s.executed) ready f h.1.taken q n }
+        record { fits = h.1.fits ∙ ap (λ (w : Wiring). w.room) (sym f.wiring); taken = λ q n. taken_on st a b told r s.calls (length s.executed) ready f h.1.taken q n },
       )
 
   -- a look begins
@@ -233,7 +233,7 @@ module _ (exec : Device) (is_state : List ℕ → Type 0) (room_of : List ℕ �
           looks = λ e. above_none a.looks a.budget left;
           own = λ q e. absurd (not_false a.in_flight flies e);
         },
-        record { fits = h.1.fits; taken = λ q n. h.1.taken (sym same ∙ q) n }
+        record { fits = h.1.fits; taken = λ q n. h.1.taken (sym same ∙ q) n },
       )
 
   -- what is asked of the calls where no run is under way
@@ -251,7 +251,7 @@ module _ (exec : Device) (is_state : List ℕ → Type 0) (room_of : List ℕ �
       looks = λ e. polled (both (is_rest a.stage) a.in_flight) polls (begins e).1;
       own = λ q e. subst (λ (z : Option Sent). owns z ≡ true) (sym sent) (k.own q e);
     },
-    record { fits = h.1.fits; taken = λ q n. h.1.taken q (n ∙ ap (λ (l : List Record). length l) rs) }
+    record { fits = h.1.fits; taken = λ q n. h.1.taken q (n ∙ ap (λ (l : List Record). length l) rs) },
   )
     where
       polled : (w : Bool) (p : ℕ) → 0 < p → LooksBegun w 0 p
@@ -269,7 +269,7 @@ module _ (exec : Device) (is_state : List ℕ → Type 0) (room_of : List ℕ �
       looks = λ e. absurd (not_false false (begins e).0 refl);
       own = λ q e. subst (λ (z : Option Sent). owns z ≡ true) (sym sent) (k.own q e);
     },
-    record { fits = h.1.fits; taken = λ q n. h.1.taken q (n ∙ ap (λ (l : List Record). length l) rs) }
+    record { fits = h.1.fits; taken = λ q n. h.1.taken q (n ∙ ap (λ (l : List Record). length l) rs) },
   )
 
   -- a post begins, of a machine whose looks are counted
@@ -287,7 +287,7 @@ module _ (exec : Device) (is_state : List ℕ → Type 0) (room_of : List ℕ �
       looks = λ e. least;
       own = λ q e. refl;
     },
-    record { fits = h.1.fits; taken = λ q n. refl }
+    record { fits = h.1.fits; taken = λ q n. refl },
   )
 
 -- ---- in the words of the code
@@ -310,6 +310,7 @@ whole n t new now items e q l = let same : new ≡ act t items = e ∙ ap (act t
   where
     same_least : (k : ℕ) → k ≤ k
     same_least k = omega arith
+
     below_long : (n k : ℕ) → n ≡ k → k ≤ n
     below_long n k e = omega (arith, e)
 

@@ -57,9 +57,10 @@ soon_reads begins polls c r s e = ap (λ (p : Picked). p.reads) (by_test true be
 pub soon_pick : (begins : Bool) (polls : ℕ) (c : Asked) (r : ℕ) (s s' : PlainState) (k : CallBook) (e : TraceEnd) (pick : Pick) → Soon (ltb r (earliest_call s.calls)) r s.calls k e → s' ≡ record s { ask = budget_by begins polls s.ask; calls = k } → pick ≡ record { action = Rest; value = 0; end = e }
     → IsPick (served false c r (begun_with begins polls s)) s' pick
 soon_pick begins polls c r s s' k e pick soon is q = let t = begun_with begins polls s in
-    subst (λ (p : Picked). IsPick p s' pick) (sym (by_test true begins polls c r s soon.test))
-        (is ∙ ap (λ (x : CallBook). record s { ask = budget_by begins polls s.ask; calls = x }) (soon.calls ∙ sym (ended_same begins s.calls)),
-         q ∙ ap (λ (x : TraceEnd). record { action = Rest; value = 0; end = x }) (soon.end ∙ ap (λ (n : ℕ). end.TooSoon r n) (sym (earliest_same begins s.calls))))
+    subst (λ (p : Picked). IsPick p s' pick) (sym (by_test true begins polls c r s soon.test)) (
+      is ∙ ap (λ (x : CallBook). record s { ask = budget_by begins polls s.ask; calls = x }) (soon.calls ∙ sym (ended_same begins s.calls)),
+      q ∙ ap (λ (x : TraceEnd). record { action = Rest; value = 0; end = x }) (soon.end ∙ ap (λ (n : ℕ). end.TooSoon r n) (sym (earliest_same begins s.calls))),
+    )
 
 pub post_reads : (begins : Bool) (polls : ℕ) (c : Asked) (r : ℕ) (s : PlainState) → ltb r (earliest_call s.calls) ≡ false → (served false c r (begun_with begins polls s)).reads ≡ true
 post_reads begins polls c r s e = ap (λ (p : Picked). p.reads) (by_test false begins polls c r s e)
@@ -77,4 +78,4 @@ post_pick begins polls c r q s t s' k a pick test ek ea et h p =
     let u : PlainState = posting c r (begun_with begins polls s) in
     let same : t ≡ u = et ∙ ap (λ (z : Ask × CallBook). record s { ask = z.0; calls = z.1 }) (λ i. (ea i, (ek ∙ ap (λ (z : List ℕ × CallBook). call_posted c z.0 r z.1) (λ j. (sym (space_same begins polls s.ask) j, sym (begun_same begins s.calls h) j))) i)) in
     subst (λ (z : Picked). IsPick z s' pick) (sym (by_test false begins polls c r s test))
-        (subst (λ (z : Picked). IsPick z s' pick) (other_reading u q r (budget_by begins polls s.ask) c.code c.bytes refl) (subst (λ (z : PlainState). IsPick (ask_stepped q z) s' pick) same p))
+    (subst (λ (z : Picked). IsPick z s' pick) (other_reading u q r (budget_by begins polls s.ask) c.code c.bytes refl) (subst (λ (z : PlainState). IsPick (ask_stepped q z) s' pick) same p))

@@ -50,13 +50,13 @@ told_serving : (told : Option AskOutcome) (st : AskStage) (calls : List Asked) (
 told_serving None st calls a b r c f own h begun = serving_as calls a.wiring b.wiring a.budget b.budget (length c.records) (length c.records) (flying a.in_flight) (flying b.in_flight) c f.wiring f.budget refl (ap flying f.flies) (h begun)
 told_serving (Some Posted) st calls a b r c f own h begun = let v = h begun in
     serving_as calls a.wiring b.wiring a.budget b.budget (length c.records) (length c.records) (flying b.in_flight) (flying b.in_flight) c f.wiring f.budget refl refl
-        (record { call = v.call; at = v.at; code = v.code; fits = v.fits; polls = v.polls; room = λ e. absurd (not_false (owns c.sent) (own f.sure.0 f.sure.1) e) })
+    (record { call = v.call; at = v.at; code = v.code; fits = v.fits; polls = v.polls; room = λ e. absurd (not_false (owns c.sent) (own f.sure.0 f.sure.1) e) })
 told_serving (Some Clear) st calls a b r c f own h begun = clears (nat_eq b.looks b.budget) calls a.wiring b.wiring a.budget b.budget (flying a.in_flight) (flying b.in_flight) b.looks c f.wiring f.budget (ap flying f.flies) h begun
 told_serving (Some (Drained e)) st calls a b r c f own h begun = let d : CallBook = record c { records = c.records ++ recorded c.sent e b.space r; sent = None } in let l : Bool = is_late c.sent in
     serving_as calls b.wiring b.wiring b.budget b.budget (length d.records) (length (drained_calls l d).records) 0 (flying b.in_flight) (drained_calls l d) refl refl (ap (λ (x : List Record). length x) (lates l d)) (ap flying f.flies)
-        (late_on l calls b.wiring b.budget 0 c d (length d.records) refl refl (λ late begun. let v = h begun in
-            serving_as calls a.wiring b.wiring a.budget b.budget (length d.records) (length d.records) 0 0 d f.wiring f.budget refl refl
-                (record { call = v.call; at = v.at; code = v.code; fits = v.fits; polls = v.polls; room = λ q. late_room c.sent c.records e b.space r late (λ o. subst (λ (x : Bool). length c.records + flying x < 4096) f.sure.1 (v.room o)) })) begun)
+    (late_on l calls b.wiring b.budget 0 c d (length d.records) refl refl (λ late begun. let v = h begun in
+    serving_as calls a.wiring b.wiring a.budget b.budget (length d.records) (length d.records) 0 0 d f.wiring f.budget refl refl
+    (record { call = v.call; at = v.at; code = v.code; fits = v.fits; polls = v.polls; room = λ q. late_room c.sent c.records e b.space r late (λ o. subst (λ (x : Bool). length c.records + flying x < 4096) f.sure.1 (v.room o)) })) begun)
 
 step_serving : (calls : List Asked) (r : ℕ) (s : PlainState) → is_rest s.ask.stage ≡ false → Flies s.ask.stage s.ask.in_flight → (carried s.ask ≡ true → s.ask.in_flight ≡ false → owns s.calls.sent ≡ true) → IsServing calls s → IsServing calls (ask_stepped r s).state
 step_serving calls r s runs flies own h = let a : Ask = s.ask in let v : ℕ = found (ask_next a) s.words in let z : Ask = ask_fed_at a.stage a v in let b : Ask = ask_fed a v in
@@ -87,6 +87,7 @@ passes_by false false false w c n e f g le h = record { code = e; fits = not_abo
   where
     not_above : (x y : ℕ) → ltb x y ≡ false → y ≤ x
     not_above x y h = grind (arith, nat_tests)
+
     not_most : (n : ℕ) → n ≤ 4096 → (n == 4096) ≡ false → n < 4096
     not_most n le h = grind (arith, nat_tests)
 

@@ -163,14 +163,14 @@ module _ {K : Type 0} (taken : K → ℕ) (tells : K → ℕ → Option ℕ) (ex
   both_more : PostsByTable → LooksByTable → AsksByTable → AnswersByTable → AnswerStepsByTable → ExecutesByTable → HavePolls calls → (b : Bool) (w : Wiring) (limits : Limits) (start : List ℕ) (from : Calls) (side : Side) (r : ℕ) (t : PlainState) (asked answered : List TraceLine) (rs : List ℕ) → t.ask.wiring ≡ w → t.calls.limits ≡ limits
       → Stands exec is_state room_of t → Stands exec is_state room_of (picked_by exec b calls r t).state → IsServing calls t → AskTie w limits calls from t asked rs → AnswerTie exec w start t answered
       → AskTie w limits calls from (picked_by exec b calls r t).state (asked ++ kept_by b (line_of side (picked_by exec b calls r t))) (rs ++ reading_of (picked_by exec b calls r t).reads r)
-        × AnswerTie exec w start (picked_by exec b calls r t).state (answered ++ kept_by (not b) (line_of side (picked_by exec b calls r t)))
+      × AnswerTie exec w start (picked_by exec b calls r t).state (answered ++ kept_by (not b) (line_of side (picked_by exec b calls r t)))
   both_more posts looks asks table law turn polls true w limits start from side r t asked answered rs wired lim k k' serving ask answer = let p : Picked = ask_picked_at t.ask.stage calls r t in let h = asks_kept exec is_state room_of calls t r k in (
     pick_tie w limits calls posts looks asks exec is_state room_of t side r from asked rs k k' serving polls wired lim ask,
-    subst (λ (z : PlainState × List TraceLine). AnswerTie exec w start z.0 z.1) (λ i. (sym h.rest i, sym (append-nil answered) i)) (answer_beside exec w start t p.state.words p.state.ask p.state.calls answered answer)
+    subst (λ (z : PlainState × List TraceLine). AnswerTie exec w start z.0 z.1) (λ i. (sym h.rest i, sym (append-nil answered) i)) (answer_beside exec w start t p.state.words p.state.ask p.state.calls answered answer),
   )
   both_more posts looks asks table law turn polls false w limits start from side r t asked answered rs wired lim k k' serving ask answer = let p : Picked = answer_picked exec t in (
     subst (λ (z : List TraceLine × List ℕ). AskTie w limits calls from p.state z.0 z.1) (λ i. (sym (append-nil asked) i, sym (append-nil rs) i)) (ask_beside w limits calls from t p.state.words p.state.answer p.state.device p.state.executed asked rs ask),
-    answer_tie exec w table law turn is_state room_of start t side answered k k' wired answer
+    answer_tie exec w table law turn is_state room_of start t side answered k k' wired answer,
   )
 
   tied : PostsByTable → LooksByTable → AsksByTable → AnswersByTable → AnswerStepsByTable → ExecutesByTable → HavePolls calls → (s : PlainState) (k : K) (sides : List Side) (trace : List TraceLine) (rs : List ℕ) (t : PlainState) (m : K) → IsFresh s → Wove taken tells exec calls is_state room_of s k sides trace rs t m → Tied s k sides trace rs t m
@@ -212,5 +212,5 @@ module _ {K : Type 0} (taken : K → ℕ) (tells : K → ℕ → Option ℕ) (ex
       words = subst (λ (ws : List ℕ). Remembers ws trace) new.words h.words;
       asking = asking_of w s.calls.limits calls (opening_of w) t (filter (asked_line w.kind) trace) rs has h.ask;
       answering = answering_of exec w s.start t (filter (answered_line w.kind) trace) h.answer;
-    }
+    },
   )

@@ -88,14 +88,14 @@ module _ (w : Wiring) (limits : Limits) (calls : List Asked) where
       let l : TraceLine = record { side = side; action = action; value = v; end = end.Open } in let t : PlainState = record s { words = ws; ask = b } in
       let same : calls_at s None x.readings ≡ calls_at t None x.readings = λ i. record (calls_at s None x.readings) { looks = sym f.looks i; space = sym f.space i } in
       running past ls l x (q ∷ []) f.rests before
-          (posts_run c q (f.flies ∙ free) (subst (λ (z : Calls). Serves w limits calls x c z) same sv) (sent ∙ ap (λ (o : List ℕ). Some (sent_by c o q)) (sym f.space)) (subst (λ (z : Calls). earliest_at w limits calls z ≤ q) same le)
-              (subst (λ (o : List ℕ). Walks (posts_call w c o) (ls ++ l ∷ []) (ask_left b)) (sym f.space) (walks_to (posts_call w c s.ask.space) (rest_of (ask_left s.ask) v) (ask_left b) (ls ++ l ∷ []) rest (walks_more (posts_call w c s.ask.space) (ask_left s.ask) ls l walks next refl))) (f.budget ∙ polls))
-          refl (append-nil (x.readings ++ q ∷ []))
+      (posts_run c q (f.flies ∙ free) (subst (λ (z : Calls). Serves w limits calls x c z) same sv) (sent ∙ ap (λ (o : List ℕ). Some (sent_by c o q)) (sym f.space)) (subst (λ (z : Calls). earliest_at w limits calls z ≤ q) same le)
+      (subst (λ (o : List ℕ). Walks (posts_call w c o) (ls ++ l ∷ []) (ask_left b)) (sym f.space) (walks_to (posts_call w c s.ask.space) (rest_of (ask_left s.ask) v) (ask_left b) (ls ++ l ∷ []) rest (walks_more (posts_call w c s.ask.space) (ask_left s.ask) ls l walks next refl))) (f.budget ∙ polls))
+      refl (append-nil (x.readings ++ q ∷ []))
   post_turn (Some Posted) st s b ws side action v r f next rest from x past ls c q before free sv sent le walks polls =
       let l : TraceLine = record { side = side; action = action; value = v; end = end.Posted } in let t : PlainState = record s { words = ws; ask = b } in let y : Calls = calls_at s None x.readings in
       turned from x (record (take_reading y q) { sent = Some (sent_by c y.space q); looks = 0 }) t past (ls ++ l ∷ []) (past ++ (ls ++ l ∷ [])) ((x.readings ++ q ∷ []) ++ []) f.rests before
-          (sends x y c q ls l sv refl le (record { rest = ask_left s.ask; walks = walks; last = next; ends = rest }) refl)
-          (λ i. record { ended = s.calls.ended; begun = s.calls.begun; looks = sym f.looks i; sent = sym sent i; space = sym f.space i; records = s.calls.records; readings = sym (append-nil (x.readings ++ q ∷ [])) i }) refl
+      (sends x y c q ls l sv refl le (record { rest = ask_left s.ask; walks = walks; last = next; ends = rest }) refl)
+      (λ i. record { ended = s.calls.ended; begun = s.calls.begun; looks = sym f.looks i; sent = sym sent i; space = sym f.space i; records = s.calls.records; readings = sym (append-nil (x.readings ++ q ∷ [])) i }) refl
   post_turn (Some Clear) st s b ws side action v r f next rest from x past ls c q before free sv sent le walks polls = absurd (not_false s.ask.in_flight f.sure.1 free)
   post_turn (Some (Drained e)) st s b ws side action v r f next rest from x past ls c q before free sv sent le walks polls = absurd (not_false s.ask.in_flight f.sure.1 free)
 
@@ -106,14 +106,14 @@ module _ (w : Wiring) (limits : Limits) (calls : List Asked) where
   clear_turn false st s b ws side action v r p k ek test left f next rest from x past ls c before sv walks polls =
       let l : TraceLine = record { side = side; action = action; value = v; end = end.Clear b.looks } in let t : PlainState = record s { words = ws; ask = b; calls = record k { sent = Some p } } in let y : Calls = calls_at s (Some p) x.readings in
       turned from x (record y { looks = y.looks + 1 }) t past (ls ++ l ∷ []) (past ++ (ls ++ l ∷ [])) ((x.readings ++ []) ++ []) f.rests before
-          (looks_on x y c p ls l sv refl (subst (λ (z : ℕ × ℕ). z.0 < z.1) (λ i. (f.looks i, (f.budget ∙ polls) i)) (below b.looks b.budget left test)) (record { rest = ask_left s.ask; walks = walks; last = next; ends = rest }) (ap (λ (n : ℕ). end.Clear n) f.looks))
-          (λ i. record { ended = (ek i).ended; begun = (ek i).begun; looks = sym f.looks i; sent = Some p; space = sym f.space i; records = (ek i).records; readings = (sym (append-nil x.readings) ∙ sym (append-nil (x.readings ++ []))) i }) refl
+      (looks_on x y c p ls l sv refl (subst (λ (z : ℕ × ℕ). z.0 < z.1) (λ i. (f.looks i, (f.budget ∙ polls) i)) (below b.looks b.budget left test)) (record { rest = ask_left s.ask; walks = walks; last = next; ends = rest }) (ap (λ (n : ℕ). end.Clear n) f.looks))
+      (λ i. record { ended = (ek i).ended; begun = (ek i).begun; looks = sym f.looks i; sent = Some p; space = sym f.space i; records = (ek i).records; readings = (sym (append-nil x.readings) ∙ sym (append-nil (x.readings ++ []))) i }) refl
   clear_turn true st s b ws side action v r p k ek test left f next rest from x past ls c before sv walks polls =
       let l : TraceLine = record { side = side; action = action; value = v; end = given_up_end p.late b.looks } in let t : PlainState = record s { words = ws; ask = b; calls = call_ended (record k { sent = Some (record p { late = true }) }) } in let y : Calls = calls_at s (Some p) x.readings in
       let full : y.looks + 1 ≡ c.polls = sym f.looks ∙ (level b.looks b.budget test ∙ (f.budget ∙ polls)) in
       turned from x (end_call (record y { looks = y.looks + 1; sent = Some (record p { late = true }) })) t past (ls ++ l ∷ []) (past ++ (ls ++ l ∷ [])) ((x.readings ++ []) ++ []) f.rests before
-          (gives_up x y c p ls l sv refl full (record { rest = ask_left s.ask; walks = walks; last = next; ends = rest }) (ap (λ (n : ℕ). given_up_end p.late n) (f.looks ∙ full)))
-          (λ i. record { ended = (ek i).ended + 1; begun = false; looks = sym f.looks i; sent = Some (record p { late = true }); space = sym f.space i; records = (ek i).records; readings = (sym (append-nil x.readings) ∙ sym (append-nil (x.readings ++ []))) i }) refl
+      (gives_up x y c p ls l sv refl full (record { rest = ask_left s.ask; walks = walks; last = next; ends = rest }) (ap (λ (n : ℕ). given_up_end p.late n) (f.looks ∙ full)))
+      (λ i. record { ended = (ek i).ended + 1; begun = false; looks = sym f.looks i; sent = Some (record p { late = true }); space = sym f.space i; records = (ek i).records; readings = (sym (append-nil x.readings) ∙ sym (append-nil (x.readings ++ []))) i }) refl
 
   -- a look that took the reply
   goes_on_at : (late : Bool) (y : Calls) (k : CallBook) (b : Ask) (rs : List ℕ) (s : PlainState) → y ≡ record { ended = k.ended; begun = k.begun; looks = b.looks; sent = None; space = b.space; records = k.records; readings = rs } → k.sent ≡ None → goes_on_if late y ≡ calls_at (record s { ask = b; calls = drained_calls late k }) (drained_calls late k).sent rs
@@ -128,9 +128,9 @@ module _ (w : Wiring) (limits : Limits) (calls : List Asked) where
       let d : CallBook = record k { records = k.records ++ record_of p e b.space r ∷ []; sent = None } in let t : PlainState = record s { words = ws; ask = b; calls = drained_calls p.late d } in
       let out : replied w b.shown ≡ b.space = ap (λ (w : Wiring). replied w b.shown) (sym wired) ∙ sym f.space in
       turned from x (goes_on_if p.late (record (take_reading y r) { sent = None; space = replied w b.shown; records = y.records ++ record_of p e (replied w b.shown) r ∷ [] })) t past (ls ++ l ∷ []) (past ++ (ls ++ l ∷ [])) ((x.readings ++ []) ++ r ∷ []) f.rests before
-          (takes x y c p r e b.shown ls l sv refl (record { rest = ask_left s.ask; walks = walks; last = next; ends = rest }) refl)
-          (goes_on_at p.late (record (take_reading y r) { sent = None; space = replied w b.shown; records = y.records ++ record_of p e (replied w b.shown) r ∷ [] }) d b ((x.readings ++ []) ++ r ∷ []) (record s { words = ws })
-              (λ i. record { ended = (ek i).ended; begun = (ek i).begun; looks = sym f.looks i; sent = None; space = out i; records = (ek i).records ++ record_of p e (out i) r ∷ []; readings = sym (append-nil x.readings) i ++ r ∷ [] }) refl) refl
+      (takes x y c p r e b.shown ls l sv refl (record { rest = ask_left s.ask; walks = walks; last = next; ends = rest }) refl)
+      (goes_on_at p.late (record (take_reading y r) { sent = None; space = replied w b.shown; records = y.records ++ record_of p e (replied w b.shown) r ∷ [] }) d b ((x.readings ++ []) ++ r ∷ []) (record s { words = ws })
+      (λ i. record { ended = (ek i).ended; begun = (ek i).begun; looks = sym f.looks i; sent = None; space = out i; records = (ek i).records ++ record_of p e (out i) r ∷ []; readings = sym (append-nil x.readings) i ++ r ∷ [] }) refl) refl
 
   -- the step of a look
   look_turn : (told : Option AskOutcome) (st : AskStage) (s : PlainState) (b : Ask) (ws : List ℕ) (side : Side) (action : Action) (v r : ℕ) (p : Sent) (k : CallBook) → s.calls ≡ record k { sent = Some p } → Fed st s.ask b told → b.looks ≤ b.budget → b.wiring ≡ w → next_of (ask_left s.ask) ≡ Some action → rest_of (ask_left s.ask) v ≡ ask_after told b
@@ -140,9 +140,9 @@ module _ (w : Wiring) (limits : Limits) (calls : List Asked) where
       let l : TraceLine = record { side = side; action = action; value = v; end = end.Open } in let t : PlainState = record s { words = ws; ask = b; calls = record k { sent = Some p } } in
       let same : calls_at s (Some p) x.readings ≡ calls_at t (Some p) x.readings = λ i. record { ended = (ek i).ended; begun = (ek i).begun; looks = sym f.looks i; sent = Some p; space = sym f.space i; records = (ek i).records; readings = x.readings } in
       running past ls l x [] f.rests before
-          (looks_run c p (f.flies ∙ flies) (subst (λ (z : Calls). Serves w limits calls x c z) same sv) refl
-              (walks_to (look_run w) (rest_of (ask_left s.ask) v) (ask_left b) (ls ++ l ∷ []) rest (walks_more (look_run w) (ask_left s.ask) ls l walks next refl)) (f.budget ∙ polls))
-          refl (append-nil (x.readings ++ []))
+      (looks_run c p (f.flies ∙ flies) (subst (λ (z : Calls). Serves w limits calls x c z) same sv) refl
+      (walks_to (look_run w) (rest_of (ask_left s.ask) v) (ask_left b) (ls ++ l ∷ []) rest (walks_more (look_run w) (ask_left s.ask) ls l walks next refl)) (f.budget ∙ polls))
+      refl (append-nil (x.readings ++ []))
   look_turn (Some Posted) st s b ws side action v r p k ek f left wired next rest from x past ls c before flies sv walks polls = absurd (not_false s.ask.in_flight flies f.sure.1)
   look_turn (Some Clear) st s b ws side action v r p k ek f left wired next rest from x past ls c before flies sv walks polls = clear_turn (nat_eq b.looks b.budget) st s b ws side action v r p k ek refl left f next rest from x past ls c before sv walks polls
   look_turn (Some (Drained e)) st s b ws side action v r p k ek f left wired next rest from x past ls c before flies sv walks polls = drain_turn st s b ws side action v r e p k ek f wired next rest from x past ls c before sv walks
@@ -155,4 +155,4 @@ module _ (w : Wiring) (limits : Limits) (calls : List Asked) where
   run_turn told st s b ws side action v r f left wired next rest from x past ls taken before (looks_run c p flies sv sent walks polls) =
       let ek : s.calls ≡ record s.calls { sent = Some p } = ap (λ (o : Option Sent). record s.calls { sent = o }) sent in
       subst (λ (k : CallBook). AskTie from (record s { words = ws; ask = b; calls = (ask_ended told r b k).calls }) (past ++ (ls ++ record { side = side; action = action; value = v; end = (ask_ended told r b k).end } ∷ [])) ((x.readings ++ []) ++ reading_of (takes_reading told) r)) (sym ek)
-          (look_turn told st s b ws side action v r p s.calls ek f left wired next rest from x past ls c before flies (subst (λ (o : Option Sent). Serves w limits calls x c (calls_at s o x.readings)) sent sv) walks polls)
+      (look_turn told st s b ws side action v r p s.calls ek f left wired next rest from x past ls c before flies (subst (λ (o : Option Sent). Serves w limits calls x c (calls_at s o x.readings)) sent sv) walks polls)

@@ -145,7 +145,7 @@ pub fn weave<E: Executor, K: Clock>(
     requires polls { HavePolls calls.now }
     ensures run { IfOk result (λ trace. (readings : List ℕ) × Readings K.taken K.tells plain.old.clock readings plain.new.clock × (length readings ≤ length picks.now)
         × WordRun E.exec_of plain.old.ends.ask.wiring plain.old.ends.calls.limits plain.old.ends.start (opening_of plain.old.ends.ask.wiring) calls.now picks.now trace readings
-            plain.new.ends.calls.records (flown plain.new.ends.ask.in_flight plain.new.ends.calls.sent) (exchanges_of_commands plain.new.ends.executed)) }
+        plain.new.ends.calls.records (flown plain.new.ends.ask.in_flight plain.new.ends.calls.sent) (exchanges_of_commands plain.new.ends.executed)) }
     ensures good { IsGood E.exec_of plain.new.ends }
     ensures stays { IfOk result (λ _. Stays plain.old.ends plain.new.ends) }
 {

@@ -71,7 +71,11 @@ pub fn is_served(subspace: &Subspace) -> bool
 fn cut(width: u8, mask: u64) -> u64
     ensures { result ≡ cut width mask }
 {
-    if width < 64 { mask % (1 << width) } else { mask }
+    if width < 64 {
+        mask % (1 << width)
+    } else {
+        mask
+    }
 }
 
 fn masks(gas: Gas, preserve: u64, set: u64) -> Masks
