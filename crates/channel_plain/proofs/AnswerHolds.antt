@@ -1,23 +1,22 @@
 -- What a pick of the answering side keeps.
-use Rattle.std.proofs.Common.{◌≡◌, ◌≢◌, ◌⊎◌, inl, inr, ℕ, suc, ◌+◌, ◌^◌, ◌<◌, ◌≤◌, Bool, true, false, List, [], ◌∷◌, ◌++◌, length, map, refl, sym, ap, ◌∙◌, subst, arith, length-append}
+use Rattle.std.proofs.Common.{◌≡◌, ◌⊎◌, inl, inr, ℕ, suc, ◌+◌, ◌^◌, ◌<◌, ◌≤◌, Bool, true, false, List, [], ◌∷◌, ◌++◌, length, map, refl, sym, ap, ◌∙◌, subst, arith, length-append}
 use Rattle.std.proofs.lemmas.List.{map-append, append-nil}
 use Rattle.pcc_history.specs.Devices.{Device}
 use Rattle.pcc_history.specs.Channel.{Exchange}
 use Rattle.pcc_journal.specs.declared.command.Command.{Command}
 use Rattle.pcc_journal.specs.declared.record.Record.{Record}
 use Rattle.pcc_journal.specs.Records.{exchanges_of, exchanges_of_commands, exchange_of_command}
-use Rattle.pcc_steps.specs.declared.wiring.Wiring.{Wiring}
 use Rattle.pcc_steps.specs.declared.wiring.Action.{Action}
 use Rattle.pcc_steps.specs.declared.ask.AskStage.{AskStage}
 use Rattle.pcc_steps.specs.declared.ask.AskStage.TheVariants.{AskRest, PostBlock, PostHeader, PostUpdateLoad, PostUpdateStore, PostMarkLoad, PostMarkStore, PostBellLoad, PostBellStore, PostLine, LookWord, LookError, LookBlock, LookLine, LookLineStore, LookAckLoad, LookAckStore}
 use Rattle.pcc_steps.specs.declared.answer.AnswerStage.{AnswerStage}
 use Rattle.pcc_steps.specs.declared.answer.AnswerStage.TheVariants.{AnswerRest, TakeLine, TakeAckLoad, TakeAckStore, TakeHeader, TakeBlock, RunDevice, ReplyBlock, ReplyError, ReplyHeader, ReplyUpdateLoad, ReplyUpdateStore, ReplyMarkLoad, ReplyMarkStore, CloseBellLoad, CloseBellStore, CloseLine}
 use Rattle.pcc_steps.specs.Asking.{Ask, Flies}
-use Rattle.pcc_steps.specs.Answering.{Answer, answer_next, answer_fed, answer_fed_at, answer_begun}
-use Rattle.pcc_steps.specs.Agree.{act, Finds, Core, Asker, Answerer, Agree, Pose, Turn, Fits, resting, pose_at, turn, settle, settle_at, answerer_fed, answerer_stepped}
+use Rattle.pcc_steps.specs.Answering.{Answer, answer_next, answer_fed, answer_fed_at}
+use Rattle.pcc_steps.specs.Agree.{act, Finds, Core, Asker, Answerer, Agree, Turn, Fits, resting, pose_at, turn, settle, settle_at, answerer_fed, answerer_stepped}
 use Rattle.pcc_steps.specs.Laws.{AnswerBeginAgrees, AnswerStepAgrees, DeviceStays, HistoriesAgree}
 use Rattle.channel_plain.specs.Picks.{PlainState, found, started_at, command_of}
-use Rattle.channel_plain.specs.Standing.{asker_of, answerer_of, carried, carried_at, Stands, IsReady, Holds}
+use Rattle.channel_plain.specs.Standing.{asker_of, answerer_of, carried, carried_at, Stands, Holds}
 use Rattle.channel_plain.specs.Holding.{Executions}
 use Rattle.channel_plain.specs.Steps.{IsSettled, SettlesIf, ready_after}
 use Rattle.channel_plain.proofs.Keeps.{long_act, finds_found}

@@ -1,18 +1,17 @@
 -- A pick of the answering side adds a step to the runs of a trace.
-use Rattle.std.proofs.Common.{◌≡◌, ◌≢◌, ℕ, suc, ◌+◌, ◌*◌, ◌/◌, ◌%◌, ◌-◌, ◌^◌, ◌<◌, ◌≤◌, Bool, true, false, eqb, List, [], ◌∷◌, ◌++◌, length, drop, set, map, refl, sym, ap, ◌∙◌, subst, arith, length-set, length-drop}
+use Rattle.std.proofs.Common.{◌≡◌, ℕ, ◌+◌, ◌/◌, ◌%◌, Bool, true, false, eqb, List, [], ◌∷◌, ◌++◌, length, drop, set, map, refl, sym, ap, ◌∙◌, subst, arith, length-set, length-drop}
 use Rattle.std.specs.Prelude.{Option, Some, None}
 use Rattle.std.proofs.lemmas.List.{append-nil, append_assoc}
 use Rattle.pcc_history.specs.Devices.{Device, Executed}
 use Rattle.pcc_history.specs.Channel.{Exchange, exchange_of}
 use Rattle.pcc_journal.specs.Records.{exchanges_of_commands}
-use Rattle.pcc_journal.specs.declared.command.Command.{Command}
-use Rattle.shmem_header.specs.Spelling.{words_of, bytes_of}
+use Rattle.shmem_header.specs.Spelling.{bytes_of}
 use Rattle.shmem_header.proofs.Places.{length-bytes_of}
 use Rattle.pcc_steps.specs.declared.wiring.Wiring.{Wiring}
 use Rattle.pcc_steps.specs.declared.wiring.Style.{Style}
 use Rattle.pcc_steps.specs.declared.wiring.Style.TheVariants.{Headed, Joined3, Separate3, Joined4, Separate4, Reduced5}
 use Rattle.pcc_steps.specs.declared.wiring.Action.{Action}
-use Rattle.pcc_steps.specs.declared.wiring.Action.TheVariants.{Load, Store, Swap, Execute, Rest}
+use Rattle.pcc_steps.specs.declared.wiring.Action.TheVariants.{Execute}
 use Rattle.pcc_steps.specs.declared.answer.AnswerStage.{AnswerStage}
 use Rattle.pcc_steps.specs.declared.answer.AnswerStage.TheVariants.{AnswerRest, TakeLine, TakeAckLoad, TakeAckStore, TakeHeader, TakeBlock, RunDevice, ReplyBlock, ReplyError, ReplyHeader, ReplyUpdateLoad, ReplyUpdateStore, ReplyMarkLoad, ReplyMarkStore, CloseBellLoad, CloseBellStore, CloseLine}
 use Rattle.pcc_steps.specs.declared.answer.AnswerOutcome.{AnswerOutcome}
@@ -21,16 +20,15 @@ use Rattle.pcc_steps.specs.Wires.{style_of, heads_of, block_of, tells_error, fou
 use Rattle.pcc_steps.specs.Runs.{Run, ends, loads, stores, swaps, executes, AnswerEnd, finds_none, serves, answer_run}
 use Rattle.pcc_steps.specs.Walk.{Takes, Gives, answer_left, answer_after}
 use Rattle.pcc_steps.specs.Asking.{has_more}
-use Rattle.pcc_steps.specs.Answering.{Answer, AnswerOk, AnswerSized, IsAnswerStepping, answer_code, answer_next, answer_next_at, answer_fed, answer_fed_at, answer_told, answer_told_at, answer_begun, after_ack, after_take, after_error, after_reply, after_close, after_done, after_update, done_stage, asks_notify, served_at, take_on, take_told, load_on, reply_on, ran_with}
-use Rattle.pcc_steps.specs.Agree.{act, Answerer, IsBetween, settle, settle_at, executed, answerer_stepped}
+use Rattle.pcc_steps.specs.Answering.{Answer, AnswerOk, answer_code, answer_next, answer_next_at, answer_fed, answer_fed_at, answer_told, answer_told_at, answer_begun, after_ack, after_take, after_error, after_reply, after_close, after_done, after_update, done_stage, asks_notify, served_at, take_on, take_told, load_on, reply_on, ran_with}
+use Rattle.pcc_steps.specs.Agree.{act, Answerer, IsBetween, settle, settle_at, executed}
 use Rattle.pcc_steps.specs.Laws.{AnswersByTable, AnswerStepsByTable, ExecutesByTable}
 use Rattle.channel_plain.specs.declared.trace.Side.{Side}
-use Rattle.channel_plain.specs.declared.trace.TraceEnd.{TraceEnd}
 use Rattle.channel_plain.specs.declared.trace.TraceEnd.TheVariants as end
 use Rattle.channel_plain.specs.declared.trace.TraceLine.{TraceLine}
 use Rattle.channel_plain.specs.Picks.{PlainState, found, started_at, command_of, answer_end, answer_picked, line_of}
 use Rattle.channel_plain.specs.Standing.{Stands}
-use Rattle.channel_plain.specs.WordRuns.{Answered, Answers, more, AnswerWalks, answer_from, answer_on, answered_end, execute, next_of, rest_of}
+use Rattle.channel_plain.specs.WordRuns.{Answered, Answers, more, AnswerWalks, answer_from, answer_on, execute, next_of}
 use Rattle.channel_plain.proofs.WordSteps.{not_false, takes_next, takes_rest}
 use Rattle.channel_plain.proofs.AnswerHolds.{stepping, after_step, fed_wiring, grown, same_settle}
 

@@ -1,5 +1,5 @@
 -- A pick of the asking side, by the run that is under way and by the call that is served.
-use Rattle.std.proofs.Common.{◌≡◌, ◌≢◌, ℕ, ◌+◌, ◌<◌, ◌≤◌, ◌^◌, Bool, true, false, cond, eqb, ltb, if◌then◌else◌, ◌==◌, List, length, refl, sym, ap, ◌∙◌, subst, arith}
+use Rattle.std.proofs.Common.{◌≡◌, ℕ, ◌<◌, ◌^◌, Bool, true, false, ltb, if◌then◌else◌, ◌==◌, List, refl, sym, ◌∙◌, subst, arith}
 use Rattle.std.specs.Prelude.{Option, Some, None}
 use Rattle.std.specs.List.{slice_get}
 use Rattle.std.proofs.lemmas.Bool.Decides.{nat_tests}
@@ -13,8 +13,8 @@ use Rattle.pcc_steps.specs.Asking.{CodeFits}
 use Rattle.channel_plain.specs.declared.trace.Asked.{Asked}
 use Rattle.channel_plain.specs.declared.trace.TraceEnd.{TraceEnd}
 use Rattle.channel_plain.specs.declared.trace.TraceEnd.TheVariants as end
-use Rattle.channel_plain.specs.Picks.{PlainState, Picked, ask_picked_at, ask_stepped, is_wide, refusal_of}
-use Rattle.channel_plain.specs.Standing.{IsServing, Serving}
+use Rattle.channel_plain.specs.Picks.{PlainState, ask_picked_at, ask_stepped, is_wide, refusal_of}
+use Rattle.channel_plain.specs.Standing.{IsServing}
 
 pub running : (st : AskStage) → (st ≡ AskRest → ⊥) → (calls : List Asked) (r : ℕ) (s : PlainState) → ask_picked_at st calls r s ≡ ask_stepped r s
 running AskRest n calls r s = absurd (n refl)

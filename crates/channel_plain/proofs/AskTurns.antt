@@ -1,5 +1,5 @@
 -- A pick of the asking side adds a run of the tables to a trace, or a part of one.
-use Rattle.std.proofs.Common.{◌≡◌, ◌≢◌, ℕ, ◌+◌, ◌/◌, ◌<◌, ◌≤◌, Bool, true, false, nat_eq, ltb, eqb, List, [], ◌∷◌, ◌++◌, length, refl, sym, ap, ◌∙◌, subst, arith}
+use Rattle.std.proofs.Common.{◌≡◌, ℕ, ◌+◌, ◌/◌, ◌<◌, ◌≤◌, Bool, true, false, ltb, eqb, List, [], ◌∷◌, ◌++◌, length, refl, sym, ap, ◌∙◌, subst, arith}
 use Rattle.std.specs.Prelude.{Option, Some, None}
 use Rattle.std.specs.List.{slice_get}
 use Rattle.std.proofs.lemmas.List.{append-nil, append_assoc}
@@ -18,10 +18,10 @@ use Rattle.pcc_steps.specs.declared.wiring.Action.TheVariants.{Rest}
 use Rattle.pcc_steps.specs.declared.ask.AskStage.{AskStage}
 use Rattle.pcc_steps.specs.declared.ask.AskStage.TheVariants.{AskRest, PostBlock, PostHeader, PostUpdateLoad, PostUpdateStore, PostMarkLoad, PostMarkStore, PostBellLoad, PostBellStore, PostLine, LookWord, LookError, LookBlock, LookLine, LookLineStore, LookAckLoad, LookAckStore}
 use Rattle.pcc_steps.specs.declared.ask.AskOutcome.{AskOutcome}
-use Rattle.pcc_steps.specs.Wires.{style_of, heads_of, block_of, block_header, sees_done, acknowledges}
+use Rattle.pcc_steps.specs.Wires.{style_of, heads_of, block_header, sees_done, acknowledges}
 use Rattle.pcc_steps.specs.Runs.{Run, post_run, look_run}
-use Rattle.pcc_steps.specs.Walk.{Takes, ask_left, ask_after}
-use Rattle.pcc_steps.specs.Asking.{Ask, AskOk, AskSized, Flies, LooksLeft, PostsLeft, after_block, has_more, store_on, look_on, read_on, block_on, line_on, lowered_on, drained, ask_next, ask_fed, ask_told, ask_fed_at, ask_begun, ask_looking, ask_budgeted}
+use Rattle.pcc_steps.specs.Walk.{ask_left, ask_after}
+use Rattle.pcc_steps.specs.Asking.{Ask, AskOk, Flies, LooksLeft, PostsLeft, after_block, has_more, store_on, look_on, read_on, block_on, line_on, lowered_on, ask_next, ask_fed, ask_told, ask_fed_at, ask_looking, ask_budgeted}
 use Rattle.pcc_steps.specs.Agree.{act, flying}
 use Rattle.pcc_steps.specs.Laws.{PostsByTable, LooksByTable, AsksByTable}
 use Rattle.channel_plain.specs.declared.sent.Sent.{Sent}
@@ -30,10 +30,10 @@ use Rattle.channel_plain.specs.declared.trace.Side.{Side}
 use Rattle.channel_plain.specs.declared.trace.TraceEnd.{TraceEnd}
 use Rattle.channel_plain.specs.declared.trace.TraceEnd.TheVariants as end
 use Rattle.channel_plain.specs.declared.trace.TraceLine.{TraceLine}
-use Rattle.channel_plain.specs.Picks.{CallBook, PlainState, Picked, found, ask_picked_at, ask_stepped, begins, call_begun, call_ended, earliest_call, from_rest, line_of, post_or_soon, posting, refusal_of, sent_by, served}
-use Rattle.channel_plain.specs.Standing.{HavePolls, IsCarried, IsServing, LooksBegun, Serving, Stands, carried, carried_at, is_rest}
+use Rattle.channel_plain.specs.Picks.{PlainState, Picked, found, ask_picked_at, ask_stepped, begins, call_begun, call_ended, earliest_call, from_rest, line_of, post_or_soon, posting, refusal_of, served}
+use Rattle.channel_plain.specs.Standing.{HavePolls, IsCarried, IsServing, LooksBegun, Stands, carried, carried_at, is_rest}
 use Rattle.channel_plain.specs.Weaving.{reading_of}
-use Rattle.channel_plain.specs.WordRuns.{Calls, Serves, goes_on, begins as begins_now, Turn, Turns, idles, refuses, delays, end_call, take_reading, posts_call, earliest_at, in_flight, refusal_at}
+use Rattle.channel_plain.specs.WordRuns.{Calls, Serves, goes_on, begins as begins_now, Turns, idles, refuses, delays, end_call, take_reading, posts_call, earliest_at, in_flight, refusal_at}
 use Rattle.channel_plain.proofs.Feeds.{Fed, fed, stepped, rest_is}
 use Rattle.channel_plain.proofs.AskPicks.{running as runs_on}
 use Rattle.channel_plain.proofs.WordSteps.{AskTie, resting, running, Running, posts_run, looks_run, calls_at, not_false, run_turn, takes_next, takes_rest, turned}

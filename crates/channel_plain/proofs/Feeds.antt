@@ -1,7 +1,6 @@
 -- What a step of the asking machine keeps, and where it leads, by its stage.
-use Rattle.std.proofs.Common.{◌≡◌, ◌≢◌, ℕ, ◌+◌, ◌^◌, ◌<◌, ◌≤◌, ◌-◌, Bool, true, false, eqb, List, [], ◌∷◌, ◌++◌, length, drop, refl, sym, ap, ◌∙◌, subst, arith}
+use Rattle.std.proofs.Common.{◌≡◌, ◌≢◌, ℕ, ◌+◌, Bool, true, false, eqb, List, drop, refl}
 use Rattle.std.specs.Prelude.{Option, Some, None}
-use Rattle.pcc_steps.specs.declared.wiring.Wiring.{Wiring}
 use Rattle.pcc_steps.specs.declared.wiring.Style.{Style}
 use Rattle.pcc_steps.specs.declared.wiring.Style.TheVariants.{Headed, Joined3, Separate3, Joined4, Separate4, Reduced5}
 use Rattle.pcc_steps.specs.declared.ask.AskStage.{AskStage}
@@ -10,7 +9,7 @@ use Rattle.pcc_steps.specs.declared.ask.AskOutcome.{AskOutcome}
 use Rattle.pcc_steps.specs.declared.ask.AskOutcome.TheVariants.{Posted, Clear, Drained}
 use Rattle.shmem_header.specs.Spelling.{bytes_of}
 use Rattle.pcc_steps.specs.Wires.{style_of, heads_of, sees_done, tells_error, acknowledges}
-use Rattle.pcc_steps.specs.Asking.{Ask, AskOk, Flies, has_more, ask_fed_at, ask_told_at, after_block, after_update, after_mark, after_bell, after_look, store_on, look_on, read_on, block_on, line_on, lowered_on, drained, look_told, read_told, end_told, line_told}
+use Rattle.pcc_steps.specs.Asking.{Ask, Flies, has_more, ask_fed_at, ask_told_at, after_block, after_update, after_mark, after_bell, after_look, store_on, look_on, read_on, block_on, line_on, lowered_on, drained, look_told, read_told, end_told, line_told}
 use Rattle.channel_plain.specs.Standing.{carried_at, carried, is_rest}
 
 pub rest_is : (st : AskStage) → is_rest st ≡ true → st ≡ AskRest

@@ -1,16 +1,14 @@
 -- What a pick of the asking side keeps.
-use Rattle.std.proofs.Common.{◌≡◌, ◌≢◌, ℕ, ◌+◌, ◌^◌, ◌<◌, ◌≤◌, ◌-◌, Bool, true, false, not, nat_eq, List, [], ◌∷◌, ◌++◌, length, map, take, drop, refl, sym, ap, ◌∙◌, subst, arith, length-set, length-append, get_or}
-use Rattle.std.specs.Prelude.{Option, Some, None, ltb, max}
-use Rattle.std.specs.List.{slice_get}
+use Rattle.std.proofs.Common.{◌≡◌, ◌≢◌, ℕ, ◌+◌, ◌^◌, ◌<◌, ◌≤◌, Bool, true, false, nat_eq, List, [], ◌∷◌, ◌++◌, length, take, drop, refl, sym, ap, ◌∙◌, subst, arith, length-set}
+use Rattle.std.specs.Prelude.{Option, Some, None, ltb}
 use Rattle.std.proofs.lemmas.List.{map-append, append-nil, drop_all, take_all}
 use Rattle.std.proofs.lemmas.Bool.{lt-ltb}
 use Rattle.std.proofs.lemmas.Bool.Decides.{nat_tests}
 use Rattle.pcc_bytes.specs.Bytes.{IsBytes}
 use Rattle.pcc_history.specs.Devices.{Device}
-use Rattle.pcc_history.specs.Channel.{Exchange, both, over}
-use Rattle.rate_limit.specs.RateLimits.{WithinLimits}
+use Rattle.pcc_history.specs.Channel.{Exchange, both}
 use Rattle.pcc_journal.specs.declared.record.Record.{Record}
-use Rattle.pcc_journal.specs.Records.{exchanges_of, exchanges_of_commands, exchange_of_record, times_of}
+use Rattle.pcc_journal.specs.Records.{exchanges_of, exchange_of_record}
 use Rattle.pcc_steps.specs.declared.wiring.Wiring.{Wiring}
 use Rattle.pcc_steps.specs.declared.wiring.Action.{Action}
 use Rattle.pcc_steps.specs.declared.wiring.Action.TheVariants.{Load, Store, Swap, Execute, Rest}
@@ -21,16 +19,16 @@ use Rattle.pcc_steps.specs.declared.ask.AskStage.TheVariants.{AskRest, LookWord}
 use Rattle.pcc_steps.specs.declared.ask.AskOutcome.{AskOutcome}
 use Rattle.pcc_steps.specs.declared.ask.AskOutcome.TheVariants.{Posted, Clear, Drained}
 use Rattle.pcc_steps.specs.Wires.{style_of, block_of}
-use Rattle.pcc_steps.specs.Asking.{Ask, AskOk, LooksLeft, CodeFits, ask_next, ask_fed, ask_told, ask_fed_at, ask_told_at, ask_begun, ask_looking, ask_budgeted}
-use Rattle.pcc_steps.specs.Agree.{act, Finds, Asker, Answerer, Agree, done_after, clears_after, flying}
+use Rattle.pcc_steps.specs.Asking.{Ask, LooksLeft, CodeFits, ask_next, ask_fed, ask_told, ask_fed_at, ask_begun, ask_looking, ask_budgeted}
+use Rattle.pcc_steps.specs.Agree.{act, Finds, Asker, Answerer, Agree, done_after, clears_after}
 use Rattle.pcc_steps.specs.Laws.{AskStepAgrees, PostBeginAgrees, LookBeginAgrees, BudgetAgrees}
 use Rattle.channel_plain.specs.declared.sent.Sent.{Sent}
 use Rattle.channel_plain.specs.declared.trace.Asked.{Asked}
-use Rattle.channel_plain.specs.Picks.{CallBook, PlainState, Ended, found, ask_ended, call_ended, call_begun, call_posted, clear_ended, drain_ended, drained_calls, recorded, is_late, given_up, sent_by}
-use Rattle.channel_plain.specs.Holding.{FliesIf, FliesWith, post_of}
-use Rattle.channel_plain.specs.Standing.{asker_of, answerer_of, carried, carried_at, is_rest, IsCarried, LooksBegun, Stands, IsReady, Holds, IsServing, Serving, owns}
+use Rattle.channel_plain.specs.Picks.{CallBook, PlainState, Ended, found, ask_ended, call_begun, call_posted, clear_ended, drained_calls, recorded, is_late, given_up}
+use Rattle.channel_plain.specs.Holding.{FliesIf, FliesWith}
+use Rattle.channel_plain.specs.Standing.{asker_of, answerer_of, carried, carried_at, is_rest, IsCarried, LooksBegun, Holds, owns}
 use Rattle.channel_plain.specs.Steps.{budget_by}
-use Rattle.channel_plain.proofs.Feeds.{Fed, fed, stepped, rest_is, not_rest, ends_run, carried_after, flies_after, looks_after, Sure}
+use Rattle.channel_plain.proofs.Feeds.{Fed, fed, stepped, not_rest}
 
 -- ---- small facts
 

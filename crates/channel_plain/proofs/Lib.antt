@@ -12,5 +12,6 @@ pub mod AnswerTurns
 pub mod Kepts
 pub mod WordRunOf
 pub mod Goods
-pub mod Written
+pub mod Polls
 pub mod Stayings
+pub mod Written

@@ -1,14 +1,13 @@
 -- A post that is begun, and a call that is too soon.
-use Rattle.std.proofs.Common.{◌≡◌, ℕ, ◌<◌, Bool, true, false, List, length, refl, sym, ap, ◌∙◌, subst}
+use Rattle.std.proofs.Common.{◌≡◌, ℕ, Bool, true, false, List, refl, sym, ap, ◌∙◌, subst}
 use Rattle.std.specs.Prelude.{Option, Some, None, ltb}
-use Rattle.pcc_steps.specs.Asking.{Ask, ask_begun, ask_budgeted}
+use Rattle.pcc_steps.specs.Asking.{Ask, ask_begun}
 use Rattle.pcc_steps.specs.declared.wiring.Action.TheVariants.{Rest}
-use Rattle.channel_plain.specs.declared.sent.Sent.{Sent}
 use Rattle.channel_plain.specs.declared.trace.Asked.{Asked}
 use Rattle.channel_plain.specs.declared.trace.TraceEnd.{TraceEnd}
 use Rattle.channel_plain.specs.declared.trace.TraceEnd.TheVariants as end
 use Rattle.channel_plain.specs.declared.pick.Pick.{Pick}
-use Rattle.channel_plain.specs.Picks.{CallBook, PlainState, Picked, ask_stepped, call_begun, call_ended, call_posted, earliest_call, posting, post_or_soon, served, rested}
+use Rattle.channel_plain.specs.Picks.{CallBook, PlainState, Picked, ask_stepped, call_begun, call_ended, call_posted, earliest_call, posting, post_or_soon, served}
 use Rattle.channel_plain.specs.Holding.{Tried, tried_by}
 use Rattle.channel_plain.specs.Steps.{IsPick, begun_by, begun_with, budget_by}
 

@@ -1,10 +1,9 @@
 -- The call that is begun stays one of the calls, which nothing refuses.
-use Rattle.std.proofs.Common.{◌≡◌, ◌≢◌, ℕ, suc, ◌+◌, ◌<◌, ◌≤◌, Bool, true, false, not, nat_eq, ltb, if◌then◌else◌, ◌==◌, List, [], ◌∷◌, ◌++◌, length, refl, sym, ap, ◌∙◌, subst, arith, length-append}
+use Rattle.std.proofs.Common.{◌≡◌, ℕ, suc, ◌+◌, ◌<◌, ◌≤◌, Bool, true, false, not, nat_eq, ltb, if◌then◌else◌, ◌==◌, List, [], ◌∷◌, ◌++◌, length, refl, sym, ap, ◌∙◌, subst, arith, length-append}
 use Rattle.std.specs.Prelude.{Option, Some, None}
 use Rattle.std.specs.List.{slice_get}
 use Rattle.std.proofs.lemmas.Bool.Decides.{nat_tests}
 use Rattle.pcc_history.specs.Devices.{Device}
-use Rattle.pcc_history.specs.Channel.{Exchange}
 use Rattle.pcc_journal.specs.declared.record.Record.{Record}
 use Rattle.pcc_journal.specs.Records.{exchanges_of}
 use Rattle.pcc_steps.specs.declared.wiring.Wiring.{Wiring}
@@ -12,16 +11,16 @@ use Rattle.pcc_steps.specs.declared.ask.AskStage.{AskStage}
 use Rattle.pcc_steps.specs.declared.ask.AskStage.TheVariants.{AskRest, PostBlock, PostHeader, PostUpdateLoad, PostUpdateStore, PostMarkLoad, PostMarkStore, PostBellLoad, PostBellStore, PostLine, LookWord, LookError, LookBlock, LookLine, LookLineStore, LookAckLoad, LookAckStore}
 use Rattle.pcc_steps.specs.declared.ask.AskOutcome.{AskOutcome}
 use Rattle.pcc_steps.specs.declared.ask.AskOutcome.TheVariants.{Posted, Clear, Drained}
-use Rattle.pcc_steps.specs.Asking.{Ask, Flies, PostsLeft, ask_next, ask_fed, ask_told, ask_fed_at, ask_begun, ask_looking, ask_budgeted}
+use Rattle.pcc_steps.specs.Asking.{Ask, Flies, PostsLeft, ask_next, ask_fed, ask_told, ask_fed_at, ask_looking, ask_budgeted}
 use Rattle.pcc_steps.specs.Agree.{flying}
 use Rattle.channel_plain.specs.declared.sent.Sent.{Sent}
 use Rattle.channel_plain.specs.declared.trace.Asked.{Asked}
 use Rattle.channel_plain.specs.declared.trace.Side.{Side}
 use Rattle.channel_plain.specs.declared.trace.TraceEnd.{TraceEnd}
 use Rattle.channel_plain.specs.declared.trace.TraceEnd.TheVariants as end
-use Rattle.channel_plain.specs.Picks.{CallBook, PlainState, Picked, found, asks_by, ask_ended, ask_stepped, ask_picked_at, begins, call_begun, call_ended, clear_ended, drained_calls, earliest_call, from_rest, is_late, is_wide, picked, picked_by, post_or_soon, posting, recorded, refusal_of, served}
-use Rattle.channel_plain.specs.Standing.{HavePolls, IsServing, Serving, Stands, carried, carried_at, is_rest, owns}
-use Rattle.channel_plain.proofs.Feeds.{Fed, fed, stepped, not_rest}
+use Rattle.channel_plain.specs.Picks.{CallBook, PlainState, found, asks_by, ask_ended, ask_stepped, ask_picked_at, begins, call_begun, clear_ended, drained_calls, earliest_call, from_rest, is_late, is_wide, picked, picked_by, post_or_soon, posting, recorded, refusal_of, served}
+use Rattle.channel_plain.specs.Standing.{IsServing, Serving, Stands, carried, carried_at, is_rest, owns}
+use Rattle.channel_plain.proofs.Feeds.{Fed, fed, stepped}
 
 serving_as : (calls : List Asked) (w w' : Wiring) (u u' n n' f f' : ℕ) (b : CallBook) → w' ≡ w → u' ≡ u → n' ≡ n → f' ≡ f → Serving calls w u n f b → Serving calls w' u' n' f' b
 serving_as calls w w' u u' n n' f f' b ew eu en ef h = subst (λ (z : Wiring × ℕ × ℕ × ℕ). Serving calls z.0 z.1 z.2 z.3 b) (λ i. (sym ew i, sym eu i, sym en i, sym ef i)) h

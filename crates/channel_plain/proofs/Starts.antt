@@ -1,5 +1,5 @@
 -- A new channel stands.
-use Rattle.std.proofs.Common.{◌≡◌, ℕ, ◌+◌, ◌<◌, Bool, true, false, List, [], ◌∷◌, ◌++◌, length, refl, sym, ap, ◌∙◌, subst, arith, length-append}
+use Rattle.std.proofs.Common.{◌≡◌, ℕ, ◌+◌, Bool, true, false, List, [], ◌∷◌, ◌++◌, length, refl, sym, ap, ◌∙◌, subst, arith}
 use Rattle.std.specs.Prelude.{None}
 use Rattle.pcc_bytes.specs.Bytes.{IsBytes}
 use Rattle.pcc_history.specs.Devices.{Device}
@@ -7,12 +7,11 @@ use Rattle.shmem_header.specs.Spelling.{words_of}
 use Rattle.rate_limit.specs.declared.Limits.{Limits}
 use Rattle.pcc_steps.specs.declared.wiring.Wiring.{Wiring}
 use Rattle.pcc_steps.specs.declared.ask.AskStage.{AskStage}
-use Rattle.pcc_steps.specs.Wires.{block_of, style_of, opening_word, opening_header, opening_words}
+use Rattle.pcc_steps.specs.Wires.{style_of, opening_word, opening_header, opening_words}
 use Rattle.pcc_steps.specs.Asking.{Ask, AskOk, IsNewAsk}
 use Rattle.pcc_steps.specs.Answering.{Answer, AnswerOk, IsNewAnswer}
-use Rattle.pcc_steps.specs.Agree.{Agree}
 use Rattle.pcc_steps.specs.Laws.{StartsAgreed}
-use Rattle.channel_plain.specs.Picks.{CallBook, PlainState}
+use Rattle.channel_plain.specs.Picks.{CallBook}
 use Rattle.channel_plain.specs.Holding.{Executions}
 use Rattle.channel_plain.specs.Standing.{Holds, IsCarried, carried_at, is_rest}
 

@@ -1,14 +1,13 @@
 -- Picks are woven one by one.
-use Rattle.std.proofs.Common.{◌≡◌, ℕ, ◌+◌, ◌<◌, ◌≤◌, Bool, true, false, List, [], ◌∷◌, ◌++◌, length, take, drop, get_or, refl, sym, ap, ◌∙◌, subst, arith}
+use Rattle.std.proofs.Common.{◌≡◌, ℕ, ◌+◌, ◌<◌, ◌≤◌, Bool, true, false, List, [], ◌∷◌, ◌++◌, length, take, get_or, sym, ap, ◌∙◌, subst}
 use Rattle.std.specs.Prelude.{Option}
 use Rattle.std.proofs.lemmas.List.{take_all, take_more}
 use Rattle.pcc_history.specs.Devices.{Device}
 use Rattle.channel_plain.specs.declared.trace.Side.{Side}
 use Rattle.channel_plain.specs.declared.trace.Asked.{Asked}
 use Rattle.channel_plain.specs.declared.trace.TraceLine.{TraceLine}
-use Rattle.channel_plain.specs.Picks.{PlainState, Picked, picked, line_of}
+use Rattle.channel_plain.specs.Picks.{PlainState, Picked, picked}
 use Rattle.channel_plain.specs.Standing.{IsServing, Stands}
-use Rattle.channel_plain.specs.News.{IsNew}
 use Rattle.channel_plain.specs.Weaving.{IsFresh, PicksOnce, Wove, unpicked, picks, reading_of}
 
 module _ {K : Type 0} (taken : K → ℕ) (tells : K → ℕ → Option ℕ) (exec : Device) (calls : List Asked) (is_state : List ℕ → Type 0) (room_of : List ℕ → ℕ) where

@@ -1,6 +1,6 @@
 -- Picks that are woven make a run of words.
-use Rattle.std.proofs.Common.{◌≡◌, ℕ, ◌≤◌, Bool, true, false, not, if◌then◌else◌, List, [], ◌∷◌, ◌++◌, length, map, refl, sym, ap, ◌∙◌, subst}
-use Rattle.std.specs.Prelude.{Option, Some, None}
+use Rattle.std.proofs.Common.{◌≡◌, ℕ, Bool, true, false, not, if◌then◌else◌, List, [], ◌∷◌, ◌++◌, map, refl, sym, ap, ◌∙◌, subst}
+use Rattle.std.specs.Prelude.{Option, None}
 use Rattle.std.specs.List.{filter}
 use Rattle.std.proofs.lemmas.List.{append-nil, map-append}
 use Rattle.std.proofs.lemmas.List.Elements.{filter-append}
@@ -8,32 +8,29 @@ use Rattle.pcc_history.specs.Devices.{Device}
 use Rattle.pcc_history.specs.Channel.{Exchange}
 use Rattle.rate_limit.specs.declared.Limits.{Limits}
 use Rattle.pcc_journal.specs.Records.{exchanges_of_commands}
-use Rattle.shmem_header.specs.Spelling.{words_of}
 use Rattle.pcc_steps.specs.declared.wiring.Wiring.{Wiring}
-use Rattle.pcc_steps.specs.declared.wiring.Action.{Action}
 use Rattle.pcc_steps.specs.Runs.{look_run}
 use Rattle.pcc_steps.specs.Walk.{answer_left, ask_left}
 use Rattle.pcc_steps.specs.Agree.{act}
 use Rattle.pcc_steps.specs.Asking.{Ask}
 use Rattle.pcc_steps.specs.Answering.{Answer}
-use Rattle.pcc_steps.specs.Wires.{opening_words}
 use Rattle.pcc_steps.specs.Laws.{PostsByTable, LooksByTable, AsksByTable, AnswersByTable, AnswerStepsByTable, ExecutesByTable}
 use Rattle.pcc_journal.specs.declared.command.Command.{Command}
 use Rattle.channel_plain.specs.declared.sent.Sent.{Sent}
 use Rattle.channel_plain.specs.declared.trace.Asked.{Asked}
 use Rattle.channel_plain.specs.declared.trace.Side.{Side}
 use Rattle.channel_plain.specs.declared.trace.TraceLine.{TraceLine}
-use Rattle.channel_plain.specs.Picks.{CallBook, PlainState, Picked, answer_picked, ask_picked_at, asks_by, found, line_of, picked, picked_by}
+use Rattle.channel_plain.specs.Picks.{CallBook, PlainState, Picked, answer_picked, ask_picked_at, asks_by, found, line_of, picked_by}
 use Rattle.channel_plain.specs.Holding.{Takes}
-use Rattle.channel_plain.specs.News.{IsNew, opening_of}
+use Rattle.channel_plain.specs.News.{opening_of}
 use Rattle.channel_plain.specs.Standing.{HavePolls, IsCarried, IsServing, Stands, carried, carried_at, is_rest}
 use Rattle.channel_plain.specs.Weaving.{IsFresh, Readings, unread, reads, Wove, unpicked, picks, reading_of}
-use Rattle.channel_plain.specs.WordRuns.{Answered, Answers, unanswered, Calls, Cut, IsAnswering, IsAsking, Remembers, Serves, goes_on, begins, Turns, none, Walks, WordRun, posts_call, answer_from, asked_line, answered_line, AnswerWalks, flown, looking, sending, side_of_line, whole}
+use Rattle.channel_plain.specs.WordRuns.{Answers, unanswered, Calls, Cut, IsAnswering, IsAsking, Remembers, Serves, goes_on, begins, Turns, none, Walks, WordRun, posts_call, answer_from, asked_line, answered_line, flown, looking, sending, side_of_line, whole}
 use Rattle.channel_plain.proofs.Feeds.{rest_is}
 use Rattle.channel_plain.proofs.WordSteps.{AskTie, resting, running, Running, posts_run, looks_run, calls_at}
 use Rattle.channel_plain.proofs.AskTurns.{pick_tie}
 use Rattle.channel_plain.proofs.AnswerTurns.{AnswerTie, is_rest as is_rest_a, a_resting, a_running, answer_tie}
-use Rattle.channel_plain.proofs.Kepts.{AskKept, Kept, asks_kept, picked_kept}
+use Rattle.channel_plain.proofs.Kepts.{asks_kept, picked_kept}
 
 -- ---- lists
 

@@ -1,31 +1,26 @@
 -- The asking side of a trace is runs of the tables: what a pick adds to them.
-use Rattle.std.proofs.Common.{◌≡◌, ◌≢◌, ℕ, ◌+◌, ◌<◌, ◌≤◌, Bool, true, false, nat_eq, List, [], ◌∷◌, ◌++◌, length, drop, refl, sym, ap, ◌∙◌, subst, arith}
+use Rattle.std.proofs.Common.{◌≡◌, ℕ, ◌+◌, ◌<◌, ◌≤◌, Bool, true, false, nat_eq, List, [], ◌∷◌, ◌++◌, refl, sym, ap, ◌∙◌, subst, arith}
 use Rattle.std.specs.Prelude.{Option, Some, None}
-use Rattle.std.specs.List.{slice_get}
-use Rattle.std.proofs.lemmas.List.{append-nil, append_assoc}
+use Rattle.std.proofs.lemmas.List.{append-nil}
 use Rattle.std.proofs.lemmas.Bool.Decides.{nat_tests}
-use Rattle.pcc_journal.specs.declared.record.Record.{Record}
 use Rattle.rate_limit.specs.declared.Limits.{Limits}
-use Rattle.shmem_header.specs.Spelling.{bytes_of}
 use Rattle.pcc_steps.specs.declared.wiring.Wiring.{Wiring}
 use Rattle.pcc_steps.specs.declared.wiring.Action.{Action}
 use Rattle.pcc_steps.specs.declared.ask.AskStage.{AskStage}
 use Rattle.pcc_steps.specs.declared.ask.AskOutcome.{AskOutcome}
 use Rattle.pcc_steps.specs.declared.ask.AskOutcome.TheVariants.{Posted, Clear, Drained}
-use Rattle.pcc_steps.specs.Wires.{style_of, heads_of}
-use Rattle.pcc_steps.specs.Runs.{Run, ends, loads, stores, swaps, executes, AskEnd, posts, sees_clear, drains, look_run}
+use Rattle.pcc_steps.specs.Runs.{Run, ends, loads, stores, swaps, executes, sees_clear, drains, look_run}
 use Rattle.pcc_steps.specs.Walk.{Takes, ask_left, ask_after}
 use Rattle.pcc_steps.specs.Asking.{Ask}
 use Rattle.channel_plain.specs.declared.sent.Sent.{Sent}
 use Rattle.channel_plain.specs.declared.trace.Asked.{Asked}
 use Rattle.channel_plain.specs.declared.trace.Side.{Side}
-use Rattle.channel_plain.specs.declared.trace.TraceEnd.{TraceEnd}
 use Rattle.channel_plain.specs.declared.trace.TraceEnd.TheVariants as end
 use Rattle.channel_plain.specs.declared.trace.TraceLine.{TraceLine}
-use Rattle.channel_plain.specs.Picks.{CallBook, PlainState, ask_ended, call_ended, clear_ended, drain_ended, drained_calls, drained_end, given_up_end, is_late, record_of, sent_by, takes_reading}
+use Rattle.channel_plain.specs.Picks.{CallBook, PlainState, ask_ended, call_ended, clear_ended, drain_ended, drained_calls, drained_end, given_up_end, record_of, sent_by, takes_reading}
 use Rattle.channel_plain.specs.Standing.{is_rest}
 use Rattle.channel_plain.specs.Weaving.{reading_of}
-use Rattle.channel_plain.specs.WordRuns.{Walks, IsRun, Calls, Serves, Turn, Turns, none, more, sends, looks_on, gives_up, takes, end_call, take_reading, goes_on_if, posts_call, earliest_at, replied, next_of, rest_of}
+use Rattle.channel_plain.specs.WordRuns.{Walks, Calls, Serves, Turn, Turns, more, sends, looks_on, gives_up, takes, end_call, take_reading, goes_on_if, posts_call, earliest_at, replied, next_of, rest_of}
 use Rattle.channel_plain.proofs.Feeds.{Fed}
 
 -- ---- runs

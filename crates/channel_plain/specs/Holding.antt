@@ -1,11 +1,9 @@
 -- What the parts of a channel hold beside what is seen of them: memory that was taken ahead.
 use Rattle.std.specs.Prelude.{◌≡◌, ◌<◌, ◌+◌, ◌-◌, ◌^◌, min, ltb, ℕ, Bool, true, false, List, length, Option, Some, None, IfSome}
 use Rattle.rate_limit.specs.declared.Limits.{Limits}
-use Rattle.rate_limit.specs.RateLimits.{WithinLimits}
 use Rattle.pcc_journal.specs.WithSpare.{WithSpare}
 use Rattle.pcc_journal.specs.declared.record.Record.{Record}
 use Rattle.pcc_journal.specs.declared.command.Command.{Command}
-use Rattle.pcc_journal.specs.Records.{times_of}
 use Rattle.pcc_steps.specs.declared.ask.AskOutcome.{AskOutcome}
 use Rattle.pcc_steps.specs.declared.ask.AskOutcome.TheVariants.{Posted, Clear, Drained}
 use Rattle.channel_plain.specs.declared.sent.Sent.{Sent}

@@ -1,5 +1,5 @@
 -- A channel on a plain list of words, and what a pick of one of its ends makes of it.
-use Rattle.std.specs.Prelude.{◌≡◌, ◌==◌, ℕ, ◌+◌, ◌<◌, ltb, Bool, true, false, if◌then◌else◌, List, [], ◌∷◌, ◌++◌, length, map, get_or, Option, Some, None}
+use Rattle.std.specs.Prelude.{◌==◌, ℕ, ◌+◌, ltb, Bool, true, false, if◌then◌else◌, List, [], ◌∷◌, ◌++◌, length, map, get_or, Option, Some, None}
 use Rattle.std.specs.List.{slice_get}
 use Rattle.pcc_history.specs.Devices.{Device}
 use Rattle.pcc_history.specs.Channel.{Exchange, over}

@@ -1,8 +1,7 @@
 -- What one word step needs, and what the device's turn leaves.
-use Rattle.std.specs.Prelude.{◌≡◌, ◌<◌, ◌^◌, ◌++◌, ℕ, Bool, true, false, List, [], ◌∷◌, length, map, Option}
-use Rattle.pcc_journal.specs.declared.command.Command.{Command}
+use Rattle.std.specs.Prelude.{◌≡◌, ◌++◌, ℕ, Bool, true, false, List, map, Option}
 use Rattle.pcc_steps.specs.declared.answer.AnswerStage.{AnswerStage}
-use Rattle.pcc_steps.specs.declared.answer.AnswerStage.TheVariants.{AnswerRest, RunDevice}
+use Rattle.pcc_steps.specs.declared.answer.AnswerStage.TheVariants.{RunDevice}
 use Rattle.pcc_steps.specs.Asking.{Ask, ask_budgeted, ask_looking}
 use Rattle.pcc_steps.specs.Answering.{Answer}
 use Rattle.pcc_steps.specs.Agree.{Answerer}

@@ -1,5 +1,5 @@
 -- The text of a trace: a line for each pick.
-use Rattle.std.specs.Prelude.{ℕ, Bool, true, false, List, [], ◌∷◌, ◌++◌, codes}
+use Rattle.std.specs.Prelude.{ℕ, true, false, List, [], ◌∷◌, ◌++◌, codes}
 use Rattle.std.specs.Int.{w64, to_be_bytes}
 use Rattle.pcc_text.specs.Pieces.{Spelled, Words, Decimal, HexOf, spelled}
 use Rattle.pcc_steps.specs.declared.wiring.Action.{Action}

@@ -4,7 +4,7 @@ use Rattle.pcc_history.specs.Devices.{Device}
 use Rattle.channel_plain.specs.declared.trace.Side.{Side}
 use Rattle.channel_plain.specs.declared.trace.Asked.{Asked}
 use Rattle.channel_plain.specs.declared.trace.TraceLine.{TraceLine}
-use Rattle.channel_plain.specs.Picks.{PlainState, Picked, picked, line_of}
+use Rattle.channel_plain.specs.Picks.{PlainState, picked, line_of}
 use Rattle.channel_plain.specs.Holding.{Takes}
 use Rattle.channel_plain.specs.Standing.{IsServing, Stands}
 use Rattle.channel_plain.specs.News.{IsNew}

@@ -1,29 +1,27 @@
 -- What a trace of single word steps tells: which words it moves, the runs of each side, the calls with their ends, the readings, and the
 -- journal that comes of it. It speaks of whole runs, and of no machine.
-use Rattle.std.specs.Prelude.{◌≡◌, ◌==◌, ◌≤◌, ◌<◌, ltb, ℕ, ◌+◌, Bool, true, false, not, if◌then◌else◌, List, [], ◌∷◌, ◌++◌, length, map, drop, Option, Some, None}
+use Rattle.std.specs.Prelude.{◌≡◌, ◌≤◌, ◌<◌, ℕ, ◌+◌, Bool, true, false, not, List, [], ◌∷◌, ◌++◌, length, map, drop, Option, Some, None}
 use Rattle.std.specs.List.{slice_get, filter}
 use Rattle.pcc_history.specs.Devices.{Device}
 use Rattle.pcc_history.specs.Channel.{Exchange, over, exchange_of}
 use Rattle.rate_limit.specs.declared.Limits.{Limits}
 use Rattle.rate_limit.specs.RateLimits.{earliest_of}
 use Rattle.pcc_journal.specs.declared.record.Record.{Record}
-use Rattle.pcc_journal.specs.declared.record.Pending.{Pending}
 use Rattle.pcc_journal.specs.Records.{times_of}
 use Rattle.shmem_header.specs.Spelling.{words_of, bytes_of}
 use Rattle.pcc_steps.specs.declared.wiring.Wiring.{Wiring}
 use Rattle.pcc_steps.specs.declared.wiring.Action.{Action}
-use Rattle.pcc_steps.specs.declared.wiring.Action.TheVariants.{Load, Store, Swap, Execute, Rest}
+use Rattle.pcc_steps.specs.declared.wiring.Action.TheVariants.{Load, Store, Swap, Rest}
 use Rattle.pcc_steps.specs.Wires.{style_of, heads_of, block_header, opening_words}
 use Rattle.pcc_steps.specs.Runs.{Run, ends, loads, stores, swaps, executes, AskEnd, posts, sees_clear, drains, AnswerEnd, finds_none, serves, post_run, look_run, answer_run}
 use Rattle.pcc_steps.specs.Agree.{act}
 use Rattle.channel_plain.specs.declared.sent.Sent.{Sent}
 use Rattle.channel_plain.specs.declared.trace.Side.{Side}
-use Rattle.channel_plain.specs.declared.trace.Side.TheVariants.{System, Platform}
 use Rattle.channel_plain.specs.declared.trace.Asked.{Asked}
 use Rattle.channel_plain.specs.declared.trace.TraceEnd.{TraceEnd}
 use Rattle.channel_plain.specs.declared.trace.TraceEnd.TheVariants as end
 use Rattle.channel_plain.specs.declared.trace.TraceLine.{TraceLine}
-use Rattle.channel_plain.specs.Picks.{asks_by, found, is_late, given_up_end, record_of, refusal_of, sent_by, drained_end}
+use Rattle.channel_plain.specs.Picks.{asks_by, found, given_up_end, record_of, refusal_of, sent_by, drained_end}
 
 -- ---- the words
 

@@ -5,7 +5,7 @@ use Rattle.pcc_history.specs.Devices.{bank_exec}
 use Rattle.pcc_journal.specs.declared.record.Record.{Record}
 use Rattle.pcc_steps.specs.declared.wiring.Wiring.{Wiring}
 use Rattle.pcc_steps.specs.declared.wiring.Action.{Action}
-use Rattle.pcc_steps.specs.declared.wiring.Action.TheVariants.{Load, Store, Swap, Execute, Rest}
+use Rattle.pcc_steps.specs.declared.wiring.Action.TheVariants.{Load, Store, Swap}
 use Rattle.pcc_steps.specs.declared.ask.AskStage.TheVariants.{AskRest}
 use Rattle.pcc_steps.specs.declared.answer.AnswerStage.TheVariants.{AnswerRest}
 use Rattle.pcc_steps.specs.Wires.{opening_words}
@@ -16,7 +16,7 @@ use Rattle.channel_plain.specs.declared.trace.Asked.{Asked}
 use Rattle.channel_plain.specs.declared.trace.TraceEnd.{TraceEnd}
 use Rattle.channel_plain.specs.declared.trace.TraceEnd.TheVariants.{Open, Posted, Clear, Done, Late, TimedOut, StillPending, Served, Idle}
 use Rattle.channel_plain.specs.declared.trace.TraceLine.{TraceLine}
-use Rattle.channel_plain.specs.Picks.{PlainState, Picked, picked, line_of}
+use Rattle.channel_plain.specs.Picks.{PlainState, picked, line_of}
 
 -- the doorbell's lowest bit is set, and the others are kept; the acknowledge register keeps four bits and sets two
 abbrev pub wired : ℕ → Bool → Bool → Wiring

@@ -2,9 +2,11 @@
 
 ghost use Rattle.std.specs.Prelude.{◌≡◌, ◌≤◌, List, ℕ, IfOk, OnErr, length};
 ghost use Rattle.std.specs.Option.{option_copied};
-ghost use Rattle.pcc_journal.specs.Records.{exchanges_of_commands};
+ghost use Rattle.rate_limit.specs.RateLimits.{WithinLimits};
+ghost use Rattle.pcc_journal.specs.Records.{exchanges_of_commands, times_of};
 ghost use Rattle.pcc_steps.specs.Wires.{IsRight};
 ghost use Rattle.channel_plain.specs.Picks.{asks_by, pending_by, picked};
+ghost use Rattle.channel_plain.specs.Holding.{post_of};
 ghost use Rattle.channel_plain.specs.Standing.{HavePolls, IsServing, Stands};
 ghost use Rattle.channel_plain.specs.Steps.{Reads};
 ghost use Rattle.channel_plain.specs.News.{IsNew, opening_of};
@@ -60,6 +62,7 @@ impl<E: Executor, K: Clock> Plain<E, K> {
         ensures stood { Stands E.exec_of E.is_state E.room_of self.old.ends }
         ensures stands { Stands E.exec_of E.is_state E.room_of self.new.ends }
         ensures good { IsGood E.exec_of self.new.ends }
+        ensures limits { WithinLimits self.new.ends.calls.limits (times_of self.new.ends.calls.records) (post_of self.new.ends.calls.sent) }
     {
         history_laws();
         self.ends.stand();

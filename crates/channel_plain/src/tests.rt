@@ -1,3 +1,7 @@
+ghost use Rattle.std.specs.Prelude.{◌≡◌, ◌≤◌, IfOk};
+ghost use Rattle.pcc_steps.specs.Wires.{IsRight};
+ghost use Rattle.channel_plain.specs.Standing.{HavePolls};
+
 use super::*;
 use pcc_exec::Bank;
 use pcc_gas::Masks;
@@ -7,7 +11,11 @@ use rate_limit::Limits;
 use std::alloc::Global;
 
 // The doorbell's lowest bit is set, and the others are kept; the acknowledge register keeps four bits and sets two.
-fn wired(kind: u8, notify: bool, has_ack: bool) -> Wiring {
+fn wired(kind: u8, notify: bool, has_ack: bool) -> Wiring
+    requires { kind ≤ 2 }
+    ensures right { IsRight result }
+    ensures room { result.room ≡ 8 }
+{
     let none = Masks {
         preserve: 0,
         set: 0,
@@ -35,13 +43,9 @@ fn wired(kind: u8, notify: bool, has_ack: bool) -> Wiring {
     }
 }
 
-fn call(
-    alloc: Global,
-    caller: u32,
-    code: u32,
-    bytes: &[u8],
-    polls: u32,
-) -> Result<Asked, NoMemory> {
+fn call(alloc: Global, caller: u32, code: u32, bytes: &[u8], polls: u32) -> Result<Asked, NoMemory>
+    ensures { IfOk result (λ c. c.polls ≡ polls) }
+{
     Ok(Asked {
         caller,
         code,
@@ -68,7 +72,10 @@ fn text_of(
     limits: Limits,
     calls: &[Asked],
     letters: &[u8],
-) -> Result<Vec<u8>, NoMemory> {
+) -> Result<Vec<u8>, NoMemory>
+    requires right { IsRight wiring }
+    requires polls { HavePolls calls.now }
+{
     let bank = Bank::new(alloc, wiring.room)?;
     let mut plain = Plain::new(alloc, wiring, bank, limits, LineClock::new(0, 10))?;
     let picks = sides(alloc, letters)?;
@@ -96,6 +103,7 @@ o load 8 0000000000000000 -> done ok\n";
 
 #[test]
 fn a_command_is_posted_executed_and_drained(rt: HostRuntime) {
+    #[tactic(auto, using(crate::proofs::Polls::have_polls))]
     fn text(alloc: Global) -> Result<Vec<u8>, NoMemory> {
         text_of(
             alloc,
@@ -130,6 +138,7 @@ o store 4 0000000000000000 -> done ok\n";
 
 #[test]
 fn with_a_notification(rt: HostRuntime) {
+    #[tactic(auto, using(crate::proofs::Polls::have_polls))]
     fn text(alloc: Global) -> Result<Vec<u8>, NoMemory> {
         text_of(
             alloc,
@@ -163,6 +172,7 @@ o store 5 0000000000000003 -> done ok\n";
 
 #[test]
 fn with_an_acknowledge_register(rt: HostRuntime) {
+    #[tactic(auto, using(crate::proofs::Polls::have_polls))]
     fn text(alloc: Global) -> Result<Vec<u8>, NoMemory> {
         text_of(
             alloc,
@@ -198,6 +208,7 @@ o store 2 0000000000000001 -> posted\n";
 
 #[test]
 fn given_up_kept_waiting_drained_late(rt: HostRuntime) {
+    #[tactic(auto, using(crate::proofs::Polls::have_polls))]
     fn text(alloc: Global) -> Result<Vec<u8>, NoMemory> {
         text_of(
             alloc,
@@ -236,6 +247,7 @@ o rest\n";
 
 #[test]
 fn calls_without_a_step(rt: HostRuntime) {
+    #[tactic(auto, using(crate::proofs::Polls::have_polls))]
     fn text(alloc: Global) -> Result<Vec<u8>, NoMemory> {
         let limits = Limits {
             turnaround: 500,

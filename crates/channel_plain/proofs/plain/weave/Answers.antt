@@ -1,4 +1,4 @@
-use Rattle.std.proofs.Common.{rules, ◌≡◌, ◌≤◌, ℕ, List, length}
+use Rattle.std.proofs.Common.{◌≤◌, ℕ, List, length}
 use Rattle.std.proofs.lemmas.Result.{IfOk-weaker}
 use Rattle.pcc_journal.specs.Records.{exchanges_of_commands}
 use Rattle.channel_plain.specs.declared.trace.TraceLine.{TraceLine}

@@ -1,5 +1,5 @@
-use Rattle.std.proofs.Common.{◌≡◌, ◌++◌, ℕ, List, [], ◌∷◌, sym, ap, subst, OnOk, codes}
-use Rattle.pcc_text.specs.Pieces.{Spelled, Words, Decimal, HexOf, spelled}
+use Rattle.std.proofs.Common.{◌≡◌, ◌++◌, ℕ, List, [], ◌∷◌, sym, subst, OnOk, codes}
+use Rattle.pcc_text.specs.Pieces.{Words, Decimal, HexOf, spelled}
 use Rattle.pcc_steps.specs.declared.wiring.Action.{Action}
 use Rattle.channel_plain.specs.TraceText.{action_words}
 use Rattle.channel_plain.proofs.text.put_action.Goals as goal

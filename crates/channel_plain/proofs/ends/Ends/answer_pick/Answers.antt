@@ -1,8 +1,7 @@
-use Rattle.std.proofs.Common.{rules, ◌≡◌, ◌<◌, ◌^◌, ℕ, Bool, List, length, take, drop, ◌++◌, refl, sym, ap, ◌∙◌, subst}
+use Rattle.std.proofs.Common.{rules, ◌≡◌, ℕ, List, length, take, drop, ◌++◌, refl, sym, ap, ◌∙◌}
 use Rattle.pcc_steps.specs.declared.wiring.Wiring.{Wiring}
 use Rattle.pcc_steps.specs.declared.wiring.Action.{Action}
 use Rattle.channel_plain.specs.Picks.{PlainState, found}
-use Rattle.channel_plain.specs.Standing.{Holds}
 use Rattle.channel_plain.proofs.Keeps.{whole}
 use Rattle.channel_plain.proofs.AnswerHolds.{device_room, settle_ready, settle_wiring, settled_holds}
 use Rattle.channel_plain.proofs.ends.Ends.answer_pick.Goals as goal

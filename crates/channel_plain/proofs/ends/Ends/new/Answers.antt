@@ -1,13 +1,7 @@
-use Rattle.std.proofs.Common.{rules, ◌≡◌, ◌∙◌, ℕ, Bool, true, false, List, [], length, replicate, refl, sym, ap, subst}
+use Rattle.std.proofs.Common.{◌∙◌, ℕ, List, sym, ap, subst}
 use Rattle.pcc_bytes.specs.Bytes.{IsBytes}
 use Rattle.shmem_header.specs.Spelling.{words_of}
 use Rattle.pcc_steps.specs.Wires.{opening_words}
-use Rattle.pcc_steps.specs.Asking.{Ask}
-use Rattle.pcc_steps.specs.Answering.{Answer}
-use Rattle.channel_plain.specs.Picks.{CallBook, PlainState}
-use Rattle.channel_plain.specs.Holding.{Executions}
-use Rattle.channel_plain.specs.News.{opening_of}
-use Rattle.channel_plain.specs.Standing.{Holds}
 use Rattle.channel_plain.proofs.Starts.{new_holds}
 use Rattle.channel_plain.proofs.ends.Ends.new.Goals as goal
 

@@ -1,16 +1,16 @@
-use Rattle.std.proofs.Common.{rules, ◌≡◌, ◌<◌, ◌≤◌, ◌^◌, ℕ, Bool, true, false, List, length, refl, sym, ap, ◌∙◌, subst}
+use Rattle.std.proofs.Common.{◌≡◌, ◌<◌, ◌≤◌, ℕ, Bool, true, false, List, length, refl, sym, ap, ◌∙◌, subst}
 use Rattle.std.specs.Prelude.{ltb}
 use Rattle.pcc_bytes.specs.Bytes.{IsBytes}
 use Rattle.pcc_steps.specs.declared.ask.AskStage.TheVariants.{AskRest}
 use Rattle.pcc_steps.specs.Wires.{style_of}
 use Rattle.pcc_steps.specs.Asking.{Ask, CodeFits, ask_begun}
 use Rattle.channel_plain.specs.declared.trace.Asked.{Asked}
-use Rattle.channel_plain.specs.Picks.{CallBook, PlainState, ask_stepped, call_begun, call_ended, call_posted, earliest_call, served}
+use Rattle.channel_plain.specs.Picks.{CallBook, PlainState, call_begun, call_ended, call_posted, earliest_call, served}
 use Rattle.channel_plain.specs.Holding.{Executions, Takes}
 use Rattle.channel_plain.specs.Standing.{Holds}
-use Rattle.channel_plain.specs.Steps.{IsPick, Reads, begun_with, budget_by}
+use Rattle.channel_plain.specs.Steps.{Reads, begun_with, budget_by}
 use Rattle.channel_plain.proofs.Keeps.{posted_holds, ready_more, rest_holds}
-use Rattle.channel_plain.proofs.Posts.{Soon, no_reading, post_pick, post_reads, soon_pick, soon_reads, tried_none, tried_some}
+use Rattle.channel_plain.proofs.Posts.{no_reading, post_pick, post_reads, soon_pick, soon_reads, tried_none, tried_some}
 use Rattle.channel_plain.proofs.ends.Ends.post.Goals as goal
 
 pub invariant_of-self-in-Some : goal.invariant_of-self-in-Some

@@ -1,11 +1,7 @@
-use Rattle.std.proofs.Common.{rules, ◌≡◌, ◌≢◌, ◌<◌, ◌^◌, ℕ, Bool, List, length, take, drop, ◌++◌, refl, sym, ap, ◌∙◌, subst}
+use Rattle.std.proofs.Common.{rules, ◌≡◌, ◌≢◌, ℕ, List, length, take, drop, ◌++◌, sym, ap, ◌∙◌, subst}
 use Rattle.pcc_steps.specs.declared.wiring.Action.{Action}
-use Rattle.pcc_steps.specs.declared.ask.AskStage.{AskStage}
 use Rattle.pcc_steps.specs.declared.ask.AskStage.TheVariants.{AskRest}
-use Rattle.pcc_steps.specs.Agree.{act}
 use Rattle.channel_plain.specs.Picks.{PlainState, found}
-use Rattle.channel_plain.specs.Holding.{FliesIf}
-use Rattle.channel_plain.specs.Standing.{Holds}
 use Rattle.channel_plain.proofs.Keeps.{told_flies, told_holds, whole}
 use Rattle.channel_plain.proofs.ends.Ends.step.Goals as goal
 

@@ -1,4 +1,4 @@
-use Rattle.std.proofs.Common.{rules, ℕ, sym, subst}
+use Rattle.std.proofs.Common.{sym, subst}
 use Rattle.channel_plain.specs.Picks.{PlainState}
 use Rattle.channel_plain.specs.Standing.{IsServing}
 use Rattle.channel_plain.proofs.Goods.{is_good}
