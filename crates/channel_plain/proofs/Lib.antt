@@ -11,6 +11,7 @@ pub mod AskTurns
 pub mod AnswerTurns
 pub mod Kepts
 pub mod WordRunOf
+pub mod WholeOf
 pub mod Goods
 pub mod Polls
 pub mod Stayings

@@ -1,6 +1,7 @@
 pub mod TraceText
 pub mod Picks
 pub mod WordRuns
+pub mod Wholes
 pub mod WorkedPicks
 pub mod Holding
 pub mod Standing

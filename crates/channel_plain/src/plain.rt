@@ -12,6 +12,7 @@ ghost use Rattle.channel_plain.specs.Steps.{Reads};
 ghost use Rattle.channel_plain.specs.News.{IsNew, opening_of};
 ghost use Rattle.channel_plain.specs.Weaving.{IsFresh, PicksOnce, Readings, Wove};
 ghost use Rattle.channel_plain.specs.WordRuns.{WordRun, flown};
+ghost use Rattle.channel_plain.specs.Wholes.{IsWhole};
 ghost use Rattle.channel_plain.specs.Good.{IsGood, Stays};
 
 use crate::ends::Ends;
@@ -150,6 +151,7 @@ pub fn weave<E: Executor, K: Clock>(
         × WordRun E.exec_of plain.old.ends.ask.wiring plain.old.ends.calls.limits plain.old.ends.start (opening_of plain.old.ends.ask.wiring) calls.now picks.now trace readings
         plain.new.ends.calls.records (flown plain.new.ends.ask.in_flight plain.new.ends.calls.sent) (exchanges_of_commands plain.new.ends.executed)) }
     ensures good { IsGood E.exec_of plain.new.ends }
+    ensures whole { IfOk result (λ _. IsWhole (opening_of plain.old.ends.ask.wiring) calls.now plain.new.ends.calls.records) }
     ensures stays { IfOk result (λ _. Stays plain.old.ends plain.new.ends) }
 {
     let trace = pick_all(alloc, plain, calls, picks);

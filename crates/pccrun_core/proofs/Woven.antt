@@ -34,6 +34,7 @@ use Rattle.channel_plain.specs.Picks.{CallBook, PlainState, command_in, pending_
 use Rattle.channel_plain.specs.Standing.{HavePolls}
 use Rattle.channel_plain.specs.TraceText.{trace_text}
 use Rattle.channel_plain.specs.Weaving.{Readings, reads, unread}
+use Rattle.channel_plain.specs.Wholes.{IsWhole}
 use Rattle.channel_plain.specs.WordRuns.{WordRun, flown}
 use Rattle.pccrun_core.specs.SetUp.{IsPromptCall, head_of}
 use Rattle.pccrun_core.specs.Weaving.{AreReadings, IsWoven, asked_by, side_of}
@@ -132,9 +133,9 @@ pub is_woven : (s : Scenario) (t : Table) (u : Subspace) (letters : List Letter)
     → IsNew w limits state begin → clock0 ≡ line_clock s → calls ≡ map asked_by s.actions → sides ≡ map side_of letters
     → Readings ticks_of line_tells clock0 rs clock → length rs ≤ length sides
     → WordRun bank_exec begin.ask.wiring begin.calls.limits begin.start (opening_of begin.ask.wiring) calls sides trace rs end.calls.records (flown end.ask.in_flight end.calls.sent) (exchanges_of_commands end.executed)
-    → IsGood bank_exec end → Stays begin end
+    → IsGood bank_exec end → IsWhole (opening_of begin.ask.wiring) calls end.calls.records → Stays begin end
     → text ≡ trace_text trace ++ journal_text (head_of 0 u) end.calls.records (pending_by end.ask.in_flight end.calls.sent) → IsWoven s t text
-is_woven s t u letters w limits state begin end clock0 clock calls sides trace rs text first chosen few wired limited stated new clocked called sided readings bound run good stay is =
+is_woven s t u letters w limits state begin end clock0 clock calls sides trace rs text first chosen few wired limited stated new clocked called sided readings bound run good whole stay is =
     let n : length (map side_of letters) ≡ length letters = length-map letters side_of in
     let m : length sides ≡ length (map side_of letters) = ap length sided in
     let wires : begin.ask.wiring ≡ wiring_of 0 t.flags u = new.ask.0 ∙ wired in
@@ -144,6 +145,7 @@ is_woven s t u letters w limits state begin end clock0 clock calls sides trace r
     let C : LineState → Type 0 = λ c. Readings ticks_of line_tells c rs clock in
     let reports : end.ask.wiring.reports ≡ true = ap (λ (x : Wiring). x.reports) (stay.wiring ∙ wires) in
     let L : Bool × List ℕ → Type 0 = λ z. Legal bank_exec z.0 z.1 (exchanges_of end.calls.records) in
+    let W : Wiring × List Asked → Type 0 = λ z. IsWhole (opening_of z.0) z.1 end.calls.records in
     let K : Limits → Type 0 = λ l. WithinLimits l (times_of end.calls.records) (post_of (flown end.ask.in_flight end.calls.sent)) in
     record {
       subspace = u;
@@ -158,6 +160,7 @@ is_woven s t u letters w limits state begin end clock0 clock calls sides trace r
       run = subst R (λ i. (wires i, lims i, start i, called i, sided i)) run;
       read = (ticked s rs clock (omega arith) (subst C clocked readings)).read;
       legal = subst L (λ i. (reports i, (stay.start ∙ start) i)) good.legal;
+      whole = subst W (λ i. (wires i, called i)) whole;
       limits = subst K (stay.limits ∙ lims) (limits_flown end.calls.limits (times_of end.calls.records) end.ask.in_flight end.calls.sent good.limits);
       text_is = is ∙ ap (λ (p : _). trace_text trace ++ journal_text (head_of 0 u) end.calls.records p) (pending_flown end.ask.in_flight end.calls.sent);
     }

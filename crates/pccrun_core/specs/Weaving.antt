@@ -23,6 +23,7 @@ use Rattle.channel_plain.specs.declared.trace.TraceLine.{TraceLine}
 use Rattle.channel_plain.specs.Holding.{post_of}
 use Rattle.channel_plain.specs.Picks.{command_in}
 use Rattle.channel_plain.specs.TraceText.{trace_text}
+use Rattle.channel_plain.specs.Wholes.{IsWhole}
 use Rattle.channel_plain.specs.WordRuns.{WordRun}
 use Rattle.pccrun_core.specs.SetUp.{head_of}
 use Rattle.pccrun_core.specs.Wirings.{wiring_of}
@@ -45,7 +46,7 @@ abbrev pub AreReadings : Scenario → List ℕ → Type 0
 AreReadings s readings = (k : ℕ) → k < length readings → get_or readings k 0 ≡ line_reading s.start s.step 0 k
 
 -- The text is a trace and its journal. The trace is a run of single words on the first structure, for the calls and the letters of the script,
--- and it leaves these records and this command in flight. They are a legal history and keep the limits.
+-- and it leaves these records and this command in flight. They are a legal and whole history and keep the limits.
 pub record IsWoven (s : Scenario) (t : Table) (text : List ℕ) : Type 0 where
   pub subspace : Subspace
   pub first : slice_get t.subspaces 0 ≡ Some subspace
@@ -60,5 +61,6 @@ pub record IsWoven (s : Scenario) (t : Table) (text : List ℕ) : Type 0 where
       (map asked_by s.actions) (map side_of letters) trace readings records sent executed
   pub read : AreReadings s readings
   pub legal : Legal bank_exec true (0 ∷ replicate (head_of 0 subspace).room 0) (exchanges_of records)
+  pub whole : IsWhole (replicate (head_of 0 subspace).room 0) (map asked_by s.actions) records
   pub limits : WithinLimits (head_of 0 subspace).limits (times_of records) (post_of sent)
   pub text_is : text ≡ trace_text trace ++ journal_text (head_of 0 subspace) records (command_in sent)

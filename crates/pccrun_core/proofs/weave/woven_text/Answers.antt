@@ -19,5 +19,5 @@ returns c =
     c.in_ok-plain.plain.ends c.weave.new.plain.ends c.in_ok-plain.plain.clock c.weave.new.plain.clock c.deref.result.now c.deref-2.result.now c.in_ok-trace.trace c.in_ok-trace.ensures.run.0 c.put_journal.new.out.items
     c.requires.first c.requires.picks (rw c.requires.picks at c.requires.within.picks).1 wired (ap (λ (h : JournalHead). h.limits) head)
     (c.in_ok-new.ensures ∙ ap (λ (h : JournalHead). 0 ∷ replicate h.room 0) head) c.in_ok-plain.ensures.new (c.in_ok-plain.ensures.clock ∙ c.new-2.ensures)
-    (c.deref.ensures.value ∙ c.in_ok-calls.ensures) (c.deref-2.ensures.value ∙ c.in_ok-sides.ensures) c.in_ok-trace.ensures.run.1 c.in_ok-trace.ensures.run.2 c.in_ok-trace.ensures.run.3 c.in_ok-trace.ensures.good c.in_ok-trace.ensures.stays
+    (c.deref.ensures.value ∙ c.in_ok-calls.ensures) (c.deref-2.ensures.value ∙ c.in_ok-sides.ensures) c.in_ok-trace.ensures.run.1 c.in_ok-trace.ensures.run.2 c.in_ok-trace.ensures.run.3 c.in_ok-trace.ensures.good c.in_ok-trace.ensures.whole c.in_ok-trace.ensures.stays
     (rw (c.in_ok-out.ensures, head, c.as_slice.ensures, c.journal.ensures, c.pending.ensures) at c.in_ok-put_journal.ensures)
