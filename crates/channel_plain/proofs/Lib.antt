@@ -6,6 +6,7 @@ pub mod AskPicks
 pub mod Starts
 pub mod ServeKeeps
 pub mod Weaves
+pub mod Lined
 pub mod WordSteps
 pub mod AskTurns
 pub mod AnswerTurns

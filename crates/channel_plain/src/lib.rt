@@ -14,7 +14,7 @@ mod text;
 mod trace;
 mod worked;
 
-pub use plain::{Plain, weave};
+pub use plain::{Plain, weave, weave_lines};
 pub use sent::{Flight, Sent};
 pub use text::trace_lines;
 pub use trace::{Asked, Side, Trace, TraceEnd, TraceLine};

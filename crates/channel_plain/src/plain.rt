@@ -1,10 +1,12 @@
 //! A channel on a plain list of words with its clock, and a whole run of picks.
 
-ghost use Rattle.std.specs.Prelude.{◌≡◌, ◌≤◌, List, ℕ, IfOk, OnErr, length};
+ghost use Rattle.std.specs.Prelude.{◌≡◌, ◌≤◌, ◌++◌, List, ℕ, IfOk, OnErr, OnOk, length};
 ghost use Rattle.std.specs.Option.{option_copied};
 ghost use Rattle.rate_limit.specs.RateLimits.{WithinLimits};
 ghost use Rattle.pcc_journal.specs.Records.{exchanges_of_commands, times_of};
 ghost use Rattle.pcc_steps.specs.Wires.{IsRight};
+ghost use Rattle.channel_plain.specs.declared.trace.TraceLine.{TraceLine};
+ghost use Rattle.channel_plain.specs.TraceText.{trace_text};
 ghost use Rattle.channel_plain.specs.Picks.{asks_by, pending_by, picked};
 ghost use Rattle.channel_plain.specs.Holding.{post_of};
 ghost use Rattle.channel_plain.specs.Standing.{HavePolls, IsServing, Stands};
@@ -17,6 +19,7 @@ ghost use Rattle.channel_plain.specs.Good.{IsGood, Stays};
 
 use crate::ends::Ends;
 use crate::pick::Pick;
+use crate::text::put_line;
 use crate::trace::{Asked, Side, Trace, TraceLine};
 use pcc_exec::Executor;
 use pcc_io::{Clock, Items, NoMemory};
@@ -160,4 +163,53 @@ pub fn weave<E: Executor, K: Clock>(
     history_laws();
     plain.ends.stand();
     trace
+}
+
+/// The room that is taken ahead for the line of a pick, in bytes: most lines are shorter.
+const LINE_ROOM: usize = 64;
+
+// Picks in order, one after the other, with the text of each.
+#[tactic(auto, using(crate::proofs::Lined::lined_start, crate::proofs::Lined::lined_end))]
+fn put_picks<E: Executor, K: Clock>(
+    out: &mut Vec<u8>,
+    plain: &mut Plain<E, K>,
+    calls: &[Asked],
+    picks: &[Side],
+) -> Result<(), NoMemory>
+    requires fresh { IsFresh plain.old.ends }
+    requires polls { HavePolls calls.now }
+    ensures wove { OnOk result ((trace : List TraceLine) × (readings : List ℕ) × Wove K.taken K.tells E.exec_of calls.now E.is_state E.room_of plain.old.ends plain.old.clock picks.now trace readings plain.new.ends plain.new.clock
+        × (out.new.items ≡ out.old.items ++ trace_text trace)) }
+{
+    for place in 0..picks.len() {
+        let line = plain.pick(picks[place], calls)?;
+        put_line(out, &line)?;
+    }
+    Ok(())
+}
+
+/// Does what `weave` does and puts the text of the trace at the end of a text, as `trace_lines` has it. It keeps no trace.
+pub fn weave_lines<E: Executor, K: Clock>(
+    out: &mut Vec<u8>,
+    plain: &mut Plain<E, K>,
+    calls: &[Asked],
+    picks: &[Side],
+) -> Result<(), NoMemory>
+    requires fresh { IsFresh plain.old.ends }
+    requires polls { HavePolls calls.now }
+    ensures run { OnOk result ((trace : List TraceLine) × (readings : List ℕ) × Readings K.taken K.tells plain.old.clock readings plain.new.clock × (length readings ≤ length picks.now)
+        × WordRun E.exec_of plain.old.ends.ask.wiring plain.old.ends.calls.limits plain.old.ends.start (opening_of plain.old.ends.ask.wiring) calls.now picks.now trace readings
+        plain.new.ends.calls.records (flown plain.new.ends.ask.in_flight plain.new.ends.calls.sent) (exchanges_of_commands plain.new.ends.executed)
+        × (out.new.items ≡ out.old.items ++ trace_text trace)) }
+    ensures good { OnOk result (IsGood E.exec_of plain.new.ends) }
+    ensures whole { OnOk result (IsWhole (opening_of plain.old.ends.ask.wiring) calls.now plain.new.ends.calls.records) }
+    ensures stays { OnOk result (Stays plain.old.ends plain.new.ends) }
+{
+    out.reserve(picks.len().saturating_mul(LINE_ROOM))?;
+    put_picks(out, plain, calls, picks)?;
+    asking_tables();
+    answering_tables();
+    history_laws();
+    plain.ends.stand();
+    Ok(())
 }

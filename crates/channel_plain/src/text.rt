@@ -125,8 +125,9 @@ fn put_end(out: &mut Vec<u8>, end: TraceEnd) -> Result<(), NoMemory>
     }
 }
 
+/// Puts the line of a pick at the end.
 #[tactic(auto, unfolding(crate::specs::TraceText::trace_line_text), using(std::proofs::lemmas::List::append_assoc))]
-fn put_line(out: &mut Vec<u8>, line: &TraceLine) -> Result<(), NoMemory>
+pub(crate) fn put_line(out: &mut Vec<u8>, line: &TraceLine) -> Result<(), NoMemory>
     ensures { OnOk result (out.new.items ≡ out.old.items ++ trace_line_text line.now) }
 {
     put(out, letter(line.side))?;

@@ -12,7 +12,7 @@ use crate::command::Command;
 use crate::refusal::CommandError;
 use crate::script::{Served, head_for, served_script};
 use crate::wiring::wiring_of;
-use channel_plain::{Asked, Plain, Side, trace_lines, weave as woven};
+use channel_plain::{Asked, Plain, Side, weave_lines};
 use pcc_exec::Bank;
 use pcc_io::{Bytes, LineClock, NoMemory};
 use pcc_journal::put_journal;
@@ -100,8 +100,8 @@ fn woven_text(
         head.limits,
         LineClock::new(scenario.start, scenario.step),
     )?;
-    let trace = woven(alloc, &mut plain, &calls, &sides)?;
-    let mut out = trace_lines(alloc, &trace)?;
+    let mut out = Vec::new(alloc);
+    weave_lines(&mut out, &mut plain, &calls, &sides)?;
     put_journal(&mut out, &head, plain.journal().as_slice(), plain.pending())?;
     Ok(out)
 }
