@@ -1,12 +1,12 @@
 //! The calls, and what came of their commands.
 
-ghost use Rattle.std.specs.Prelude.{◌≡◌, ◌≤◌, ◌<◌, ◌-◌, ◌^◌, ◌++◌, ℕ, [], true, false, None, length, IfOk, OnErr};
+ghost use Rattle.std.specs.Prelude.{◌≡◌, ◌≤◌, ◌<◌, ◌-◌, ◌^◌, ℕ, [], true, false, None, length, IfOk, OnErr};
 ghost use Rattle.std.specs.Option.{option_copied};
 ghost use Rattle.rate_limit.specs.RateLimits.{WithinLimits};
 ghost use Rattle.pcc_journal.specs.Records.{times_of};
 ghost use Rattle.pcc_history.specs.Channel.{over};
 ghost use Rattle.pcc_steps.specs.Agree.{flying};
-ghost use Rattle.channel_plain.specs.Picks.{ask_ended, call_begun, call_ended, clear_ended, command_in, drain_ended, earliest_call, refusal_of, takes_reading};
+ghost use Rattle.channel_plain.specs.Picks.{ask_ended, call_begun, call_ended, clear_ended, command_in, drain_ended, refusal_of, takes_reading};
 ghost use Rattle.channel_plain.specs.Holding.{FliesIf, FliesWith, Takes, post_of, tried};
 
 use crate::memory::zeros;

@@ -1,6 +1,6 @@
 //! Both ends of a channel on a plain list of words: each pick of an end is one word step.
 
-ghost use Rattle.std.specs.Prelude.{◌≡◌, ◌≢◌, ◌≤◌, ◌<◌, ◌-◌, ◌^◌, ℕ, [], true, false, None, List, length, replicate, IfOk, IsSome, OnErr};
+ghost use Rattle.std.specs.Prelude.{◌≡◌, ◌≢◌, ◌≤◌, ◌<◌, ◌-◌, ◌^◌, true, false, None, length, IfOk, IsSome, OnErr};
 ghost use Rattle.std.specs.List.{slice_get};
 ghost use Rattle.std.specs.Option.{option_copied};
 ghost use Rattle.rate_limit.specs.RateLimits.{WithinLimits};
@@ -12,7 +12,7 @@ ghost use Rattle.pcc_steps.specs.Asking.{CodeFits};
 ghost use Rattle.channel_plain.specs.declared.trace.Asked.{Asked};
 ghost use Rattle.channel_plain.specs.Picks.{answer_end, answer_picked, ask_picked_at, ask_stepped, begins, from_rest, pending_by, served};
 ghost use Rattle.channel_plain.specs.Holding.{post_of};
-ghost use Rattle.channel_plain.specs.Standing.{HavePolls, IsServing, Stands, is_rest};
+ghost use Rattle.channel_plain.specs.Standing.{HavePolls, IsServing, Stands};
 ghost use Rattle.channel_plain.specs.Steps.{IsPick, Reads, begun_with, budget_by, looking};
 ghost use Rattle.channel_plain.specs.News.{IsNew};
 

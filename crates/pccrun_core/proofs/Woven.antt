@@ -6,7 +6,6 @@ use Rattle.std.proofs.lemmas.Bool.{le-ltb, ltb-false, ltb-true}
 use Rattle.std.proofs.lemmas.List.{get_or_append_left, length-append, length-map}
 use Rattle.std.proofs.Math.Seq.{get_or-append_seam}
 use Rattle.pcc_causes.specs.Clock.{line_reading}
-use Rattle.pcc_history.specs.Channel.{Exchange}
 use Rattle.pcc_history.specs.Devices.{bank_exec}
 use Rattle.pcc_history.specs.Histories.{Legal}
 use Rattle.pcc_io.specs.LineClocks.{LineState, line_tells}

@@ -4,7 +4,7 @@ use Rattle.pcc_gas.specs.declared.address.Gas.{Gas}
 use Rattle.pcc_gas.specs.declared.mask.Masks.{Masks}
 use Rattle.pcc_steps.specs.declared.wiring.Wiring.{Wiring}
 use Rattle.pcct_table.specs.declared.subspace.Subspace.{Subspace}
-use Rattle.pcct_table.specs.declared.subspace.Subspace.TheVariants.{Generic, HwReduced1, HwReduced2, Initiator, Responder, HwRegister}
+use Rattle.pcct_table.specs.declared.subspace.Subspace.TheVariants.{Generic, HwReduced1, HwReduced2}
 use Rattle.pcct_table.specs.Subspaces.{doorbell_of, kind_of, memory_len_of}
 
 -- ---- the communication space

@@ -1,5 +1,5 @@
 //! Which subspaces of the types 0 to 2 are served, and how they are wired.
-ghost use Rattle.std.specs.Prelude.{◌≡◌, ◌↔◌, ◌≤◌, ◌⊎◌, ◌^◌, ◌<◌, true, IsTrue};
+ghost use Rattle.std.specs.Prelude.{◌≡◌, ◌↔◌, ◌≤◌, ◌<◌, true, IsTrue};
 ghost use Rattle.pcc_steps.specs.Wires.{IsRight};
 ghost use Rattle.pcct_table.specs.declared.subspace.Subspace.{Subspace};
 ghost use Rattle.pccrun_core.specs.Wirings.{AckPasses, IsRegister, IsServed, ack_of, bell_of, cut, has_ack, is_absent, masks_of, room_limit, room_of, wiring_of};
