@@ -18,20 +18,20 @@ use Rattle.pccrun_core.specs.Replies.{Reply, Done, BadCode, TooLong, JournalFull
 use Rattle.pccrun_core.specs.ReplyText.{StandsFor}
 use Rattle.pccrun_core.specs.declared.reply.Outcome.{Outcome}
 use Rattle.pccrun_core.specs.declared.reply.Outcome.TheVariants as outcome
-use Rattle.pccrun_core.specs.StepRun.{Answered, Call, ChannelState, answer_call, answer_unless, answer_behind, completed, exchange_with, has_byte_codes, journal_limit, next_reading, post_call, record_of, refusal_of}
+use Rattle.pccrun_core.specs.StepRun.{Answered, Call, ChannelState, answer_call, answer_unless, answer_behind, completed, exchange_with, is_bad_code, journal_limit, next_reading, post_call, record_of, refusal_of}
 use Rattle.pccrun_core.specs.BankChannels.{IsAnswered, IsOpen, OpenBank, bank_with, command_of, executed, read_once, start_of}
 
 -- ---- open Banks
 
-pub new_is_open : (b : OpenBank) → has_byte_codes b.head.kind ≡ true → b.head.reports ≡ true → b.now.in_flight ≡ None
+pub new_is_open : (b : OpenBank) → b.now.in_flight ≡ None
     → length b.now.object.space ≡ b.head.room → length b.now.object.state ≡ b.head.room + 1 → b.now.records ≡ [] → IsOpen b
-new_is_open b byte_codes reports rest space state none =
+new_is_open b rest space state none =
     let empty : length b.now.records ≡ 0 = ap length none in
-    record { byte_codes = byte_codes; reports = reports; at_rest = rest; space = space; state = state; few = omega arith }
+    record { at_rest = rest; space = space; state = state; few = omega arith }
 
 -- a reading leaves the Bank open
 pub read_is_open : (b : OpenBank) → IsOpen b → IsOpen (read_once b)
-read_is_open b h = record { byte_codes = h.byte_codes; reports = h.reports; at_rest = h.at_rest; space = h.space; state = h.state; few = h.few }
+read_is_open b h = record { at_rest = h.at_rest; space = h.space; state = h.state; few = h.few }
 
 -- ---- a Bank keeps the lengths of its state and of the space
 
@@ -61,7 +61,7 @@ executed_is_open b caller code bytes h room fits =
     let input : length (over b.now.object.space bytes) ≡ b.head.room = over-length b.now.object.space bytes (omega arith) ∙ h.space in
     let after : HasRoom b.head.room (bank_exec b.now.object.state code (over b.now.object.space bytes)) = bank_keeps_room b.head.room code b.now.object.state (over b.now.object.space bytes) input h.state in
     let one_more : length next.now.records ≡ length b.now.records + 1 = grind (arith, common_steps) in
-    record { byte_codes = h.byte_codes; reports = h.reports; at_rest = refl; space = after.space; state = after.state; few = omega arith }
+    record { at_rest = refl; space = after.space; state = after.state; few = omega arith }
 
 -- ---- answers
 
@@ -71,39 +71,34 @@ refused b call reply outcome e told =
     let P : Answered → Type 0 = λ x. StandsFor x.now.records outcome x.reply in
     record { told = subst P (sym a) told; left = ap (λ (x : Answered). record b { now = x.now }) (sym a) }
 
--- the code doesn't fit one byte
-pub bad_code : (b : OpenBank) (call : Call) → IsOpen b → 255 < call.code → IsAnswered b call b (outcome.BadCode call.code)
-bad_code b call h large =
-    let wide : nat_lt 255 call.code ≡ true = grind (arith, nat_tests) in
-    refused b call (BadCode call.code) (outcome.BadCode call.code) (rw (h.byte_codes, wide) refl) refl
+-- the code doesn't fit the header
+pub bad_code : (b : OpenBank) (call : Call) → is_bad_code b.head.kind call.code ≡ true → IsAnswered b call b (outcome.BadCode call.code)
+bad_code b call bad = refused b call (BadCode call.code) (outcome.BadCode call.code) (rw bad refl) refl
 
 -- the bytes don't fit the space
-pub too_long : (b : OpenBank) (call : Call) → IsOpen b → call.code ≤ 255 → b.head.room < length call.bytes → IsAnswered b call b (outcome.TooLong (length call.bytes) b.head.room)
+pub too_long : (b : OpenBank) (call : Call) → IsOpen b → is_bad_code b.head.kind call.code ≡ false → b.head.room < length call.bytes → IsAnswered b call b (outcome.TooLong (length call.bytes) b.head.room)
 too_long b call h small long =
-    let narrow : nat_lt 255 call.code ≡ false = grind (arith, nat_tests) in
     let over_room : nat_lt b.head.room (length call.bytes) ≡ true = grind (arith, nat_tests) in
-    refused b call (TooLong (length call.bytes) b.head.room) (outcome.TooLong (length call.bytes) b.head.room) (rw (h.byte_codes, narrow, over_room) refl) refl
+    refused b call (TooLong (length call.bytes) b.head.room) (outcome.TooLong (length call.bytes) b.head.room) (rw (small, over_room) refl) refl
 
 -- the journal has no place left
-pub journal_full : (b : OpenBank) (call : Call) → IsOpen b → call.code ≤ 255 → length call.bytes ≤ b.head.room → journal_limit ≤ length b.now.records → IsAnswered b call b outcome.JournalFull
+pub journal_full : (b : OpenBank) (call : Call) → IsOpen b → is_bad_code b.head.kind call.code ≡ false → length call.bytes ≤ b.head.room → journal_limit ≤ length b.now.records → IsAnswered b call b outcome.JournalFull
 journal_full b call h small short full =
-    let narrow : nat_lt 255 call.code ≡ false = grind (arith, nat_tests) in
     let in_room : nat_lt b.head.room (length call.bytes) ≡ false = grind (arith, nat_tests) in
     let all : nat_le journal_limit (length b.now.records + 0) ≡ true = grind (arith, nat_tests) in
-    refused b call JournalFull outcome.JournalFull (rw (h.byte_codes, narrow, in_room, h.at_rest, all) refl) refl
+    refused b call JournalFull outcome.JournalFull (rw (small, in_room, h.at_rest, all) refl) refl
 
 -- a call that is accepted is answered by the limits
-accepted : (b : OpenBank) (call : Call) → IsOpen b → call.code ≤ 255 → length call.bytes ≤ b.head.room → length b.now.records < journal_limit
+accepted : (b : OpenBank) (call : Call) → IsOpen b → is_bad_code b.head.kind call.code ≡ false → length call.bytes ≤ b.head.room → length b.now.records < journal_limit
     → answer_call (start_of b) call b.now ≡ post_call (start_of b) call b.now
 accepted b call h small short room =
-    let narrow : nat_lt 255 call.code ≡ false = grind (arith, nat_tests) in
     let in_room : nat_lt b.head.room (length call.bytes) ≡ false = grind (arith, nat_tests) in
     let some : nat_le journal_limit (length b.now.records + 0) ≡ false = grind (arith, nat_tests) in
-    let none : refusal_of b.head call b.now ≡ None = rw (h.byte_codes, narrow, in_room, h.at_rest, some) refl in
+    let none : refusal_of b.head call b.now ≡ None = rw (small, in_room, h.at_rest, some) refl in
     ap (answer_unless (start_of b) call b.now) none ∙ ap (answer_behind (start_of b) call b.now) h.at_rest
 
 -- the reading is below the earliest
-pub too_soon : (b : OpenBank) (call : Call) → IsOpen b → call.code ≤ 255 → length call.bytes ≤ b.head.room → length b.now.records < journal_limit
+pub too_soon : (b : OpenBank) (call : Call) → IsOpen b → is_bad_code b.head.kind call.code ≡ false → length call.bytes ≤ b.head.room → length b.now.records < journal_limit
     → next_reading (start_of b) b.now < earliest_of b.head.limits (times_of b.now.records)
     → IsAnswered b call (read_once b) (outcome.TooSoon (next_reading (start_of b) b.now) (earliest_of b.head.limits (times_of b.now.records)))
 too_soon b call h small short room below =
@@ -115,7 +110,7 @@ too_soon b call h small short room below =
     record { told = subst P (sym a) refl; left = ap (λ (x : Answered). record b { now = x.now }) (sym a) }
 
 -- executed in its call
-pub done : (b : OpenBank) (caller code : ℕ) (bytes : List ℕ) (polls hold : ℕ) → IsOpen b → code ≤ 255 → length bytes ≤ b.head.room → length b.now.records < journal_limit
+pub done : (b : OpenBank) (caller code : ℕ) (bytes : List ℕ) (polls hold : ℕ) → IsOpen b → is_bad_code b.head.kind code ≡ false → length bytes ≤ b.head.room → length b.now.records < journal_limit
     → earliest_of b.head.limits (times_of b.now.records) ≤ next_reading (start_of b) b.now → hold < polls
     → IsAnswered b (record { caller = caller; code = code; bytes = bytes; polls = polls; hold = hold }) (executed b caller code bytes) (outcome.Done (length b.now.records))
 done b caller code bytes polls hold h small short room in_time soon =
@@ -135,7 +130,7 @@ done b caller code bytes polls hold h small short room in_time soon =
     record { told = subst P (sym a) (r, placed, refl); left = ap (λ (x : Answered). record b { now = x.now }) (sym a) }
 
 -- the same of a Bank that a value stands for, and by the place of the record
-pub done_at : (x b new : OpenBank) (caller code : ℕ) (bytes : List ℕ) (place polls hold : ℕ) → x ≡ b → IsOpen x → code ≤ 255 → length bytes ≤ x.head.room → place ≡ length x.now.records → place < journal_limit
+pub done_at : (x b new : OpenBank) (caller code : ℕ) (bytes : List ℕ) (place polls hold : ℕ) → x ≡ b → IsOpen x → is_bad_code x.head.kind code ≡ false → length bytes ≤ x.head.room → place ≡ length x.now.records → place < journal_limit
     → earliest_of x.head.limits (times_of x.now.records) ≤ next_reading (start_of x) x.now → hold < polls
     → executed x caller code bytes ≡ new → IsAnswered b (record { caller = caller; code = code; bytes = bytes; polls = polls; hold = hold }) new (outcome.Done place)
 done_at x b new caller code bytes place polls hold same h small short is room in_time soon e =
@@ -168,17 +163,17 @@ ticks old new reading rest count few e = record {
 
 -- what a Bank keeps behind a command that was posted and executed at once
 pub executed_fields : (head : JournalHead) (clock posted completed_at : LineState) (state state' space space' : List ℕ) (records records' : List Record) (caller code : ℕ) (bytes input output : List ℕ) (error : Bool) (post done : ℕ)
-    → head.reports ≡ true → Ticks clock posted post → Ticks posted completed_at done
-    → object_after bank_exec state code (over space bytes) ≡ record { state = state'; space = space' } → error ≡ (bank_exec state code (over space bytes)).bad → input ≡ over space bytes → output ≡ space'
+    → Ticks clock posted post → Ticks posted completed_at done
+    → object_after bank_exec state code (over space bytes) ≡ record { state = state'; space = space' } → error ≡ both head.reports (bank_exec state code (over space bytes)).bad → input ≡ over space bytes → output ≡ space'
     → records' ≡ records ++ record { caller = caller; code = code; input = input; error = error; output = output; post = post; done = done; late = false } ∷ []
     → executed (bank_with head clock state space records) caller code bytes ≡ bank_with head completed_at state' space' records'
-executed_fields head clock posted completed_at state state' space space' records records' caller code bytes input output error post done reports p q object bad is_input is_output is_records =
+executed_fields head clock posted completed_at state state' space space' records records' caller code bytes input output error post done p q object bad is_input is_output is_records =
     let start : clock.start ≡ completed_at.start = sym (q.start ∙ p.start) in
     let step : clock.step ≡ completed_at.step = sym (q.step ∙ p.step) in
     let added : clock.added ≡ completed_at.added = sym (q.added ∙ p.added) in
     let taken : clock.taken + 1 + 1 ≡ completed_at.taken = sym (q.taken ∙ ap (λ (n : ℕ). n + 1) p.taken) in
     let done_is : line_reading clock.start clock.step clock.added (clock.taken + 1) ≡ done = sym (q.reading_is ∙ rw (p.start, p.step, p.added, p.taken) refl) in
-    let error_is : both head.reports (bank_exec state code (over space bytes)).bad ≡ error = ap (λ (b : Bool). both b (bank_exec state code (over space bytes)).bad) reports ∙ sym bad in
+    let error_is : both head.reports (bank_exec state code (over space bytes)).bad ≡ error = sym bad in
     let output_is : (bank_exec state code (over space bytes)).space ≡ output = ap (λ (o : Object). o.space) object ∙ sym is_output in
     let all : records ++ record { caller = caller; code = code; input = over space bytes; error = both head.reports (bank_exec state code (over space bytes)).bad; output = (bank_exec state code (over space bytes)).space; post = line_reading clock.start clock.step clock.added clock.taken; done = line_reading clock.start clock.step clock.added (clock.taken + 1); late = false } ∷ [] ≡ records' =
     (λ i. records ++ record { caller = caller; code = code; input = sym is_input i; error = error_is i; output = output_is i; post = sym p.reading_is i; done = done_is i; late = false } ∷ []) ∙ sym is_records in

@@ -3,8 +3,8 @@ pub mod Replies
 pub mod Calls
 pub mod Steps
 pub mod Actions
-pub mod Wired
 pub mod Weaves
 pub mod Woven
 pub mod Refused
 pub mod Tops
+mod Opens

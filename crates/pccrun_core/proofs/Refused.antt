@@ -1,6 +1,6 @@
 -- Why inputs are refused, and that no served input is.
 use Rattle.std.proofs.Common.{◌≡◌, ◌≢◌, ℕ, ◌+◌, ◌<◌, ◌≤◌, true, false, List, [], ◌++◌, length, take, drop, refl, sym, ap, ◌∙◌, subst, append_assoc, arith, Result, Ok, Err}
-use Rattle.std.specs.Prelude.{IsErrAnd, MatchResult, OnOk}
+use Rattle.std.specs.Prelude.{IsErrAnd, MatchResult, OnOk, Some, None}
 use Rattle.std.proofs.lemmas.List.{append-nil, length-append, length-drop, length-take, take-append-drop}
 use Rattle.pcc_script.specs.Faults.{IsReadAs}
 use Rattle.pcc_script.specs.Text.{IsScenario, script_text, statements_of}
@@ -25,7 +25,9 @@ use Rattle.pccrun_core.specs.declared.refusal.CommandError.{CommandError}
 use Rattle.pccrun_core.specs.declared.refusal.CommandError.TheVariants as error
 use Rattle.pccrun_core.specs.declared.refusal.Refusal.{Refusal}
 use Rattle.pccrun_core.specs.declared.refusal.Refusal.TheVariants as refusal
-use Rattle.pccrun_core.specs.Refusals.{Followed, IsRefusedFor, IsScript, IsTold, NoScript, NoTable, NotServed, ScriptRefused, TableRefused, TextRefused, Wrong, WrongLine}
+use Rattle.pccrun_core.specs.Refusals.{Followed, IsRefusedFor, IsScript, IsTold, NoScript, NoTable, NotOpened, ScriptRefused, TableRefused, TextRefused, Wrong, WrongLine}
+use Rattle.pccrun_core.specs.declared.opening.OpenFault.{OpenFault}
+use Rattle.pccrun_core.specs.Openings.{open_fault}
 use Rattle.pccrun_core.specs.SetUp.{HasPicks, IsPromptScript, IsServedTable}
 
 -- an error that is passed on
@@ -37,6 +39,9 @@ passed Q P (Err f) e h p = subst P (sym h) p
 pub put_behind : {E T : Type 0} (r : Result T E) (old mid new front back : List ℕ) → mid ≡ old ++ front → OnOk r (new ≡ mid ++ back) → OnOk r (new ≡ old ++ (front ++ back))
 put_behind {E = E} {T = T} (Ok v) old mid new front back e h = h ∙ ap (λ (v : List ℕ). v ++ back) e ∙ append_assoc old front back
 put_behind {E = E} {T = T} (Err x) old mid new front back e h = h
+
+pub three_before : (a b c back : List ℕ) → (a ++ (b ++ (c ++ []))) ++ back ≡ a ++ (b ++ (c ++ back))
+three_before a b c back = simp (append_assoc, append-nil)
 
 -- ---- tables
 
@@ -110,9 +115,9 @@ pub no_table : (cmd : Command) (text : List ℕ) (s : Scenario) (e : CommandErro
 no_table cmd text s (error.Refused r) h k = (NoTable s h r k.0, k.1)
 no_table cmd text s error.NoMemory h k = tt
 
--- the first structure of a script's table isn't served
-pub not_served : (cmd : Command) (text : List ℕ) (s : Scenario) (t : Table) (bytes : List ℕ) → IsScript cmd text s → bytes ≡ s.table → TableBytes bytes t → (IsServedTable t → ⊥) → ScriptRefused cmd text refusal.Unbuilt
-not_served cmd text s t bytes h same spelled never = let P : List ℕ → Type 0 = λ v. TableBytes v t in NotServed s h t (subst P same spelled) never
+-- the first structure of a script's table can't be opened
+pub not_opened : (cmd : Command) (text : List ℕ) (s : Scenario) (t : Table) (bytes : List ℕ) (fault : OpenFault) → IsScript cmd text s → bytes ≡ s.table → TableBytes bytes t → open_fault 0 t ≡ Some fault → ScriptRefused cmd text (refusal.Open 0 fault)
+not_opened cmd text s t bytes fault h same spelled is = let P : List ℕ → Type 0 = λ v. TableBytes v t in NotOpened s h t (subst P same spelled) fault is
 
 -- a served script is not refused
 pub script_kept : (cmd : Command) (text : List ℕ) (s : Scenario) (t : Table) (r : Refusal) → IsScript cmd text s → TableBytes s.table t → IsServedTable t → ScriptRefused cmd text r → ⊥
@@ -121,8 +126,9 @@ script_kept cmd text s t r h table served (NoTable u k q refused) =
     let same : u ≡ s = one_scenario cmd text u s k h in
     let P : Scenario → Type 0 = λ v. TableRefused v.table q in
     table_kept s.table t q table (subst P same refused)
-script_kept cmd text s t r h table served (NotServed u k v spelled never) =
+script_kept cmd text s t r h table served (NotOpened u k v spelled fault is) =
     let same : u ≡ s = one_scenario cmd text u s k h in
     let P : Scenario → Type 0 = λ w. TableBytes w.table v in
     let one : v ≡ t = one_table s.table v t (subst P same spelled) table in
-    never (subst IsServedTable (sym one) served)
+    let opened : open_fault 0 v ≡ None = subst IsServedTable (sym one) served in
+    absurd cc

@@ -18,7 +18,8 @@ use Rattle.pccrun_core.specs.Answers.{Answers, AsksFor, IsMade, IsServedInput, I
 use Rattle.pccrun_core.specs.BankChannels.{bank_start}
 use Rattle.pccrun_core.specs.Histories.{AreHistories}
 use Rattle.pccrun_core.specs.Refusals.{Refuses, WrongLine, refused_line}
-use Rattle.pccrun_core.specs.SetUp.{IsPromptScript, channels_of, clock_of, head_of, run_of, set_up_of, step_text}
+use Rattle.pccrun_core.specs.Openings.{head_of}
+use Rattle.pccrun_core.specs.SetUp.{IsPromptScript, channels_of, clock_of, run_of, set_up_of, step_text}
 use Rattle.pccrun_core.specs.StepRun.{Channel, fresh, step_run}
 use Rattle.pccrun_core.proofs.Histories.{run_histories}
 use Rattle.pccrun_core.proofs.Refused.{script_kept, table_kept}

@@ -1,12 +1,12 @@
 -- A Bank's channel whose commands are executed in their calls.
-use Rattle.std.specs.Prelude.{◌≡◌, ◌≤◌, ℕ, ◌+◌, true, false, List, ◌∷◌, length, replicate, None}
+use Rattle.std.specs.Prelude.{◌≡◌, ◌≤◌, ℕ, ◌+◌, false, List, ◌∷◌, length, replicate, None}
 use Rattle.pcc_history.specs.Devices.{bank_exec}
 use Rattle.pcc_history.specs.Channel.{over}
 use Rattle.pcc_io.specs.LineClocks.{LineState}
 use Rattle.pcc_journal.specs.declared.text.JournalHead.{JournalHead}
 use Rattle.pcc_journal.specs.declared.record.Record.{Record}
 use Rattle.pcc_journal.specs.declared.record.Pending.{Pending}
-use Rattle.pccrun_core.specs.StepRun.{Call, Channel, ChannelStart, ChannelState, ScriptClock, answer_call, completed, fresh, has_byte_codes, journal_limit, next_reading}
+use Rattle.pccrun_core.specs.StepRun.{Call, Channel, ChannelStart, ChannelState, ScriptClock, answer_call, completed, fresh, journal_limit, next_reading}
 use Rattle.pccrun_core.specs.ReplyText.{StandsFor}
 use Rattle.pccrun_core.specs.declared.reply.Outcome.{Outcome}
 
@@ -38,10 +38,8 @@ bank_with head clock state space records = record {
   now = record { object = record { state = state; space = space }; records = records; in_flight = None; taken = clock.taken; added = clock.added };
 }
 
--- on a subspace of the types 0 to 2 nothing is in flight, device and space have the room, and the journal has its records at most
+-- nothing is in flight, device and space have the room, and the journal has its records at most
 pub record IsOpen (b : OpenBank) : Type 0 where
-  pub byte_codes : has_byte_codes b.head.kind ≡ true
-  pub reports : b.head.reports ≡ true
   pub at_rest : b.now.in_flight ≡ None
   pub space : length b.now.object.space ≡ b.head.room
   pub state : length b.now.object.state ≡ b.head.room + 1

@@ -3,7 +3,7 @@ pub mod StepRun
 pub mod Histories
 pub mod ReplyText
 pub mod BankChannels
-pub mod Wirings
+pub mod Openings
 pub mod SetUp
 pub mod Weaving
 pub mod Refusals

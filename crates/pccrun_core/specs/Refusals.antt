@@ -1,5 +1,5 @@
 -- Why an input is refused, and the one line that tells it.
-use Rattle.std.specs.Prelude.{◌≡◌, ◌≤◌, ℕ, true, List, [], ◌∷◌, ◌++◌, length, codes}
+use Rattle.std.specs.Prelude.{◌≡◌, ◌≤◌, ℕ, true, List, [], ◌∷◌, ◌++◌, length, codes, Some}
 use Rattle.pcc_text.specs.Pieces.{Spelled, Words, Decimal, spelled}
 use Rattle.pcc_script.specs.Text.{IsScenario, script_text}
 use Rattle.pcc_script.specs.declared.scenario.Scenario.{Scenario}
@@ -18,7 +18,9 @@ use Rattle.pccrun_core.specs.declared.refusal.CommandError.{CommandError}
 use Rattle.pccrun_core.specs.declared.refusal.CommandError.TheVariants as error
 use Rattle.pccrun_core.specs.declared.refusal.Refusal.{Refusal}
 use Rattle.pccrun_core.specs.declared.refusal.Refusal.TheVariants as refusal
-use Rattle.pccrun_core.specs.SetUp.{HasPicks, IsPromptScript, IsServedTable}
+use Rattle.pccrun_core.specs.declared.opening.OpenFault.{OpenFault}
+use Rattle.pccrun_core.specs.Openings.{open_fault, open_pieces}
+use Rattle.pccrun_core.specs.SetUp.{HasPicks, IsPromptScript}
 
 -- ---- the line
 
@@ -46,6 +48,7 @@ refusal_pieces refusal.Long = Words (codes "long") ∷ []
 refusal_pieces (refusal.Table fault) = Words (codes "table ") ∷ fault_pieces fault
 refusal_pieces (refusal.Trailing at) = Words (codes "table trailing ") ∷ Decimal at ∷ []
 refusal_pieces (refusal.Line line wrong) = Words (codes "line ") ∷ Decimal line ∷ Words (kind_word wrong) ∷ []
+refusal_pieces (refusal.Open id fault) = Words (codes "open ") ∷ Decimal id ∷ Words (codes " ") ∷ open_pieces fault
 refusal_pieces refusal.Unbuilt = Words (codes "unbuilt") ∷ []
 
 -- the line of a refused input
@@ -81,11 +84,11 @@ pub record IsScript (c : Command) (text : List ℕ) (s : Scenario) : Type 0 wher
   pub prompt : IsPromptScript s
   pub picks : HasPicks c s.picks
 
--- a text is that of no such scenario, or its table is refused, or its first structure isn't served so far
+-- a text is that of no such scenario, or its table is refused, or its first structure can't be opened
 pub data ScriptRefused (c : Command) (text : List ℕ) : Refusal → Type 0 where
   NoScript : ((s : Scenario) → IsScript c text s → ⊥) → ScriptRefused c text refusal.Unbuilt
   NoTable : (s : Scenario) → IsScript c text s → (r : Refusal) → TableRefused s.table r → ScriptRefused c text r
-  NotServed : (s : Scenario) → IsScript c text s → (t : Table) → TableBytes s.table t → (IsServedTable t → ⊥) → ScriptRefused c text refusal.Unbuilt
+  NotOpened : (s : Scenario) → IsScript c text s → (t : Table) → TableBytes s.table t → (fault : OpenFault) → open_fault 0 t ≡ Some fault → ScriptRefused c text (refusal.Open 0 fault)
 
 -- what a command refuses its whole input for
 abbrev pub Refuses : Command → List ℕ → Refusal → Type 0

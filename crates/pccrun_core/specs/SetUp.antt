@@ -3,8 +3,6 @@ use Rattle.std.specs.Prelude.{◌≡◌, ℕ, ◌+◌, true, false, List, [], �
 use Rattle.std.specs.List.{AllByRecursion, flat_map}
 use Rattle.pcct_table.specs.declared.subspace.Subspace.{Subspace}
 use Rattle.pcct_table.specs.declared.table.Table.{Table}
-use Rattle.pcct_table.specs.Subspaces.{kind_of, memory_len_of, rate_of, turnaround_of}
-use Rattle.pcc_journal.specs.declared.text.JournalHead.{JournalHead}
 use Rattle.pcc_journal.specs.JournalText.{journal_text}
 use Rattle.pcc_script.specs.declared.scenario.Device.TheVariants.{Bank}
 use Rattle.pcc_script.specs.declared.scenario.Line.{Line}
@@ -16,20 +14,9 @@ use Rattle.pccrun_core.specs.declared.command.Command.TheVariants as command
 use Rattle.pccrun_core.specs.BankChannels.{bank_start}
 use Rattle.pccrun_core.specs.ReplyText.{replies_text}
 use Rattle.pccrun_core.specs.StepRun.{Channel, Run, ScriptClock, fresh, pending_of, step_run}
-use Rattle.pccrun_core.specs.Wirings.{IsServed, room_of}
+use Rattle.pccrun_core.specs.Openings.{head_of, open_fault}
 
 -- ---- the opened subspaces
-
--- the head of the journal of a structure with this ID, of the types 0 to 2
-abbrev pub head_of : ℕ → Subspace → JournalHead
-head_of id s = record {
-  id = id;
-  kind = kind_of s;
-  cppc = false;
-  room = room_of (memory_len_of s);
-  limits = record { turnaround = turnaround_of s; per_minute = rate_of s };
-  reports = true;
-}
 
 abbrev pub clock_of : Scenario → ScriptClock
 clock_of s = record { start = s.start; step = s.step }
@@ -83,6 +70,6 @@ HasPicks command.Weave None = ⊥
 HasPicks _ (Some letters) = ⊥
 HasPicks _ None = Unit {0}
 
--- the first structure of a table is served
+-- the first structure of a table can be opened
 abbrev pub IsServedTable : Table → Type 0
-IsServedTable t = (s : Subspace) × (slice_get t.subspaces 0 ≡ Some s) × IsServed s
+IsServedTable t = open_fault 0 t ≡ None

@@ -89,10 +89,13 @@ pub record Answered : Type 0 where
 abbrev pub has_byte_codes : ℕ → Bool
 has_byte_codes kind = nat_le kind 2
 
+abbrev pub is_bad_code : ℕ → ℕ → Bool
+is_bad_code kind code = has_byte_codes kind && nat_lt 255 code
+
 -- a call that is refused by itself, or by a full journal
 abbrev pub refusal_of : JournalHead → Call → ChannelState → Option Reply
 refusal_of head call now =
-    if has_byte_codes head.kind && nat_lt 255 call.code then Some (BadCode call.code)
+    if is_bad_code head.kind call.code then Some (BadCode call.code)
     else if nat_lt head.room (length call.bytes) then Some (TooLong (length call.bytes) head.room)
     else if nat_le journal_limit (length now.records + count_in_flight now.in_flight) then Some JournalFull
     else None

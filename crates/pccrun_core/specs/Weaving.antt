@@ -1,5 +1,5 @@
 -- What `weave` prints: the trace of single word steps that the letters of a script pick, and the journal that comes of it.
-use Rattle.std.specs.Prelude.{◌≡◌, ◌<◌, ℕ, true, List, [], ◌∷◌, ◌++◌, length, map, replicate, get_or, slice_get, Option, Some}
+use Rattle.std.specs.Prelude.{◌≡◌, ◌<◌, ℕ, List, [], ◌∷◌, ◌++◌, length, map, replicate, get_or, slice_get, Option, Some}
 use Rattle.pcc_causes.specs.Clock.{line_reading}
 use Rattle.pcc_history.specs.Channel.{Exchange}
 use Rattle.pcc_history.specs.Devices.{bank_exec}
@@ -25,8 +25,8 @@ use Rattle.channel_plain.specs.Picks.{command_in}
 use Rattle.channel_plain.specs.TraceText.{trace_text}
 use Rattle.channel_plain.specs.Wholes.{IsWhole}
 use Rattle.channel_plain.specs.WordRuns.{WordRun}
-use Rattle.pccrun_core.specs.SetUp.{head_of}
-use Rattle.pccrun_core.specs.Wirings.{wiring_of}
+use Rattle.pcc_wiring.specs.Wirings.{wiring_with}
+use Rattle.pccrun_core.specs.Openings.{head_of}
 
 -- ---- the calls and the picks
 
@@ -57,10 +57,10 @@ pub record IsWoven (s : Scenario) (t : Table) (text : List ℕ) : Type 0 where
   pub records : List Record
   pub sent : Option Sent
   pub executed : List Exchange
-  pub run : WordRun bank_exec (wiring_of 0 t.flags subspace) (head_of 0 subspace).limits (0 ∷ replicate (head_of 0 subspace).room 0) (replicate (head_of 0 subspace).room 0)
+  pub run : WordRun bank_exec (wiring_with 0 t.flags subspace) (head_of 0 subspace).limits (0 ∷ replicate (head_of 0 subspace).room 0) (replicate (head_of 0 subspace).room 0)
       (map asked_by s.actions) (map side_of letters) trace readings records sent executed
   pub read : AreReadings s readings
-  pub legal : Legal bank_exec true (0 ∷ replicate (head_of 0 subspace).room 0) (exchanges_of records)
+  pub legal : Legal bank_exec (head_of 0 subspace).reports (0 ∷ replicate (head_of 0 subspace).room 0) (exchanges_of records)
   pub whole : IsWhole (replicate (head_of 0 subspace).room 0) (map asked_by s.actions) records
   pub limits : WithinLimits (head_of 0 subspace).limits (times_of records) (post_of sent)
   pub text_is : text ≡ trace_text trace ++ journal_text (head_of 0 subspace) records (command_in sent)

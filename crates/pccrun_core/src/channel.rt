@@ -1,11 +1,11 @@
 //! A Bank's channel in one thread: whole calls on its device, its communication space, its clock and its records.
-ghost use Rattle.std.specs.Prelude.{◌≡◌, ◌≤◌, ◌<◌, ◌+◌, ◌^◌, ◌++◌, ℕ, true, MatchOption, length, vec_len, vec_capacity, IfOk, OnErr};
+ghost use Rattle.std.specs.Prelude.{◌≡◌, ◌≤◌, ◌<◌, ◌+◌, ◌^◌, ◌++◌, ℕ, false, MatchOption, length, vec_len, vec_capacity, IfOk, OnErr};
 ghost use Rattle.pcc_history.specs.Devices.{bank_exec};
-ghost use Rattle.pcc_history.specs.Channel.{object_after, over};
+ghost use Rattle.pcc_history.specs.Channel.{both, object_after, over};
 ghost use Rattle.rate_limit.specs.RateLimits.{earliest_of};
 ghost use Rattle.pcc_exec.specs.Execution.{is_bad};
 ghost use Rattle.pccrun_core.specs.ReplyText.{IsPlaced};
-ghost use Rattle.pccrun_core.specs.StepRun.{has_byte_codes};
+ghost use Rattle.pccrun_core.specs.StepRun.{is_bad_code};
 ghost use Rattle.pccrun_core.specs.BankChannels.{IsAnswered, new_bank};
 
 use crate::reply::Outcome;
@@ -50,10 +50,18 @@ fn laid_over(alloc: Global, space: &[u8], bytes: &[u8]) -> Result<Vec<u8>, NoMem
     Ok(input)
 }
 
-fn is_error(status: ExecStatus) -> bool
-    ensures { result ≡ is_bad status }
+// Whether a code doesn't fit the header of a subspace of this type.
+fn is_bad_code(kind: u8, code: u32) -> bool
+    ensures { result ≡ is_bad_code kind code }
 {
-    status == ExecStatus::Bad
+    kind <= 2 && code > GREATEST_CODE
+}
+
+// A subspace that reports no errors tells none.
+fn is_error(reports: bool, status: ExecStatus) -> bool
+    ensures { result ≡ both reports (is_bad status) }
+{
+    reports && status == ExecStatus::Bad
 }
 
 // One whole call on a Bank and its space.
@@ -98,8 +106,6 @@ impl BankChannel {
         start: u64,
         step: u64,
     ) -> Result<BankChannel, NoMemory>
-        requires byte_codes { has_byte_codes head.kind ≡ true }
-        requires reports { head.reports ≡ true }
         ensures { IfOk result (λ b. b ≡ new_bank head (record { start = start; step = step })) }
     {
         Ok(BankChannel {
@@ -119,7 +125,7 @@ impl BankChannel {
     }
 
     /// Makes a call of a caller: a command of this code, whose input is the space with the bytes laid over its front. It is answered as the
-    /// line of a run whose command is held for fewer turns than it has polls, for every such hold. A code above 255, more bytes than
+    /// line of a run whose command is held for fewer turns than it has polls, for every such hold. A code above 255 on the types 0 to 2, more bytes than
     /// the space has, and a journal with 4,096 records are refused, in this order, and change nothing. A call that is too soon
     /// has moved the clock alone.
     #[tactic(auto, using(crate::proofs::Calls::bad_code, crate::proofs::Calls::too_long))]
@@ -139,7 +145,7 @@ impl BankChannel {
         ensures err { OnErr result (self.new ≡ self.old) }
     {
         let room = self.head.room;
-        if code > GREATEST_CODE {
+        if is_bad_code(self.head.kind, code) {
             return Ok(Outcome::BadCode { code });
         }
         let len = bytes.len();
@@ -158,7 +164,7 @@ impl BankChannel {
         bytes: &[u8],
     ) -> Result<Outcome, NoMemory>
         requires early { self.old.now.taken < 2 ^ 63 }
-        requires narrow { code ≤ GREATEST_CODE }
+        requires narrow { is_bad_code self.old.head.kind code ≡ false }
         requires fits { length bytes.now ≤ self.old.head.room }
         ensures answered { IfOk result (λ outcome. (polls hold : ℕ) → hold < polls
             → IsAnswered self.old (record { caller = caller; code = code; bytes = bytes.now; polls = polls; hold = hold }) self.new outcome) }
@@ -189,7 +195,7 @@ impl BankChannel {
             caller,
             code,
             input: Bytes::from_vec(input),
-            error: is_error(status),
+            error: is_error(self.head.reports, status),
             output: Bytes::from_vec(output),
             post,
             done,

@@ -3,6 +3,7 @@
 
 mod channel;
 mod command;
+mod opening;
 mod refusal;
 mod reply;
 mod script;
@@ -11,7 +12,6 @@ mod step;
 mod tables;
 mod top;
 mod weave;
-mod wiring;
 mod worked;
 
 pub use top::{Finished, run};

@@ -6,6 +6,7 @@ ghost use Rattle.pccrun_core.specs.declared.refusal.Refusal.TheVariants as refus
 ghost use Rattle.pccrun_core.specs.Refusals.{HasLine, IsTold, fault_pieces, refusal_pieces, refused_line};
 ghost use Rattle.pccrun_core.specs.declared.refusal.CommandError.TheVariants.{NoMemory as OutOfMemory};
 
+use crate::opening::{OpenFault, put_open_fault};
 use pcc_io::NoMemory;
 use pcc_text::{Piece, put, put_pieces};
 use pcct_codec::TableFault;
@@ -23,6 +24,8 @@ pub enum Refusal {
     Trailing { at: usize },
     /// The text is no table's: its first line that is wrong, from 1.
     Line { line: u32, kind: BuildKind },
+    /// The subspace with this ID can't be opened.
+    Open { id: u8, fault: OpenFault },
     /// A script that no part of the program serves yet.
     Unbuilt,
 }
@@ -113,6 +116,20 @@ fn put_line(out: &mut Vec<u8>, line: u32, kind: BuildKind) -> Result<(), NoMemor
     )
 }
 
+fn put_open(out: &mut Vec<u8>, id: u8, fault: OpenFault) -> Result<(), NoMemory>
+    ensures { OnOk result (out.new.items ≡ out.old.items ++ spelled (refusal_pieces (refusal.Open id fault))) }
+{
+    put_pieces(
+        out,
+        &[
+            Piece::Text(b"open "),
+            Piece::Number(id as u64),
+            Piece::Text(b" "),
+        ],
+    )?;
+    put_open_fault(out, fault)
+}
+
 fn put_refusal(out: &mut Vec<u8>, refusal: Refusal) -> Result<(), NoMemory>
     requires { HasLine refusal }
     ensures { OnOk result (out.new.items ≡ out.old.items ++ spelled (refusal_pieces refusal)) }
@@ -128,6 +145,7 @@ fn put_refusal(out: &mut Vec<u8>, refusal: Refusal) -> Result<(), NoMemory>
             &[Piece::Text(b"table trailing "), Piece::Number(at as u64)],
         ),
         Refusal::Line { line, kind } => put_line(out, line, kind),
+        Refusal::Open { id, fault } => put_open(out, id, fault),
         Refusal::Unbuilt => put_pieces(out, &[Piece::Text(b"unbuilt")]),
     }
 }

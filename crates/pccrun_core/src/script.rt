@@ -1,45 +1,30 @@
 //! A script with its table, as far as `step` and `weave` serve it.
-ghost use Rattle.std.specs.Prelude.{◌≡◌, ◌≤◌, ◌↔◌, Some, IsTrue, length, slice_get, IfOk, MatchResult};
+ghost use Rattle.std.specs.Prelude.{◌≤◌, ◌↔◌, IsTrue, length, IfOk, MatchResult};
 ghost use Rattle.pcc_script.specs.Limits.{IsWithin};
 ghost use Rattle.pccrun_core.specs.Answers.{IsServedScript, input_limit};
 ghost use Rattle.pccrun_core.specs.Refusals.{IsRefusedFor, IsScript, ScriptRefused};
-ghost use Rattle.pccrun_core.specs.SetUp.{HasPicks, IsPromptScript, head_of};
-ghost use Rattle.pccrun_core.specs.Wirings.{IsServed};
+ghost use Rattle.pcct_table.specs.declared.subspace.Subspace.{Subspace};
+ghost use Rattle.pccrun_core.specs.Openings.{IsOpened};
+ghost use Rattle.pccrun_core.specs.SetUp.{HasPicks, IsPromptScript};
 
 use crate::command::Command;
 use crate::refusal::{CommandError, Refusal};
-use crate::served::{is_prompt_script, served_subspace};
+use crate::opening::{Opened, open_structure};
+use crate::served::is_prompt_script;
 use crate::tables::whole_table;
-use crate::wiring::room_for;
-use pcc_journal::JournalHead;
 use pcc_script::{Scenario, ScriptError, scenario_from, within_limits};
-use pcct_table::{Subspace, Table};
-use rate_limit::Limits;
+use pcct_table::Table;
 use std::alloc::Global;
 
-/// A script that is served, its table, and the structure that it opens, the table's first.
+/// The ID of the subspace that a served script opens.
+const FIRST: u8 = 0;
+
+/// A script that is served, its table, and the subspace that it opens, the table's first.
 #[derive(Drop)]
 pub struct Served {
     pub scenario: Scenario,
     pub table: Table,
-    pub subspace: Subspace,
-}
-
-/// The head of the journal of the subspace that a served script opens.
-pub fn head_for(subspace: &Subspace) -> JournalHead
-    ensures { result ≡ head_of 0 subspace.now }
-{
-    JournalHead {
-        id: 0,
-        kind: subspace.kind(),
-        cppc: false,
-        room: room_for(subspace.memory_len()),
-        limits: Limits {
-            turnaround: subspace.turnaround(),
-            per_minute: subspace.rate(),
-        },
-        reports: true,
-    }
+    pub opened: Opened,
 }
 
 // Whether a script has letters exactly where the command takes them.
@@ -82,17 +67,17 @@ fn script_of(alloc: Global, command: Command, text: &[u8]) -> Result<Scenario, C
 pub fn served_script(alloc: Global, command: Command, text: &[u8]) -> Result<Served, CommandError>
     requires { length text.now ≤ input_limit }
     ensures script { MatchResult result (λ x. IsServedScript command text.now x.scenario x.table) (IsRefusedFor (ScriptRefused command text.now)) }
-    ensures first { IfOk result (λ x. (slice_get x.table.subspaces 0 ≡ Some x.subspace) × IsServed x.subspace) }
+    ensures opened { IfOk result (λ x. (s : Subspace) × IsOpened 0 x.table s x.opened) }
     ensures within { IfOk result (λ x. IsWithin x.scenario) }
 {
     let scenario = script_of(alloc, command, text)?;
     let table = whole_table(alloc, scenario.table.as_slice())?;
-    match served_subspace(&table) {
-        Some(subspace) => Ok(Served {
+    match open_structure(&table, FIRST) {
+        Ok(opened) => Ok(Served {
             scenario,
             table,
-            subspace,
+            opened,
         }),
-        None => Err(CommandError::Refused(Refusal::Unbuilt)),
+        Err(fault) => Err(CommandError::Refused(Refusal::Open { id: FIRST, fault })),
     }
 }

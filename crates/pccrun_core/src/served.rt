@@ -1,12 +1,9 @@
-//! Whether a script and the structure that it opens are ones that the program serves so far.
-ghost use Rattle.std.specs.Prelude.{◌≡◌, ◌↔◌, ◌∷◌, [], IsTrue, MatchOption, Some, slice_get};
+//! Whether a script is one that the program serves so far.
+ghost use Rattle.std.specs.Prelude.{◌≡◌, ◌↔◌, ◌∷◌, [], IsTrue};
 ghost use Rattle.std.specs.List.{AllByRecursion};
-ghost use Rattle.pccrun_core.specs.SetUp.{IsPromptCall, IsPromptScript, IsServedTable};
-ghost use Rattle.pccrun_core.specs.Wirings.{IsServed};
+ghost use Rattle.pccrun_core.specs.SetUp.{IsPromptCall, IsPromptScript};
 
-use crate::wiring::is_served;
 use pcc_script::{Actions, Device, Line, Opens, Scenario};
-use pcct_table::{Subspace, Table};
 
 // Whether one Bank is opened, on subspace 0.
 fn opens_one_bank(opens: &Opens) -> bool
@@ -45,15 +42,4 @@ pub fn is_prompt_script(scenario: &Scenario) -> bool
         && scenario.cpus.len() == 0
         && scenario.caps.len() == 0
         && are_prompt_calls(&scenario.actions)
-}
-
-/// The first structure of a table, where it is served.
-pub fn served_subspace(table: &Table) -> Option<Subspace>
-    ensures { MatchOption result (IsServedTable table.now → ⊥) (λ s. (slice_get table.now.subspaces 0 ≡ Some s) × IsServed s) }
-{
-    if table.subspaces.len() == 0 {
-        return None;
-    }
-    let first = *table.subspaces.at(0);
-    if is_served(&first) { Some(first) } else { None }
 }

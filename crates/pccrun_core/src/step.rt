@@ -2,6 +2,7 @@
 ghost use Rattle.std.specs.Prelude.{◌≡◌, ◌≤◌, ◌<◌, ◌++◌, ◌+◌, ◌^◌, [], ◌∷◌, Some, length, slice_get, IfOk, MatchResult, OnOk};
 ghost use Rattle.std.specs.List.{AllByRecursion};
 ghost use Rattle.pcc_script.specs.Limits.{IsAction, IsWithin};
+ghost use Rattle.pcct_table.specs.declared.subspace.Subspace.{Subspace};
 ghost use Rattle.pcct_table.specs.declared.table.Table.{Table};
 ghost use Rattle.pccrun_core.specs.Answers.{Makes, input_limit};
 ghost use Rattle.pccrun_core.specs.BankChannels.{channel_of};
@@ -9,17 +10,16 @@ ghost use Rattle.pccrun_core.specs.ReplyText.{replies_text};
 ghost use Rattle.pccrun_core.specs.StepRun.{step_run, turn_of};
 ghost use Rattle.pccrun_core.specs.Refusals.{IsRefusedFor, Refuses};
 ghost use Rattle.pccrun_core.specs.SetUp.{IsPromptCall, IsPromptScript, step_text};
-ghost use Rattle.pccrun_core.specs.Wirings.{IsServed};
+ghost use Rattle.pccrun_core.specs.Openings.{head_of};
 
 use crate::channel::BankChannel;
 use crate::command::Command;
 use crate::refusal::CommandError;
 use crate::reply::put_reply;
-use crate::script::{head_for, served_script};
+use crate::script::served_script;
 use pcc_io::NoMemory;
-use pcc_journal::put_journal;
+use pcc_journal::{JournalHead, put_journal};
 use pcc_script::{Actions, Line, Scenario};
-use pcct_table::Subspace;
 use std::alloc::Global;
 
 /// The line of the first action in a served script, behind a `table`, a `clock` and an `open` line.
@@ -82,19 +82,18 @@ fn run_lines(
     Ok(())
 }
 
-// The text of `step` for a script and the first structure of its table, which are served.
+// The text of `step` for a served script that opens the subspace of this head.
 #[tactic(auto, unfolding(crate::specs::SetUp::step_text))]
-fn run_text(alloc: Global, scenario: &Scenario, subspace: &Subspace) -> Result<Vec<u8>, NoMemory>
+fn run_text(alloc: Global, scenario: &Scenario, head: &JournalHead) -> Result<Vec<u8>, NoMemory>
     requires within { IsWithin scenario.now }
     requires prompt { IsPromptScript scenario.now }
-    requires served { IsServed subspace.now }
-    ensures { IfOk result (λ v. (t : Table) → slice_get t.subspaces 0 ≡ Some subspace.now → v.items ≡ step_text scenario.now t) }
+    requires first { head.now.id ≡ 0 }
+    ensures { IfOk result (λ v. (t : Table) (s : Subspace) → slice_get t.subspaces 0 ≡ Some s → head.now ≡ head_of 0 s → v.items ≡ step_text scenario.now t) }
 {
-    let head = head_for(subspace);
     let mut out = Vec::new(alloc);
-    let mut bank = BankChannel::new(alloc, head, scenario.start, scenario.step)?;
+    let mut bank = BankChannel::new(alloc, *head, scenario.start, scenario.step)?;
     run_lines(alloc, &mut out, &mut bank, FIRST_ACTION, &scenario.actions)?;
-    put_journal(&mut out, &head, bank.records(), None)?;
+    put_journal(&mut out, head, bank.records(), None)?;
     Ok(out)
 }
 
@@ -104,7 +103,7 @@ pub fn step(alloc: Global, text: &[u8]) -> Result<Vec<u8>, CommandError>
     ensures { MatchResult result (λ v. Makes Command.Step text.now v.items) (IsRefusedFor (Refuses Command.Step text.now)) }
 {
     match served_script(alloc, Command::Step, text) {
-        Ok(served) => Ok(run_text(alloc, &served.scenario, &served.subspace)?),
+        Ok(served) => Ok(run_text(alloc, &served.scenario, &served.opened.head)?),
         Err(error) => Err(error),
     }
 }

@@ -1,23 +1,24 @@
 //! The command `weave`: both ends of one channel take turns at single word steps, in the order that the letters of the script give.
-ghost use Rattle.std.specs.Prelude.{◌≡◌, Some, IfOk, MatchResult, map, slice_get, length, ◌≤◌};
+ghost use Rattle.std.specs.Prelude.{◌≡◌, Some, IfOk, MatchResult, map, length, ◌≤◌};
 ghost use Rattle.std.specs.List.{AllByRecursion};
 ghost use Rattle.pcc_script.specs.Limits.{IsWithin};
 ghost use Rattle.pccrun_core.specs.Answers.{Makes, input_limit};
 ghost use Rattle.pccrun_core.specs.Refusals.{IsRefusedFor, Refuses};
 ghost use Rattle.pccrun_core.specs.SetUp.{IsPromptCall, IsPromptScript};
-ghost use Rattle.pccrun_core.specs.Wirings.{IsServed};
+ghost use Rattle.pccrun_core.specs.Openings.{IsOpened};
+ghost use Rattle.pcct_table.specs.declared.subspace.Subspace.{Subspace};
 ghost use Rattle.pccrun_core.specs.Weaving.{IsWoven, asked_by, side_of};
 
 use crate::command::Command;
 use crate::refusal::CommandError;
-use crate::script::{Served, head_for, served_script};
-use crate::wiring::wiring_of;
+use crate::opening::Opened;
+use crate::script::{Served, served_script};
 use channel_plain::{Asked, Plain, Side, weave_lines};
 use pcc_exec::Bank;
 use pcc_io::{Bytes, LineClock, NoMemory};
 use pcc_journal::put_journal;
 use pcc_script::{Actions, Letter, Line, Picks, Scenario};
-use pcct_table::{Subspace, Table};
+use pcct_table::Table;
 use std::alloc::Global;
 
 // The calls of the lines.
@@ -75,34 +76,32 @@ fn sides_of(alloc: Global, picks: &Picks) -> Result<Vec<Side>, NoMemory>
     Ok(sides)
 }
 
-// The trace and the journal of a script and of the first structure of its table, which are served.
+// The trace and the journal of a served script, whose table's first structure is opened so.
 fn woven_text(
     alloc: Global,
     scenario: &Scenario,
     picks: &Picks,
     table: &Table,
-    subspace: &Subspace,
+    opened: &Opened,
 ) -> Result<Vec<u8>, NoMemory>
     requires within { IsWithin scenario.now }
     requires prompt { IsPromptScript scenario.now }
     requires picks { scenario.now.picks ≡ Some picks.now }
-    requires first { slice_get table.now.subspaces 0 ≡ Some subspace.now }
-    requires served { IsServed subspace.now }
+    requires opened { (s : Subspace) × IsOpened 0 table.now s opened.now }
     ensures { IfOk result (λ v. IsWoven scenario.now table.now v.items) }
 {
-    let head = head_for(subspace);
     let calls = calls_of(alloc, &scenario.actions)?;
     let sides = sides_of(alloc, picks)?;
     let mut plain = Plain::new(
         alloc,
-        wiring_of(subspace, head.id, table.flags),
-        Bank::new(alloc, head.room)?,
-        head.limits,
+        opened.wiring,
+        Bank::new(alloc, opened.wiring.room)?,
+        opened.head.limits,
         LineClock::new(scenario.start, scenario.step),
     )?;
     let mut out = Vec::new(alloc);
     weave_lines(&mut out, &mut plain, &calls, &sides)?;
-    put_journal(&mut out, &head, plain.journal().as_slice(), plain.pending())?;
+    put_journal(&mut out, &opened.head, plain.journal().as_slice(), plain.pending())?;
     Ok(out)
 }
 
@@ -114,10 +113,10 @@ pub fn weave(alloc: Global, text: &[u8]) -> Result<Vec<u8>, CommandError>
     let Served {
         scenario,
         table,
-        subspace,
+        opened,
     } = served_script(alloc, Command::Weave, text)?;
     match &scenario.picks {
-        Some(picks) => Ok(woven_text(alloc, &scenario, picks, &table, &subspace)?),
+        Some(picks) => Ok(woven_text(alloc, &scenario, picks, &table, &opened)?),
         None => unreachable!(),
     }
 }

@@ -3,5 +3,5 @@ use Rattle.pccrun_core.proofs.step.step.Goals as goal
 
 pub returns-in_ok-run_text-in-Ok : goal.returns-in_ok-run_text-in-Ok
 returns-in_ok-run_text-in-Ok c =
-    stepped c.args.text.now c.in-Ok.served.scenario c.in-Ok.served.table c.in-Ok.served.subspace c.in_ok-run_text-in-Ok.field-0.items
-    c.in-Ok.ensures.script c.in-Ok.ensures.first.0 (c.in_ok-run_text-in-Ok.ensures c.in-Ok.served.table c.in-Ok.ensures.first.0)
+    stepped c.args.text.now c.in-Ok.served.scenario c.in-Ok.served.table c.in-Ok.ensures.opened.0 c.in_ok-run_text-in-Ok.field-0.items
+    c.in-Ok.ensures.script c.in-Ok.ensures.opened.1.structure (c.in_ok-run_text-in-Ok.ensures c.in-Ok.served.table c.in-Ok.ensures.opened.0 c.in-Ok.ensures.opened.1.structure c.in-Ok.ensures.opened.1.head)

@@ -1,7 +1,8 @@
-use Rattle.std.proofs.Common.{◌≡◌, ◌≤◌, ◌<◌, ◌+◌, ◌^◌, max, ℕ, length, ap, ◌∙◌, subst, sym, arith, rules}
+use Rattle.std.proofs.Common.{◌≡◌, ◌≤◌, ◌<◌, ◌+◌, ◌^◌, max, ℕ, false, length, ap, ◌∙◌, subst, sym, arith, rules}
 use Rattle.rate_limit.specs.RateLimits.{earliest_of}
 use Rattle.pcc_journal.specs.Records.{times_of}
-use Rattle.pccrun_core.specs.StepRun.{journal_limit, next_reading}
+use Rattle.pcc_history.specs.Channel.{both}
+use Rattle.pccrun_core.specs.StepRun.{is_bad_code, journal_limit, next_reading}
 use Rattle.pccrun_core.specs.BankChannels.{OpenBank, IsOpen, bank_with, executed, start_of}
 use Rattle.pccrun_core.proofs.Calls.{done_at, executed_fields, executed_is_open, ticks}
 use Rattle.pccrun_core.proofs.channel.BankChannel.post.Goals as goal
@@ -22,8 +23,8 @@ invariant_of-self-2 c =
     let same : executed old c.args.caller c.args.code c.args.bytes.now ≡ bank_with inside.head c.now-done.new.self c.run-status.new.device c.run-status.new.space.items c.append.new.self.items =
     executed_fields inside.head inside.clock c.now-post.new.self c.now-done.new.self inside.device c.run-status.new.device inside.space.items c.run-status.new.space.items
     inside.journal.items c.append.new.self.items c.args.caller c.args.code c.args.bytes.now c.in_ok-input.input.items c.fill.new.list.items
-    c.is_error.result c.now-post.result c.now-done.result c.self.invariant.reports posted completed c.run-status.ensures.object
-    (c.is_error.ensures ∙ c.run-status.ensures.status) (search rules) (search rules) (search rules) in
+    c.is_error.result c.now-post.result c.now-done.result posted completed c.run-status.ensures.object
+    (c.is_error.ensures ∙ ap (both inside.head.reports) c.run-status.ensures.status) (search rules) (search rules) (search rules) in
     subst IsOpen same (executed_is_open old c.args.caller c.args.code c.args.bytes.now c.self.invariant few fits)
 
 pub returns-clause-answered : goal.returns-clause-answered
@@ -47,7 +48,8 @@ returns-clause-answered c = λ polls hold soon.
     let same : executed old c.args.caller c.args.code c.args.bytes.now ≡ bank_with inside.head c.now-done.new.self c.run-status.new.device c.run-status.new.space.items c.append.new.self.items =
     executed_fields inside.head inside.clock c.now-post.new.self c.now-done.new.self inside.device c.run-status.new.device inside.space.items c.run-status.new.space.items
     inside.journal.items c.append.new.self.items c.args.caller c.args.code c.args.bytes.now c.in_ok-input.input.items c.fill.new.list.items
-    c.is_error.result c.now-post.result c.now-done.result c.self.invariant.reports posted completed c.run-status.ensures.object
-    (c.is_error.ensures ∙ c.run-status.ensures.status) (search rules) (search rules) (search rules) in
+    c.is_error.result c.now-post.result c.now-done.result posted completed c.run-status.ensures.object
+    (c.is_error.ensures ∙ ap (both inside.head.reports) c.run-status.ensures.status) (search rules) (search rules) (search rules) in
+    let narrow : is_bad_code inside.head.kind c.args.code ≡ false = let P : OpenBank → Type 0 = λ b. is_bad_code b.head.kind c.args.code ≡ false in subst P (sym c.self.view_is) c.requires.narrow in
     done_at old c.args.self.now _ c.args.caller c.args.code c.args.bytes.now c.len-place.result polls hold c.self.view_is c.self.invariant
-    c.requires.narrow fits is room in_time soon same
+    narrow fits is room in_time soon same
