@@ -20,12 +20,14 @@ pub trait Clock: Drop {
         ensures told { (k : ℕ) → tells self.new k ≡ tells self.old k };
 }
 
-/// A clock whose readings lie on a line: the reading number k is `start + k * step`, at most the greatest u64.
+/// A clock whose readings lie on a line: the reading number k is `start + k * step`, moved up by what was added, at most the greatest u64.
 #[derive(Debug, Drop)]
 pub struct LineClock {
     start: u64,
     step: u64,
+    added: u128,
     taken: u64,
+    told_from: u64,
 }
 
 impl Model for LineClock {
@@ -33,7 +35,7 @@ impl Model for LineClock {
 
     ghost Value = { LineState };
 
-    ghost view = { λ c. record { start = c.start; step = c.step; added = 0; taken = c.taken; told_from = 0 } };
+    ghost view = { λ c. record { start = c.start; step = c.step; added = c.added; taken = c.taken; told_from = c.told_from } };
 }
 
 impl LineClock {
@@ -44,8 +46,18 @@ impl LineClock {
         LineClock {
             start,
             step,
+            added: 0,
             taken: 0,
+            told_from: 0,
         }
+    }
+
+    /// Moves the readings that come up by `n` microseconds. What was added in all stops at the greatest u128. The readings before are not told any more.
+    pub fn add(&mut self, n: u64)
+        ensures { self.new ≡ record self.old { added = min (self.old.added + n) (2 ^ 128 - 1); told_from = self.old.taken } }
+    {
+        self.added = self.added.saturating_add(u128::from(n));
+        self.told_from = self.taken;
     }
 }
 
@@ -63,7 +75,8 @@ impl Clock for LineClock {
         ensures exact { result ≡ line_reading self.old.start self.old.step self.old.added self.old.taken }
         ensures rest { self.new ≡ record self.old { taken = self.new.taken } }
     {
-        let at = u128::from(self.start) + u128::from(self.taken) * u128::from(self.step);
+        let line = u128::from(self.start) + u128::from(self.taken) * u128::from(self.step);
+        let at = line.saturating_add(self.added);
         self.taken = self.taken.saturating_add(1);
         u64::try_from(at).unwrap_or(u64::MAX)
     }

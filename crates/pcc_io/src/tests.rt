@@ -19,6 +19,17 @@ fn a_clock_stops_at_the_greatest_reading(rt: HostRuntime) {
     assert_eq!(rt; readings, [u64::MAX - 15, u64::MAX - 5, u64::MAX]);
 }
 
+#[test]
+fn a_clock_is_moved_up(rt: HostRuntime) {
+    let mut clock = LineClock::new(5, 10);
+    let first = clock.now();
+    clock.add(100);
+    clock.add(7);
+    let moved = clock.now();
+    clock.add(u64::MAX);
+    assert_eq!(rt; [first, moved, clock.now()], [5, 122, u64::MAX]);
+}
+
 // Pieces of 3 bytes, and a source that fails at its second read.
 #[test]
 fn reads_to_the_end_or_to_a_fault(rt: HostRuntime) -> Result<(), Fail> {
