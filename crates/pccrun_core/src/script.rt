@@ -8,8 +8,8 @@ ghost use Rattle.pccrun_core.specs.Openings.{IsOpened};
 ghost use Rattle.pccrun_core.specs.SetUp.{HasPicks, IsPromptScript};
 
 use crate::command::Command;
-use crate::refusal::{CommandError, Refusal};
 use crate::opening::{Opened, open_structure};
+use crate::refusal::{CommandError, Refusal};
 use crate::served::is_prompt_script;
 use crate::tables::whole_table;
 use pcc_script::{Scenario, ScriptError, scenario_from, within_limits};

@@ -178,7 +178,7 @@ fn the_table_of_a_script_is_tested_behind_its_lines(rt: HostRuntime) -> Result<(
             b"table 50434354300000000\
             25a50434352554e4558414d504c45310100000054455354010000000000000000000000000000\
             00\nclock 0 10\nopen 0 bank\n",
-            UNBUILT,
+            b"refused open 0 no subspace\n",
         ),
     ];
     for (input, text) in rows {
@@ -229,6 +229,97 @@ fn traces_of_scripts(rt: HostRuntime) -> Result<(), Fail> {
             text.extend_from_slice(part.as_bytes())?;
         }
         assert_eq!(rt; ended(alloc, "weave", &script, &text)?, Some(0));
+    }
+    Ok(())
+}
+
+// One structure of type 5, with an error register.
+const HARDWARE_REGISTERS: &[u8] =
+    b"5043435490000000025350434352554e4558414d504c4531010000005445535401000000000000000000000000000000056000000000008000000000\
+100000000000000001080001b200000000000000fe000000000000000100000000000000002000030000d1fe00000000010000000000000000200003\
+0010d1fe0000000002000000000000000000000000000000";
+
+// One structure of type 3, whose update register is the check register and keeps each bit.
+const NEVER_CLEARS: &[u8] =
+    b"50434354d400000002b650434352554e4558414d504c453101000000544553540100000000000000000000000000000003a400000000000000000080\
+0000000020000000002000030000d0fe00000000feffffff000000000100000000000000e80300000000000000000000000000000000000000000000\
+000000000000000000000000000000000000000000000000002000030000d1fe000000000100000000000000002000030000d1fe00000000ffffffff\
+0000000000000000000000000000000000000000000000000000000000000000";
+
+// The same with an update register that clears completion. It has no error register.
+const NO_ERRORS: &[u8] =
+    b"50434354d400000002b750434352554e4558414d504c453101000000544553540100000000000000000000000000000003a400000000000000000080\
+0000000020000000002000030000d0fe00000000feffffff000000000100000000000000e80300000000000000000000000000000000000000000000\
+000000000000000000000000000000000000000000000000002000030000d1fe000000000100000000000000002000030000d1fe00000000feffffff\
+0000000000000000000000000000000000000000000000000000000000000000";
+
+// One structure of type 4.
+const PLATFORM_ASKS: &[u8] =
+    b"50434354d4000000029550434352554e4558414d504c453101000000544553540100000000000000000000000000000004a400000000000000000080\
+000000001800000000000000000000000000000000000000000000000000000000000000000000000000000000000000000000000000000000000000\
+000000000000000000000000000000000000000000000000002000030000d1fe000000000100000000000000002000030000d1fe00000000feffffff\
+0000000001000000000000000000000000000000000000000000000000000000";
+
+const WOVEN: &[u8] =
+    b"o store 8 0000001250434300\no store 9 0000000000000001\no load 1 0000000000000000\no store 1 0000000000000001\n\
+o load 0 0000000000000001\no store 0 0000000000000000\no store 2 0000000000000001 -> posted\n\
+p swap 2 0000000000000000 0000000000000001\np load 8 0000001250434300\np load 9 0000000000000001\n\
+p store 9 0000000000000001\np store 3 0000000000000002\np load 0 0000000000000000\n\
+p store 0 0000000000000001 -> served\no load 0 0000000000000001\no load 3 0000000000000002\n\
+o load 8 0000001250434300\no load 9 0000000000000001 -> done error\n\
+journal 0 type 5 bank room 8 turnaround 0 rate 0 errors yes\n\
+record 0 caller 0 code 18 error post 0 done 10 timely in 0100000000000000 out 0100000000000000\nend 0\n";
+
+#[test]
+fn subspaces_of_the_types_three_to_five(rt: HostRuntime) -> Result<(), Fail> {
+    let alloc = rt.alloc();
+    let call: &[u8] = b"\nclock 0 10\nopen 0 bank\ncall 0 0 18 01 1 0\n";
+    let rows: [(&str, &[u8], &[u8], &[u8], u8); 5] = [
+        (
+            "step",
+            HARDWARE_REGISTERS,
+            b"",
+            b"4 error 0100000000000000\njournal 0 type 5 bank room 8 turnaround 0 rate 0 errors yes\n\
+record 0 caller 0 code 18 error post 0 done 10 timely in 0100000000000000 out 0100000000000000\nend 0\n",
+            0,
+        ),
+        (
+            "weave",
+            HARDWARE_REGISTERS,
+            b"pick ooooooopppppppoooo\n",
+            WOVEN,
+            0,
+        ),
+        (
+            "step",
+            NEVER_CLEARS,
+            b"",
+            b"refused open 0 never clears\n",
+            3,
+        ),
+        (
+            "step",
+            NO_ERRORS,
+            b"",
+            b"4 ok 01000000000000000000000000000000\njournal 0 type 3 bank room 16 turnaround 0 rate 0 errors no\n\
+record 0 caller 0 code 18 ok post 0 done 10 timely in 01000000000000000000000000000000 out 01000000000000000000000000000000\n\
+end 0\n",
+            0,
+        ),
+        (
+            "step",
+            PLATFORM_ASKS,
+            b"",
+            b"refused open 0 wrong role\n",
+            3,
+        ),
+    ];
+    for (words, table, picks, text, status) in rows {
+        let mut script = Vec::from_slice(alloc, b"table ")?;
+        for part in [table, call, picks] {
+            script.extend_from_slice(part)?;
+        }
+        assert_eq!(rt; ended(alloc, words, &script, text)?, Some(status));
     }
     Ok(())
 }

@@ -10,8 +10,8 @@ ghost use Rattle.pcct_table.specs.declared.subspace.Subspace.{Subspace};
 ghost use Rattle.pccrun_core.specs.Weaving.{IsWoven, asked_by, side_of};
 
 use crate::command::Command;
-use crate::refusal::CommandError;
 use crate::opening::Opened;
+use crate::refusal::CommandError;
 use crate::script::{Served, served_script};
 use channel_plain::{Asked, Plain, Side, weave_lines};
 use pcc_exec::Bank;
@@ -101,7 +101,12 @@ fn woven_text(
     )?;
     let mut out = Vec::new(alloc);
     weave_lines(&mut out, &mut plain, &calls, &sides)?;
-    put_journal(&mut out, &opened.head, plain.journal().as_slice(), plain.pending())?;
+    put_journal(
+        &mut out,
+        &opened.head,
+        plain.journal().as_slice(),
+        plain.pending(),
+    )?;
     Ok(out)
 }
 
