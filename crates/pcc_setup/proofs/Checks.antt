@@ -1,0 +1,41 @@
+-- The checks of a set-up, one behind the other.
+use Rattle.std.proofs.Common.{◌≡◌, ℕ, ◌+◌, ◌-◌, ◌^◌, ◌<◌, ◌≤◌, List, [], length, refl, sym, ap, ◌∙◌, subst, arith}
+use Rattle.std.specs.Prelude.{Some, None, slice_get}
+use Rattle.pcct_table.specs.declared.table.Table.{Table}
+use Rattle.pcct_codec.specs.Tables.{TableBytes}
+use Rattle.pcc_script.specs.declared.scenario.Line.{Line}
+use Rattle.pcc_script.specs.declared.scenario.Scenario.{Scenario}
+use Rattle.pcc_script.specs.Limits.{IsWithin}
+use Rattle.pcc_wiring.specs.declared.overlap.Overlap.{Overlap}
+use Rattle.pcc_wiring.specs.Overlaps.{AreApart, IsFirstOverlap}
+use Rattle.pcc_setup.specs.declared.action.ActionFault.{ActionFault}
+use Rattle.pcc_setup.specs.declared.opening.Opened.{Opened}
+use Rattle.pcc_setup.specs.declared.refusal.InputError.{InputError}
+use Rattle.pcc_setup.specs.declared.refusal.InputError.TheVariants as error
+use Rattle.pcc_setup.specs.declared.refusal.Refusal.{Refusal}
+use Rattle.pcc_setup.specs.declared.refusal.Refusal.TheVariants as refusal
+use Rattle.pcc_setup.specs.Openings.{AllOpen, memories_by, opened_by}
+use Rattle.pcc_setup.specs.RefusalText.{IsRefusedFor}
+use Rattle.pcc_setup.specs.SetUps.{AllNamed, IsSetUp, Meeting, OpenRefused, SetUpRefused, TableRefused, WrongAction, WrongOpen, WrongTable, action_fault, first_action}
+
+pub wrong_table : (s : Scenario) (bytes : List ℕ) (e : InputError) → bytes ≡ s.table → IsRefusedFor (TableRefused bytes) e → IsRefusedFor (SetUpRefused s) e
+wrong_table s bytes (error.Refused r) same h = let P : List ℕ → Type 0 = λ b. TableRefused b r in (WrongTable r (subst P same h.0), h.1)
+wrong_table s bytes error.NoMemory same h = tt
+
+pub wrong_open : (s : Scenario) (t : Table) (e : InputError) → TableBytes s.table t → IsRefusedFor (OpenRefused t s.opens) e → IsRefusedFor (SetUpRefused s) e
+wrong_open s t (error.Refused r) bytes h = (WrongOpen t bytes r h.0, h.1)
+wrong_open s t error.NoMemory bytes h = tt
+
+pub meeting : (s : Scenario) (t : Table) (ms : List (ℕ × ℕ × ℕ)) (found : Overlap) → TableBytes s.table t → AllOpen t s.opens (length s.opens) → ms ≡ memories_by t s.opens → IsFirstOverlap ms found
+    → SetUpRefused s (refusal.Meet found) × Unit {0}
+meeting s t ms found bytes all_open is meet = let P : List (ℕ × ℕ × ℕ) → Type 0 = λ v. IsFirstOverlap v found in (Meeting t bytes all_open found (subst P is meet), tt)
+
+pub wrong_action : (s : Scenario) (t : Table) (ms : List (ℕ × ℕ × ℕ)) (place line : ℕ) (l : Line) (fault : ActionFault) → TableBytes s.table t → AllOpen t s.opens (length s.opens) → ms ≡ memories_by t s.opens → AreApart ms
+    → slice_get s.actions place ≡ Some l → AllNamed s place → action_fault s l ≡ Some fault → line ≡ first_action s + place → SetUpRefused s (refusal.Action line fault) × Unit {0}
+wrong_action s t ms place line l fault bytes all_open is apart at named wrong number =
+    let P : ℕ → Type 0 = λ n. SetUpRefused s (refusal.Action n fault) in
+    (subst P (sym number) (WrongAction t bytes all_open (subst AreApart is apart) place l fault at named wrong), tt)
+
+pub is_set_up : (s : Scenario) (t : Table) (ms : List (ℕ × ℕ × ℕ)) (os : List Opened) → TableBytes s.table t → AllOpen t s.opens (length s.opens) → ms ≡ memories_by t s.opens → AreApart ms → AllNamed s (length s.actions)
+    → os ≡ opened_by t s.opens → (u : Table) × IsSetUp s u × (os ≡ opened_by u s.opens)
+is_set_up s t ms os bytes all_open is apart named opened = (t, record { table = bytes; all_open = all_open; apart = subst AreApart is apart; named = named }, opened)

@@ -1,0 +1,139 @@
+-- `open` lines and actions, one after the other.
+use Rattle.std.proofs.Common.{◌≡◌, ◌≢◌, ℕ, ◌+◌, ◌<◌, ◌≤◌, List, [], ◌∷◌, ◌++◌, length, get_or, take, refl, sym, ap, ◌∙◌, subst, inl, inr, arith, Bool, false, Result, Ok, Err}
+use Rattle.std.specs.Prelude.{Option, Some, None, slice_get}
+use Rattle.std.specs.List.{flat_map}
+use Rattle.std.proofs.lemmas.Bool.{cases_lt}
+use Rattle.std.proofs.lemmas.List.{append-nil, take_all, take_more}
+use Rattle.std.proofs.lemmas.List.Concat.{flat_map-append}
+use Rattle.std.proofs.lemmas.Option.{slice_get-get_or}
+use Rattle.pcct_table.specs.declared.subspace.Subspace.{Subspace}
+use Rattle.pcct_table.specs.declared.table.Table.{Table}
+use Rattle.pcct_table.specs.Subspaces.{base_of, memory_len_of}
+use Rattle.pcc_script.specs.declared.scenario.Line.{Line}
+use Rattle.pcc_script.specs.declared.scenario.OpenLine.{OpenLine}
+use Rattle.pcc_script.specs.declared.scenario.Scenario.{Scenario}
+use Rattle.pcc_journal.specs.declared.text.JournalHead.{JournalHead}
+use Rattle.pcc_steps.specs.declared.wiring.Wiring.{Wiring}
+use Rattle.pcc_wiring.specs.declared.fault.Asks.TheVariants.{System}
+use Rattle.pcc_wiring.specs.declared.fault.WiringFault.{WiringFault}
+use Rattle.pcc_wiring.specs.Faults.{fault_of, opened_as}
+use Rattle.pcc_wiring.specs.Wirings.{wiring_with}
+use Rattle.pcc_setup.specs.declared.opening.Opened.{Opened}
+use Rattle.pcc_setup.specs.declared.opening.OpenFault.TheVariants.{Unwired}
+use Rattle.pcc_setup.specs.declared.opening.OpenFault.{OpenFault}
+use Rattle.pcc_setup.specs.declared.refusal.Refusal.TheVariants as refusal
+use Rattle.pcc_setup.specs.Openings.{AllOpen, fault_by, head_by, head_of, line_fault, opens_id, structure_fault, memories_by, memory_with, opened_by, opened_with}
+use Rattle.pcc_setup.specs.SetUps.{AllNamed, FirstWrong, OpenRefused, action_fault}
+
+-- ---- lists
+
+some_same : {X : Type 0} (x y : X) → Some x ≡ Some y → x ≡ y
+some_same x y e = cc
+
+pub found : {X : Type 0} (xs : List X) (i : ℕ) (x : X) → i < length xs → x ≡ get_or xs i x → slice_get xs i ≡ Some x
+found xs i x lt is = slice_get-get_or xs i x lt ∙ ap Some (sym is)
+
+-- what holds of the elements before a place and of the one there holds before the next place
+abbrev AllTo : {X : Type 0} → (ℕ → X → Type 0) → List X → ℕ → Type 0
+AllTo {X = X} P xs n = (i : ℕ) (x : X) → i < n → slice_get xs i ≡ Some x → P i x
+
+all_more : {X : Type 0} (P : ℕ → X → Type 0) (xs : List X) (i : ℕ) (x : X) → AllTo P xs i → slice_get xs i ≡ Some x → P i x → AllTo P xs (i + 1)
+all_more {X = X} P xs i x before at here j y lt e = elim (cases_lt j i) [
+    | inl below ↦ before j y below e
+    | inr ge ↦
+        let same : i ≡ j = omega (arith, ge, lt) in
+        let there : slice_get xs i ≡ Some y = subst (λ (k : ℕ). slice_get xs k ≡ Some y) (sym same) e in
+        let is : x ≡ y = some_same x y (sym at ∙ there) in
+        subst (λ (k : ℕ). P k y) same (subst (P i) is here) ]
+
+-- a list is made of what each element gives
+flat_more : {X Y : Type 0} (f : X → List Y) (xs : List X) (ys next : List Y) (i : ℕ) (x : X) → i < length xs → x ≡ get_or xs i x → next ≡ ys ++ f x → ys ≡ flat_map f (take i xs) → next ≡ flat_map f (take (i + 1) xs)
+flat_more {X = X} {Y = Y} f xs ys next i x lt is e h =
+    let taken : take (i + 1) xs ≡ take i xs ++ x ∷ [] = take_more xs i x lt ∙ ap (λ (y : X). take i xs ++ y ∷ []) (sym is) in
+    e ∙ ap (λ (v : List Y). v ++ f x) h ∙ ap (λ (v : List Y). flat_map f (take i xs) ++ v) (sym (append-nil (f x))) ∙ sym (flat_map-append f (take i xs) (x ∷ [])) ∙ ap (flat_map f) (sym taken)
+
+flat_all : {X Y : Type 0} (f : X → List Y) (xs : List X) (ys : List Y) (i : ℕ) → length xs ≤ i → ys ≡ flat_map f (take i xs) → ys ≡ flat_map f xs
+flat_all f xs ys i le h = h ∙ ap (flat_map f) (take_all i xs le)
+
+-- ---- wirings
+
+no_fault : (v w : Wiring) (o : Option WiringFault) → Ok w ≡ opened_as v o → o ≡ None
+no_fault v w None e = refl
+no_fault v w (Some fault) e = absurd cc
+
+same_wiring : (v w : Wiring) (o : Option WiringFault) → Ok w ≡ opened_as v o → w ≡ v
+same_wiring v w None e = cc
+same_wiring v w (Some fault) e = absurd cc
+
+a_fault : (v : Wiring) (o : Option WiringFault) (fault : WiringFault) → Err fault ≡ opened_as v o → o ≡ Some fault
+a_fault v None fault e = absurd cc
+a_fault v (Some other) fault e = cc
+
+-- ---- `open` lines
+
+pub none_open : (t : Table) (opens : List OpenLine) → AllOpen t opens 0
+none_open t opens i o lt e = absurd (omega (arith, lt))
+
+pub one_more_open : (t : Table) (opens : List OpenLine) (i : ℕ) (line : OpenLine) → AllOpen t opens i → slice_get opens i ≡ Some line → line_fault t (take i opens) line ≡ None → AllOpen t opens (i + 1)
+one_more_open t opens i line before at none = all_more (λ k o. line_fault t (take k opens) o ≡ None) opens i line before at none
+
+pub one_more_opened : (t : Table) (opens : List OpenLine) (os next : List Opened) (o : Opened) (i : ℕ) (line : OpenLine) → i < length opens → slice_get opens i ≡ Some line
+    → opened_with line.id t.flags (slice_get t.subspaces line.id) ≡ o ∷ [] → next ≡ os ++ o ∷ [] → os ≡ opened_by t (take i opens) → next ≡ opened_by t (take (i + 1) opens)
+one_more_opened t opens os next o i line lt at is pushed before =
+    let same : line ≡ get_or opens i line = some_same line (get_or opens i line) (sym at ∙ slice_get-get_or opens i line lt) in
+    flat_more (λ (l : OpenLine). opened_with l.id t.flags (slice_get t.subspaces l.id)) opens os next i line lt same (pushed ∙ ap (λ (v : List Opened). os ++ v) (sym is)) before
+
+pub all_opened : (t : Table) (opens : List OpenLine) (os : List Opened) (i : ℕ) → length opens ≤ i → os ≡ opened_by t (take i opens) → os ≡ opened_by t opens
+all_opened t opens os i le h = flat_all (λ (l : OpenLine). opened_with l.id t.flags (slice_get t.subspaces l.id)) opens os i le h
+
+-- the first line that opens nothing
+pub first_wrong : (t : Table) (opens : List OpenLine) (i id : ℕ) (line x : OpenLine) (fault : OpenFault) → AllOpen t opens i → slice_get opens i ≡ Some line → line_fault t (take i opens) line ≡ Some fault
+    → i < length opens → x ≡ get_or opens i x → id ≡ x.id → OpenRefused t opens (refusal.Open id fault)
+first_wrong t opens i id line x fault before at wrong lt is named =
+    let same : x ≡ line = some_same x line (sym (found opens i x lt is) ∙ at) in
+    let P : ℕ → Type 0 = λ n. OpenRefused t opens (refusal.Open n fault) in
+    subst P (sym (named ∙ ap (λ (o : OpenLine). o.id) same)) (FirstWrong i line fault at before wrong)
+
+-- a line opens its structure
+pub opens_line : (t : Table) (opens : List OpenLine) (i : ℕ) (x : OpenLine) (s : Subspace) (w : Wiring) (head : JournalHead) (image : List ℕ) → i < length opens → x ≡ get_or opens i x
+    → slice_get t.subspaces x.id ≡ Some s → opens_id x.id (take i opens) ≡ false → Ok w ≡ opened_as (wiring_with x.id t.flags s) (fault_of System s) → head ≡ head_by w s → image ≡ []
+    → (line : OpenLine) × (slice_get opens i ≡ Some line) × (line_fault t (take i opens) line ≡ None) × (opened_with line.id t.flags (slice_get t.subspaces line.id) ≡ record { head = head; wiring = w; image = image } ∷ [])
+opens_line t opens i x s w head image lt is at once wired headed empty =
+    let same : w ≡ wiring_with x.id t.flags s = same_wiring (wiring_with x.id t.flags s) w (fault_of System s) wired in
+    let none : fault_of System s ≡ None = no_fault (wiring_with x.id t.flags s) w (fault_of System s) wired in
+    let head_is : head_of x.id s ≡ head = sym (headed ∙ ap (λ (v : Wiring). head_by v s) same) in
+    (x, found opens i x lt is, ap (structure_fault (opens_id x.id (take i opens))) at ∙ ap (λ (b : Bool). structure_fault b (Some s)) once ∙ ap fault_by none,
+        ap (opened_with x.id t.flags) at ∙ (λ k. record { head = head_is k; wiring = sym same k; image = sym empty k } ∷ []))
+
+-- its structure has a fault
+pub opens_nothing : (t : Table) (opens : List OpenLine) (i : ℕ) (x : OpenLine) (s : Subspace) (fault : WiringFault) → i < length opens → x ≡ get_or opens i x
+    → slice_get t.subspaces x.id ≡ Some s → opens_id x.id (take i opens) ≡ false → Err fault ≡ opened_as (wiring_with x.id t.flags s) (fault_of System s)
+    → (line : OpenLine) × (slice_get opens i ≡ Some line) × (line_fault t (take i opens) line ≡ Some (Unwired fault))
+opens_nothing t opens i x s fault lt is at once wired =
+    (x, found opens i x lt is, ap (structure_fault (opens_id x.id (take i opens))) at ∙ ap (λ (b : Bool). structure_fault b (Some s)) once ∙ ap fault_by (a_fault (wiring_with x.id t.flags s) (fault_of System s) fault wired))
+
+-- ---- memories
+
+pub one_more_memory : (t : Table) (opens : List OpenLine) (ms next : List (ℕ × ℕ × ℕ)) (i id base len : ℕ) (x : OpenLine) (s : Subspace) → i < length opens → x ≡ get_or opens i x → id ≡ x.id
+    → slice_get t.subspaces id ≡ Some s → base ≡ base_of s → len ≡ memory_len_of s → next ≡ ms ++ (id, base, len) ∷ [] → ms ≡ memories_by t (take i opens) → next ≡ memories_by t (take (i + 1) opens)
+one_more_memory t opens ms next i id base len x s lt is named at based long pushed before =
+    let gives : memory_with x.id (slice_get t.subspaces x.id) ≡ (id, base, len) ∷ [] =
+        ap (λ (n : ℕ). memory_with n (slice_get t.subspaces n)) (sym named) ∙ ap (memory_with id) at ∙ (λ k. (id, sym based k, sym long k) ∷ []) in
+    flat_more (λ (o : OpenLine). memory_with o.id (slice_get t.subspaces o.id)) opens ms next i x lt is (pushed ∙ ap (λ (v : List (ℕ × ℕ × ℕ)). ms ++ v) (sym gives)) before
+
+pub no_memory : (t : Table) (opens : List OpenLine) (ms : List (ℕ × ℕ × ℕ)) (i id : ℕ) (x : OpenLine) → i < length opens → x ≡ get_or opens i x → id ≡ x.id
+    → slice_get t.subspaces id ≡ None → ms ≡ memories_by t (take i opens) → ms ≡ memories_by t (take (i + 1) opens)
+no_memory t opens ms i id x lt is named at before =
+    let gives : memory_with x.id (slice_get t.subspaces x.id) ≡ [] = ap (λ (n : ℕ). memory_with n (slice_get t.subspaces n)) (sym named) ∙ ap (memory_with id) at in
+    flat_more (λ (o : OpenLine). memory_with o.id (slice_get t.subspaces o.id)) opens ms ms i x lt is (sym (append-nil ms) ∙ ap (λ (v : List (ℕ × ℕ × ℕ)). ms ++ v) (sym gives)) before
+
+pub all_memories : (t : Table) (opens : List OpenLine) (ms : List (ℕ × ℕ × ℕ)) (i : ℕ) → length opens ≤ i → ms ≡ memories_by t (take i opens) → ms ≡ memories_by t opens
+all_memories t opens ms i le h = flat_all (λ (o : OpenLine). memory_with o.id (slice_get t.subspaces o.id)) opens ms i le h
+
+-- ---- actions
+
+pub none_named : (s : Scenario) → AllNamed s 0
+none_named s i l lt e = absurd (omega (arith, lt))
+
+pub one_more_named : (s : Scenario) (i : ℕ) (l : Line) → i < length s.actions → l ≡ get_or s.actions i l → action_fault s l ≡ None → AllNamed s i → AllNamed s (i + 1)
+one_more_named s i l lt is none before = all_more (λ k v. action_fault s v ≡ None) s.actions i l before (found s.actions i l lt is) none

@@ -1,0 +1,10 @@
+use Rattle.std.specs.Prelude.{codes}
+use Rattle.pcc_text.specs.Pieces.{spelled}
+use Rattle.pcc_setup.specs.RefusalText.{fault_pieces}
+use Rattle.pcc_setup.proofs.Refused.{put_behind}
+use Rattle.pcc_setup.proofs.text.put_refusal.Goals as goal
+
+pub returns-in_ok-put-in-Table : goal.returns-in_ok-put-in-Table
+unfolding spelled
+returns-in_ok-put-in-Table c =
+    rw c.in-Table.is (put_behind c.put_fault.result c.args.out.now.items c.put.new.out.items c.put_fault.new.out.items (codes "table ") (spelled (fault_pieces c.in-Table.fault)) c.in_ok-put-in-Table.ensures c.put_fault.ensures)

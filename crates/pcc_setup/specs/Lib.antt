@@ -1,0 +1,3 @@
+pub mod Openings
+pub mod RefusalText
+pub mod SetUps

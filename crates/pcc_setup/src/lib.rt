@@ -1,0 +1,16 @@
+//! What a script opens: its table, its subspaces and its actions are checked in their order, and the first check that fails is told in one line.
+#![tactic(auto)]
+
+mod action;
+mod opening;
+mod refusal;
+mod setup;
+mod table;
+mod text;
+
+pub use action::ActionFault;
+pub use opening::{OpenFault, Opened, OpenedList};
+pub use refusal::{InputError, Refusal, UseFault};
+pub use setup::{SetUp, SetUpError, set_up};
+pub use table::whole_table;
+pub use text::refused_line;

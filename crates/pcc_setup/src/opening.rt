@@ -1,0 +1,136 @@
+//! The structure that an `open` line names is wired, or refused.
+ghost use Rattle.std.specs.Prelude.{◌≡◌, ◌<◌, ◌∷◌, [], None, Some, IfOk, MatchResult, length, slice_get, take};
+ghost use Rattle.pcc_script.specs.declared.scenario.OpenLine.{OpenLine};
+ghost use Rattle.pcc_setup.specs.Openings.{AllOpen, head_by, line_fault, memories_by, opened_by, opened_with, opens_id};
+ghost use Rattle.pcc_setup.specs.RefusalText.{IsRefusedFor};
+ghost use Rattle.pcc_setup.specs.SetUps.{OpenRefused};
+
+use crate::refusal::{InputError, Refusal};
+use pcc_io::{Bytes, Items, NoMemory};
+use pcc_journal::JournalHead;
+use pcc_script::{OpenLine, Opens};
+use pcc_steps::Wiring;
+use pcc_wiring::{Asks, WiringFault, wiring_of};
+use pcct_table::{Subspace, Table};
+use rate_limit::Limits;
+use std::alloc::Global;
+
+/// Why a subspace isn't opened.
+#[derive(Clone, Copy, Debug, PartialEq, Eq)]
+pub enum OpenFault {
+    /// The table has no structure with this ID.
+    NoSubspace,
+    /// An `open` line before it has this ID.
+    OpenedTwice,
+    /// The first fault of the structure.
+    Unwired(WiringFault),
+}
+
+/// A subspace that is opened: the head of its journal, its wiring, and the first bytes of its registers (none for a Bank).
+#[derive(Drop)]
+pub struct Opened {
+    pub head: JournalHead,
+    pub wiring: Wiring,
+    pub image: Bytes,
+}
+
+/// The opened subspaces, in the order of their lines.
+pub type OpenedList = Items<Opened>;
+
+// The head of the journal of a structure that is wired so.
+fn head_by(wiring: &Wiring, subspace: &Subspace) -> JournalHead
+    ensures { result ≡ head_by wiring.now subspace.now }
+{
+    JournalHead {
+        id: wiring.id,
+        kind: wiring.kind,
+        cppc: false,
+        room: wiring.room,
+        limits: Limits {
+            turnaround: subspace.turnaround(),
+            per_minute: subspace.rate(),
+        },
+        reports: wiring.reports,
+    }
+}
+
+// The structure with this ID.
+fn structure_of(table: &Table, id: u8) -> Option<Subspace>
+    ensures { result ≡ slice_get table.now.subspaces id }
+{
+    let place = id as usize;
+    if place < table.subspaces.len() {
+        Some(*table.subspaces.at(place))
+    } else {
+        None
+    }
+}
+
+// Whether some line opens this ID.
+fn opens_id(opens: &[OpenLine], id: u8) -> bool
+    ensures { result ≡ opens_id id opens.now }
+{
+    opens.iter().any(|o| o.id == id)
+}
+
+// What the line at a place opens, or why it opens nothing.
+fn open_line(
+    alloc: Global,
+    table: &Table,
+    opens: &Opens,
+    place: usize,
+) -> Result<Opened, OpenFault>
+    requires { place < length opens.now }
+    ensures { MatchResult result
+        (λ o. (line : OpenLine) × (slice_get opens.now place ≡ Some line) × (line_fault table.now (take place opens.now) line ≡ None) × (opened_with line.id table.now.flags (slice_get table.now.subspaces line.id) ≡ o ∷ []))
+        (λ fault. (line : OpenLine) × (slice_get opens.now place ≡ Some line) × (line_fault table.now (take place opens.now) line ≡ Some fault)) }
+{
+    let id = opens.at(place).id;
+    let Some(subspace) = structure_of(table, id) else {
+        return Err(OpenFault::NoSubspace);
+    };
+    if opens_id(&opens.as_slice()[..place], id) {
+        return Err(OpenFault::OpenedTwice);
+    }
+    match wiring_of(&subspace, id, table.flags, Asks::System) {
+        Ok(wiring) => Ok(Opened {
+            head: head_by(&wiring, &subspace),
+            wiring,
+            image: Bytes::new(alloc),
+        }),
+        Err(fault) => Err(OpenFault::Unwired(fault)),
+    }
+}
+
+/// What the lines open, or the first line that opens nothing.
+#[tactic(auto, using(crate::proofs::Opens::none_open, crate::proofs::Opens::one_more_open, crate::proofs::Opens::one_more_opened, crate::proofs::Opens::all_opened, crate::proofs::Opens::first_wrong))]
+pub fn open_all(alloc: Global, table: &Table, opens: &Opens) -> Result<OpenedList, InputError>
+    ensures { MatchResult result (λ os. (os ≡ opened_by table.now opens.now) × AllOpen table.now opens.now (length opens.now)) (IsRefusedFor (OpenRefused table.now opens.now)) }
+{
+    let mut opened = OpenedList::new(alloc);
+    for place in 0..opens.len() {
+        match open_line(alloc, table, opens, place) {
+            Ok(one) => opened.push(one)?,
+            Err(fault) => {
+                let id = opens.at(place).id;
+                return Err(InputError::Refused(Refusal::Open { id, fault }));
+            }
+        }
+    }
+    Ok(opened)
+}
+
+/// The ID, the base and the length of each opened memory.
+#[tactic(auto, using(crate::proofs::Opens::one_more_memory, crate::proofs::Opens::no_memory, crate::proofs::Opens::all_memories))]
+pub fn memories(alloc: Global, table: &Table, opens: &Opens) -> Result<Vec<(u8, u64, u64)>, NoMemory>
+    ensures { IfOk result (λ v. v.items ≡ memories_by table.now opens.now) }
+{
+    let mut memories = Vec::new(alloc);
+    for place in 0..opens.len() {
+        let id = opens.at(place).id;
+        if let Some(subspace) = structure_of(table, id) {
+            memories.push((id, subspace.base(), subspace.memory_len()))?;
+        }
+    }
+    Ok(memories)
+}

@@ -1,0 +1,120 @@
+//! The checks of a script's set-up, one after the other.
+ghost use Rattle.std.specs.Prelude.{◌≡◌, MatchResult, length};
+ghost use Rattle.pcc_script.specs.Limits.{IsWithin};
+ghost use Rattle.pcct_table.specs.declared.table.Table.{Table};
+ghost use Rattle.pcct_codec.specs.Tables.{TableBytes};
+ghost use Rattle.pcc_setup.specs.Openings.{AllOpen, opened_by};
+ghost use Rattle.pcc_setup.specs.RefusalText.{IsRefusedFor};
+ghost use Rattle.pcc_setup.specs.SetUps.{IfLine, IsSetUp, OpensBanks, SetUpRefused, first_action};
+ghost use Rattle.pcc_setup.specs.declared.setup.SetUpError.TheVariants.{NoMemory as Exhausted};
+
+use crate::action::{WrongAction, first_wrong};
+use crate::opening::{OpenedList, memories, open_all};
+use crate::refusal::{InputError, Refusal};
+use crate::table::whole_table;
+use crate::text::refused_line;
+use pcc_io::{Bytes, NoMemory};
+use pcc_script::Scenario;
+use pcc_wiring::opened_apart;
+use pcct_table::Table;
+use std::alloc::Global;
+use thiserror::Error;
+
+/// What a script opens.
+#[derive(Drop)]
+pub struct SetUp {
+    /// One subspace for each `open` line, in their order.
+    pub opened: OpenedList,
+}
+
+/// Why a script can't be run.
+#[derive(Debug, Drop, Error)]
+pub enum SetUpError {
+    /// The line of the first check that fails, with its line feed.
+    #[error("the script is refused")]
+    Refused { text: Bytes },
+    #[error("memory ran out")]
+    NoMemory,
+}
+
+impl From<NoMemory> for SetUpError {
+    ghost from_gives = { λ _ e. e ≡ Exhausted };
+
+    fn from(_: NoMemory) -> SetUpError {
+        SetUpError::NoMemory
+    }
+}
+
+/// The number of the first action's line, from 1.
+pub fn first_action(scenario: &Scenario) -> u32
+    requires { IsWithin scenario.now }
+    ensures { result ≡ first_action scenario.now }
+{
+    3 + scenario.opens.len() as u32 + scenario.cpus.len() as u32 + scenario.caps.len() as u32
+}
+
+// The checks behind the `open` lines.
+#[tactic(auto, using(crate::proofs::Checks::meeting, crate::proofs::Checks::wrong_action, crate::proofs::Checks::is_set_up))]
+fn finish(
+    alloc: Global,
+    scenario: &Scenario,
+    table: &Table,
+    opened: OpenedList,
+) -> Result<SetUp, InputError>
+    requires within { IsWithin scenario.now }
+    requires bytes { TableBytes scenario.now.table table.now }
+    requires all_open { AllOpen table.now scenario.now.opens (length scenario.now.opens) }
+    requires opened { opened ≡ opened_by table.now scenario.now.opens }
+    ensures { MatchResult result (λ u. (t : Table) × IsSetUp scenario.now t × (u.opened ≡ opened_by t scenario.now.opens)) (IsRefusedFor (SetUpRefused scenario.now)) }
+{
+    let memories = memories(alloc, table, &scenario.opens)?;
+    if let Err(found) = opened_apart(&memories) {
+        return Err(InputError::Refused(Refusal::Meet(found)));
+    }
+    match first_wrong(scenario) {
+        Some(WrongAction { place, fault }) => {
+            let line = first_action(scenario) + place as u32;
+            Err(InputError::Refused(Refusal::Action { line, fault }))
+        }
+        None => Ok(SetUp { opened }),
+    }
+}
+
+// The checks behind the table.
+#[tactic(auto, using(crate::proofs::Checks::wrong_open))]
+fn with_table(alloc: Global, scenario: &Scenario, table: &Table) -> Result<SetUp, InputError>
+    requires within { IsWithin scenario.now }
+    requires bytes { TableBytes scenario.now.table table.now }
+    ensures { MatchResult result (λ u. (t : Table) × IsSetUp scenario.now t × (u.opened ≡ opened_by t scenario.now.opens)) (IsRefusedFor (SetUpRefused scenario.now)) }
+{
+    match open_all(alloc, table, &scenario.opens) {
+        Ok(opened) => finish(alloc, scenario, table, opened),
+        Err(error) => Err(error),
+    }
+}
+
+// The checks in their order.
+#[tactic(auto, using(crate::proofs::Checks::wrong_table))]
+fn checked(alloc: Global, scenario: &Scenario) -> Result<SetUp, InputError>
+    requires { IsWithin scenario.now }
+    ensures { MatchResult result (λ u. (t : Table) × IsSetUp scenario.now t × (u.opened ≡ opened_by t scenario.now.opens)) (IsRefusedFor (SetUpRefused scenario.now)) }
+{
+    match whole_table(alloc, scenario.table.as_slice()) {
+        Ok(table) => with_table(alloc, scenario, &table),
+        Err(error) => Err(error),
+    }
+}
+
+/// Sets up what a script opens: its table is read, each `open` line opens its structure for the operating system to ask, the memories of the opened
+/// subspaces lie apart, and each action names what is opened. The script opens Banks alone.
+pub fn set_up(alloc: Global, scenario: &Scenario) -> Result<SetUp, SetUpError>
+    requires within { IsWithin scenario.now }
+    requires banks { OpensBanks scenario.now }
+    ensures { MatchResult result (λ u. (t : Table) × IsSetUp scenario.now t × (u.opened ≡ opened_by t scenario.now.opens)) (IfLine (SetUpRefused scenario.now)) }
+{
+    match checked(alloc, scenario) {
+        Ok(set_up) => Ok(set_up),
+        Err(InputError::Refused(refusal)) => Err(SetUpError::Refused { text: Bytes::from_vec(refused_line(alloc, refusal)?) }),
+        Err(InputError::NoMemory) => Err(SetUpError::NoMemory),
+    }
+}

@@ -1,0 +1,32 @@
+//! The table of a script, or of the program's whole input.
+ghost use Rattle.std.specs.Prelude.{MatchResult};
+ghost use Rattle.pcct_codec.specs.Tables.{TableBytes};
+ghost use Rattle.pcc_setup.specs.RefusalText.{IsRefusedFor};
+ghost use Rattle.pcc_setup.specs.SetUps.{TableRefused};
+
+use crate::refusal::{InputError, Refusal};
+use pcct_codec::{TableFault, table_of_bytes};
+use pcct_table::Table;
+use std::alloc::Global;
+
+/// The table that all bytes spell.
+pub fn whole_table(alloc: Global, bytes: &[u8]) -> Result<Table, InputError>
+    ensures { MatchResult result (TableBytes bytes.now) (IsRefusedFor (TableRefused bytes.now)) }
+{
+    match table_of_bytes(alloc, bytes) {
+        Ok((table, len)) => {
+            if len < bytes.len() {
+                Err(InputError::Refused(Refusal::Trailing { at: len }))
+            } else {
+                Ok(table)
+            }
+        }
+        Err(fault) => {
+            if fault == TableFault::NoMemory {
+                Err(InputError::NoMemory)
+            } else {
+                Err(InputError::Refused(Refusal::Table(fault)))
+            }
+        }
+    }
+}
