@@ -12,3 +12,4 @@ pub mod Determined
 pub mod Public
 pub mod Places
 pub mod Within
+pub mod Written

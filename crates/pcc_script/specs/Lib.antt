@@ -3,3 +3,4 @@ pub mod Text
 pub mod Faults
 pub mod Limits
 pub mod Reading
+pub mod Writing

@@ -10,6 +10,7 @@ mod partial;
 mod reading;
 mod scenario;
 mod word;
+mod writing;
 
 pub use fault::{ScriptError, ScriptKind};
 pub use limits::{
@@ -21,6 +22,7 @@ pub use scenario::{
     Actions, CapLine, CapLines, Device, Letter, Line, OpenLine, Opens, Packages, Picks, Scenario,
     Wish1,
 };
+pub use writing::scenario_to;
 
 #[cfg(test)]
 mod tests;
