@@ -13,3 +13,4 @@ pub mod Public
 pub mod Places
 pub mod Within
 pub mod Written
+pub mod Generated

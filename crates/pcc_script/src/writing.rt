@@ -4,7 +4,9 @@ ghost use Rattle.pcc_script.specs.Rows.{letter_text, spell};
 ghost use Rattle.pcc_script.specs.Text.{action_statement, cap_statement, clock_statement, cpu_statement, IsScenario, open_statement, pick_statements, script_text, statements_text, table_statement};
 ghost use Rattle.pcc_script.specs.Writing.{spaced, statement_text, statement_with, value_of};
 
-use crate::scenario::{Actions, CapLine, CapLines, Device, Letter, Line, OpenLine, Opens, Packages, Picks, Scenario};
+use crate::scenario::{
+    Actions, CapLine, CapLines, Device, Letter, Line, OpenLine, Opens, Packages, Picks, Scenario,
+};
 use crate::word::Word;
 use pcc_io::{Bytes, NoMemory};
 use pcc_text::{put, put_hex, put_number};
@@ -92,18 +94,30 @@ fn put_table(out: &mut Vec<u8>, table: &Bytes) -> Result<(), NoMemory>
 fn put_clock(out: &mut Vec<u8>, start: u64, step: u64) -> Result<(), NoMemory>
     ensures { OnOk result (out.new.items ≡ out.old.items ++ statement_text (clock_statement start step)) }
 {
-    put_line(out, Word::Clock, &[Field::Number(start), Field::Number(step)])
+    put_line(
+        out,
+        Word::Clock,
+        &[Field::Number(start), Field::Number(step)],
+    )
 }
 
 fn put_open(out: &mut Vec<u8>, open: &OpenLine) -> Result<(), NoMemory>
     ensures { OnOk result (out.new.items ≡ out.old.items ++ statement_text (open_statement open.now)) }
 {
     match &open.device {
-        Device::Bank => put_line(out, Word::Open, &[Field::Number(open.id as u64), Field::Bank]),
+        Device::Bank => put_line(
+            out,
+            Word::Open,
+            &[Field::Number(open.id as u64), Field::Bank],
+        ),
         Device::Cppc { image } => put_line(
             out,
             Word::Open,
-            &[Field::Number(open.id as u64), Field::Cppc, Field::Bytes(image)],
+            &[
+                Field::Number(open.id as u64),
+                Field::Cppc,
+                Field::Bytes(image),
+            ],
         ),
     }
 }
