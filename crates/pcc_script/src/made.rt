@@ -16,8 +16,11 @@ const ONE_GENERIC_SUBSPACE: &[u8] = b"PCCT\x6e\0\0\0\x02\x6ePCCRUNEXAMPLE1\x01\0
     \0\x3e\0\0\0\0\0\0\0\0\0\x80\0\0\0\0\x18\0\0\0\0\0\0\0\0\x20\0\x03\0\0\xd0\xfe\0\0\0\0\
     \xfe\xff\xff\xff\0\0\0\0\x01\0\0\0\0\0\0\0\xe8\x03\0\0\0\0\0\0\0\0";
 
-/// How many workers call, in turn, and how many holds there are.
+/// How many workers call, in turn.
 const WORKERS: u32 = 4;
+
+/// The holds of the calls are the numbers below, in turn.
+const HOLDS: u32 = 4;
 
 /// How often each call looks for its command's completion.
 const POLLS: u32 = 3;
@@ -61,7 +64,7 @@ fn call_at(alloc: Global, place: u32, x: u64) -> Result<Line, NoMemory>
         code: if place % 5 == 4 { FETCH } else { EXCHANGE },
         bytes: Bytes::from_vec(bytes),
         polls: POLLS,
-        hold: place % WORKERS,
+        hold: place % HOLDS,
     })
 }
 
