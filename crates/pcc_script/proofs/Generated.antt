@@ -1,19 +1,16 @@
 -- A scenario that is made up is the one that its definition says, and within the limits.
-use Rattle.std.proofs.Common.{◌≡◌, ℕ, zero, suc, ◌+◌, ◌%◌, ◌<◌, ◌≤◌, Bool, true, false, cond, eqb, List, [], ◌∷◌, ◌++◌, length, map, slice_index, refl, sym, ap, subst, ◌∙◌, arith}
-use Rattle.std.specs.Prelude.{nat_lt, None}
+use Rattle.std.proofs.Common.{◌≡◌, ℕ, zero, suc, ◌+◌, ◌%◌, ◌<◌, ◌≤◌, Bool, true, false, cond, eqb, List, [], ◌∷◌, ◌++◌, length, map, slice_index, refl, ap, arith}
+use Rattle.std.specs.Prelude.{nat_lt}
 use Rattle.std.specs.Int.{byte_at, bytes_low_first}
 use Rattle.std.specs.List.{AllByRecursion, list_all, range_with_len}
 use Rattle.std.proofs.lemmas.Bool.{and_parts, ltb-true}
 use Rattle.std.proofs.lemmas.List.FromFn.{length-map-range_with_len, map-range_with_len_more}
 use Rattle.pcc_bytes.specs.Bytes.{IsBytes}
 use Rattle.pcc_script.specs.declared.limits.TheConstants.{MAX_MADE_CALLS}
-use Rattle.pcc_script.specs.declared.scenario.CapLine.{CapLine}
-use Rattle.pcc_script.specs.declared.scenario.Device.TheVariants.{Bank}
 use Rattle.pcc_script.specs.declared.scenario.Line.{Line}
-use Rattle.pcc_script.specs.declared.scenario.OpenLine.{OpenLine}
 use Rattle.pcc_script.specs.declared.scenario.Scenario.{Scenario}
 use Rattle.pcc_script.specs.Limits.{IsAction, IsWithin}
-use Rattle.pcc_script.specs.Made.{call_with, generated, little, made_call, made_calls, made_code, made_scenario_of, next_generated, one_generic_subspace}
+use Rattle.pcc_script.specs.Made.{call_with, generated, made_call, made_calls, made_code, made_scenario_of, next_generated, one_generic_subspace}
 use Rattle.pcc_script.specs.Text.{IsScenario}
 use Rattle.pcc_script.proofs.Within.{within_is}
 

@@ -101,20 +101,20 @@ fn put_clock(out: &mut Vec<u8>, start: u64, step: u64) -> Result<(), NoMemory>
     )
 }
 
-fn put_open(out: &mut Vec<u8>, open: &OpenLine) -> Result<(), NoMemory>
-    ensures { OnOk result (out.new.items ≡ out.old.items ++ statement_text (open_statement open.now)) }
+fn put_open(out: &mut Vec<u8>, line: &OpenLine) -> Result<(), NoMemory>
+    ensures { OnOk result (out.new.items ≡ out.old.items ++ statement_text (open_statement line.now)) }
 {
-    match &open.device {
+    match &line.device {
         Device::Bank => put_line(
             out,
             Word::Open,
-            &[Field::Number(open.id as u64), Field::Bank],
+            &[Field::Number(line.id as u64), Field::Bank],
         ),
         Device::Cppc { image } => put_line(
             out,
             Word::Open,
             &[
-                Field::Number(open.id as u64),
+                Field::Number(line.id as u64),
                 Field::Cppc,
                 Field::Bytes(image),
             ],
@@ -126,8 +126,8 @@ fn put_open(out: &mut Vec<u8>, open: &OpenLine) -> Result<(), NoMemory>
 fn put_opens(out: &mut Vec<u8>, opens: &Opens) -> Result<(), NoMemory>
     ensures { OnOk result (out.new.items ≡ out.old.items ++ statements_text (map open_statement opens.now)) }
 {
-    for open in opens.as_slice() {
-        put_open(out, open)?;
+    for line in opens.as_slice() {
+        put_open(out, line)?;
     }
     Ok(())
 }
