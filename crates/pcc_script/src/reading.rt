@@ -1,5 +1,5 @@
 //! A text is read line by line, to the scenario that it spells or to its first fault.
-ghost use Rattle.std.specs.Prelude.{◌≡◌, ◌↔◌, ◌<◌, ◌≤◌, ◌^◌, ◌-◌, ℕ, suc, None, IfOk, length};
+ghost use Rattle.std.specs.Prelude.{◌≡◌, ◌↔◌, ◌<◌, ◌≤◌, ℕ, suc, None, IfOk, length};
 ghost use Rattle.pcc_bytes.specs.Fields.{split_at};
 ghost use Rattle.pcc_script.specs.Rows.{most, place};
 ghost use Rattle.pcc_script.specs.Text.{IsScenario, script_text, statements_of};
