@@ -9,11 +9,12 @@ use Rattle.pcc_script.specs.declared.fault.ScriptError.{ScriptError}
 use Rattle.pcc_script.specs.declared.fault.ScriptError.TheVariants.{Fault}
 use Rattle.pcc_script.specs.declared.fault.ScriptKind.{ScriptKind}
 use Rattle.pcc_script.specs.declared.scenario.Scenario.{Scenario}
-use Rattle.pcc_script.specs.Rows.{behind as back}
+use Rattle.pcc_script.specs.Rows.{behind as back, most, place}
 use Rattle.pcc_script.specs.Text.{Statement, statements_of}
-use Rattle.pcc_script.specs.Reading.{seen_after, read_statement, read_lines, read_text, Blames, Lines, Tells, ended, ended_by, front_of, last_of, with_front, start, so_far, Empty}
+use Rattle.pcc_script.specs.Reading.{count_for, seen_after, read_statement, read_lines, read_text, Blames, Lines, Tells, ended, ended_by, front_of, last_of, with_front, start, so_far, Empty}
 use Rattle.pcc_script.proofs.Growing.{empty_later}
 use Rattle.pcc_script.proofs.Parts.{begins, last_in, lines_of}
+use Rattle.pcc_script.proofs.Room.{Counted, counted_more, counted_start}
 
 -- the fault that is met, and its line
 pub record Met (ls : Lines) (n : ℕ) (k : ScriptKind) : Type 0 where
@@ -25,31 +26,34 @@ pub record Going (text rest : List ℕ) (line : ℕ) (seen : Seen) (p : Partial)
   pub read : with_front (so_far p) (read_lines seen (lines_of rest)) ≡ read_lines start (lines_of text)
   pub last : last_in rest ≡ last_in text
   pub count : suc (length (so_far p)) ≡ line
-  pub short : line + length rest ≤ length text + 1
+  pub counted : Counted line seen
   pub empty : Empty seen.next p
 
 pub going_start : (text : List ℕ) (p : Partial) → so_far p ≡ [] → Empty 0 p → Going text text 1 start p
-going_start text p e h = record { read = rw e refl; last = refl; count = rw e refl; short = omega arith; empty = h }
+going_start text p e h = record { read = rw e refl; last = refl; count = rw e refl; counted = counted_start; empty = h }
 
-pub going_more : (text rest fields behind : List ℕ) (line : ℕ) (seen : Seen) (p q : Partial) (r : Statement) → split_at 10 rest ≡ fields ∷ split_at 10 behind → length behind < length rest → read_statement seen (split_at 32 fields) ≡ Ok r → so_far q ≡ so_far p ++ r ∷ [] → Empty (back r.word) q → Going text rest line seen p → Going text behind (line + 1) (seen_after seen r.word) q
-going_more text rest fields behind line seen p q r cut shorter e s h g =
+pub going_more : (text rest fields behind : List ℕ) (line : ℕ) (seen : Seen) (p q : Partial) (r : Statement) → split_at 10 rest ≡ fields ∷ split_at 10 behind → read_statement seen (split_at 32 fields) ≡ Ok r → seen.next ≤ place r.word → count_for seen r.word < most r.word → so_far q ≡ so_far p ++ r ∷ [] → Empty (back r.word) q → Going text rest line seen p → Going text behind (line + 1) (seen_after seen r.word) q
+going_more text rest fields behind line seen p q r cut e placed few s h g =
     let b = begins rest fields behind cut in
     let next = read_lines (seen_after seen r.word) (lines_of behind) in
     let step : read_lines seen (lines_of rest) ≡ with_front (r ∷ []) next = rw (b.lines, e) refl in
     let len : length (so_far q) ≡ length (so_far p) + 1 = ap length s ∙ length-append (so_far p) (r ∷ []) in
     let count : suc (length (so_far p)) ≡ line = g.count in
-    let short : line + length rest ≤ length text + 1 = g.short in
     let join : with_front (so_far p ++ r ∷ []) next ≡ with_front (so_far p) (with_front (r ∷ []) next) = simp append_assoc in
     record {
       read = ap (λ (front : List Statement). with_front front next) s ∙ join ∙ ap (with_front (so_far p)) (sym step) ∙ g.read;
       last = sym b.last ∙ g.last;
       count = omega arith;
-      short = omega arith;
+      counted = counted_more line seen r.word placed few g.counted;
       empty = h;
     }
 
-pub going_empty : (text rest : List ℕ) (line : ℕ) (seen : Seen) (p : Partial) (place : ℕ) → seen.next ≤ place → Going text rest line seen p → Empty place p
-going_empty text rest line seen p place le g = empty_later seen.next place p le g.empty
+pub going_empty : (text rest : List ℕ) (line : ℕ) (seen : Seen) (p : Partial) (at : ℕ) → seen.next ≤ at → Going text rest line seen p → Empty at p
+going_empty text rest line seen p at le g = empty_later seen.next at p le g.empty
+
+-- a line has a number behind its own
+pub going_short : (text rest : List ℕ) (line : ℕ) (seen : Seen) (p : Partial) → Going text rest line seen p → line ≤ 65628
+going_short text rest line seen p g = g.counted.short
 
 pub going_count : (text rest : List ℕ) (line : ℕ) (seen : Seen) (p : Partial) → Going text rest line seen p → suc (length (so_far p)) ≡ line
 going_count text rest line seen p g = g.count

@@ -5,6 +5,7 @@ pub mod Counting
 pub mod Sequence
 pub mod Growing
 pub mod Parts
+pub mod Room
 pub mod Going
 pub mod Completing
 pub mod Script
@@ -12,3 +13,5 @@ pub mod Determined
 pub mod Public
 pub mod Places
 pub mod Within
+pub mod Written
+pub mod Generated

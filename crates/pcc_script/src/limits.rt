@@ -32,3 +32,6 @@ pub const MAX_ACTIONS: u32 = 65_536;
 
 /// How many letters a `pick` line may have. It has at least one.
 pub const MAX_LETTERS: usize = 65_536;
+
+/// How many calls there may be in a scenario that is made up. There is at least one.
+pub const MAX_MADE_CALLS: u32 = 4_096;

@@ -1,5 +1,5 @@
 //! A text is read line by line, to the scenario that it spells or to its first fault.
-ghost use Rattle.std.specs.Prelude.{◌≡◌, ◌↔◌, ◌<◌, ◌≤◌, ◌^◌, ◌-◌, ℕ, suc, None, IfOk, length};
+ghost use Rattle.std.specs.Prelude.{◌≡◌, ◌↔◌, ◌<◌, ◌≤◌, ℕ, suc, None, IfOk, length};
 ghost use Rattle.pcc_bytes.specs.Fields.{split_at};
 ghost use Rattle.pcc_script.specs.Rows.{most, place};
 ghost use Rattle.pcc_script.specs.Text.{IsScenario, script_text, statements_of};
@@ -44,9 +44,8 @@ fn finish(partial: Partial, last: &[u8], line: u32) -> Result<Scenario, ScriptEr
 }
 
 /// The scenario that a text spells, or its first fault, as reading finds them.
-#[tactic(auto, using(crate::proofs::Going::going_start, crate::proofs::Going::going_empty, crate::proofs::Going::going_more, crate::proofs::Going::going_fault, crate::proofs::Going::going_count, crate::proofs::Going::going_end))]
+#[tactic(auto, using(crate::proofs::Going::going_start, crate::proofs::Going::going_empty, crate::proofs::Going::going_more, crate::proofs::Going::going_fault, crate::proofs::Going::going_count, crate::proofs::Going::going_short, crate::proofs::Going::going_end))]
 fn read(alloc: Global, text: &[u8]) -> Result<Scenario, ScriptError>
-    requires { length text.now < 2 ^ 32 - 1 }
     ensures { Tells statements_of result (read_text text.now) }
 {
     let mut partial = Partial::new(alloc);
@@ -75,7 +74,6 @@ fn read(alloc: Global, text: &[u8]) -> Result<Scenario, ScriptError>
 /// The lines are, in this order: one `table HEX`, one `clock START STEP`, 1 to `MAX_OPENS` lines `open ID bank` or `open ID cppc HEX`, up to `MAX_CPUS` lines `cpu HEX`, up to `MAX_CAPS` lines `cap ID COUNT VALUE`, up to `MAX_ACTIONS` actions (`call WORKER ID CODE HEX POLLS HOLD`, `read WORKER CPU POLLS HOLD`, `set WORKER CPU MIN DESIRED MAX POLLS HOLD`, `wait N`) and at most one `pick LETTERS`.
 #[tactic(auto, using(crate::proofs::Public::is_found, crate::proofs::Public::is_only, crate::proofs::Public::is_wrong, crate::proofs::Public::is_first))]
 pub fn scenario_from(alloc: Global, text: &[u8]) -> Result<Scenario, ScriptError>
-    requires { length text.now < 2 ^ 32 - 1 }
     // What is read is within the limits, and the text spells it.
     ensures found { IfOk result (λ s. IsScenario s × (text.now ≡ script_text s)) }
     // A scenario that the text spells is read, unless memory runs out.

@@ -19,12 +19,13 @@ fn repeated(
     Ok(text)
 }
 
+const TEN_WORDS: &[u8] =
+    b"table 0a1b\nclock 5 10\nopen 0 bank\nopen 255 cppc 00ff\ncpu 1246\ncpu -\ncap 255 3 50\n\
+    call 15 0 4294967295 a0b1 1000000 4000000000\nread 0 15 1 0\nset 1 2 - 18446744073709551615 7 3 4\nwait 9\npick opp\n";
+
 #[test]
 fn reads_all_ten_words(rt: HostRuntime) -> Result<(), Fail> {
-    let text =
-        b"table 0a1b\nclock 5 10\nopen 0 bank\nopen 255 cppc 00ff\ncpu 1246\ncpu -\ncap 255 3 50\n\
-        call 15 0 4294967295 a0b1 1000000 4000000000\nread 0 15 1 0\nset 1 2 - 18446744073709551615 7 3 4\nwait 9\npick opp\n";
-    let scenario = scenario_from(rt.alloc(), text).ok().ok_or("refused")?;
+    let scenario = scenario_from(rt.alloc(), TEN_WORDS).ok().ok_or("refused")?;
     assert_eq!(rt; scenario.table.as_slice(), [0x0a, 0x1b].as_slice());
     assert_eq!(rt; (scenario.start, scenario.step), (5, 10));
 
@@ -141,7 +142,6 @@ fn tells_the_first_fault(rt: HostRuntime) {
         ("pick ox\n", 1, Name),
     ];
     for (text, line, kind) in faults {
-        assert!(rt; text.len() < 1000);
         let told = scenario_from(rt.alloc(), text.as_bytes()).err();
         assert_eq!(rt;
             told,
@@ -180,7 +180,6 @@ fn counts_lines_and_letters(rt: HostRuntime) -> Result<(), Fail> {
             times,
             back.as_bytes(),
         )?;
-        assert!(rt; text.len() < 1_000_000);
         let told = scenario_from(rt.alloc(), &text).err();
         assert_eq!(rt;
             told,
@@ -188,5 +187,40 @@ fn counts_lines_and_letters(rt: HostRuntime) -> Result<(), Fail> {
             "{times} of {part:?}"
         );
     }
+    Ok(())
+}
+
+#[test]
+fn writes_all_ten_words(rt: HostRuntime) -> Result<(), Fail> {
+    let alloc = rt.alloc();
+    let scenario = match scenario_from(alloc, TEN_WORDS) {
+        Ok(scenario) => scenario,
+        Err(_) => return Err(Fail::from("refused")),
+    };
+    assert_eq!(rt; scenario_to(alloc, &scenario)?.as_slice(), TEN_WORDS);
+    Ok(())
+}
+
+// The bytes of the calls are computed by hand.
+#[test]
+fn makes_calls(rt: HostRuntime) -> Result<(), Fail> {
+    let alloc = rt.alloc();
+    let few = made_scenario(alloc, 5)?;
+    let text =
+        b"table 504343546e000000026e50434352554e4558414d504c453101000000544553540100000000000000000000000000000\
+        0003e00000000000000000080000000001800000000000000002000030000d0fe00000000feffffff000000000100000000000000e8030000000000000000\n\
+        clock 0 10\nopen 0 bank\n\
+        call 0 0 16 0100000000000000 3 0\n\
+        call 1 0 16 7c00fd43ac6f576c 3 1\n\
+        call 2 0 16 1b1b4a86b3866882 3 2\n\
+        call 3 0 16 0eaa972099e1faa5 3 3\n\
+        call 0 0 17 c5579311cd550362 3 0\n";
+    assert_eq!(rt; scenario_to(alloc, &few)?.as_slice(), text.as_slice());
+
+    let many = made_scenario(alloc, MAX_MADE_CALLS)?;
+    assert_eq!(rt; many.actions.len(), 4_096);
+    assert!(rt;
+        matches!(many.actions.at(4_095), Line::Call { worker: 3, subspace: 0, code: 16, bytes, polls: 3, hold: 3 } if bytes.as_slice() == 3_903_375_340_357_830_842u64.to_le_bytes().as_slice())
+    );
     Ok(())
 }

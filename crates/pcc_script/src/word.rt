@@ -1,6 +1,6 @@
 //! The ten words that begin the lines of a script, and where their lines may stand.
 ghost use Rattle.std.specs.Prelude.{◌≡◌};
-ghost use Rattle.pcc_script.specs.Rows.{behind, most, place};
+ghost use Rattle.pcc_script.specs.Rows.{behind, most, place, text_of};
 ghost use Rattle.pcc_script.specs.Reading.{Gives, word_named};
 
 use crate::fault::{ScriptKind, Stop};
@@ -27,40 +27,58 @@ pub enum Word {
 pub fn word_of(field: &[u8]) -> Result<Word, Stop>
     ensures { Gives (λ word. word) result (word_named field.now) }
 {
-    if is_text(field, b"table") {
+    if is_text(field, Word::Table.text()) {
         return Ok(Word::Table);
     }
-    if is_text(field, b"clock") {
+    if is_text(field, Word::Clock.text()) {
         return Ok(Word::Clock);
     }
-    if is_text(field, b"open") {
+    if is_text(field, Word::Open.text()) {
         return Ok(Word::Open);
     }
-    if is_text(field, b"cpu") {
+    if is_text(field, Word::Cpu.text()) {
         return Ok(Word::Cpu);
     }
-    if is_text(field, b"cap") {
+    if is_text(field, Word::Cap.text()) {
         return Ok(Word::Cap);
     }
-    if is_text(field, b"call") {
+    if is_text(field, Word::Call.text()) {
         return Ok(Word::Call);
     }
-    if is_text(field, b"read") {
+    if is_text(field, Word::Read.text()) {
         return Ok(Word::Read);
     }
-    if is_text(field, b"set") {
+    if is_text(field, Word::Set.text()) {
         return Ok(Word::Set);
     }
-    if is_text(field, b"wait") {
+    if is_text(field, Word::Wait.text()) {
         return Ok(Word::Wait);
     }
-    if is_text(field, b"pick") {
+    if is_text(field, Word::Pick.text()) {
         return Ok(Word::Pick);
     }
     Err(Stop::Wrong(ScriptKind::Unknown))
 }
 
 impl Word {
+    /// The text that begins its lines.
+    pub fn text(self) -> &'static [u8]
+        ensures { result.now ≡ text_of self }
+    {
+        match self {
+            Word::Table => b"table",
+            Word::Clock => b"clock",
+            Word::Open => b"open",
+            Word::Cpu => b"cpu",
+            Word::Cap => b"cap",
+            Word::Call => b"call",
+            Word::Read => b"read",
+            Word::Set => b"set",
+            Word::Wait => b"wait",
+            Word::Pick => b"pick",
+        }
+    }
+
     /// The place of its lines in a script. The four kinds of actions share one.
     pub fn place(self) -> u32
         ensures { result ≡ place self }

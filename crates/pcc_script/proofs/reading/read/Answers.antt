@@ -12,4 +12,4 @@ pub loop-fields-preserved : goal.loop-fields-preserved
 loop-fields-preserved c =
     rw (c.after-seen.ensures, c.word-word.ensures)
     (going_more c.args.text.now c.loop-fields.rest.now c.in-Some.fields.now c.in-Some.behind.now c.loop-fields.line c.loop-fields.seen c.loop-fields.partial c.put.new.self (entry_statement c.in-Ok.entry)
-    c.in-Some.ensures.parts c.in-Some.ensures.shorter c.in-Ok.ensures.read c.in_ok-put-in-Ok.ensures.lines c.in_ok-put-in-Ok.ensures.empty c.loop-fields.invariant)
+    c.in-Some.ensures.parts c.in-Ok.ensures.read c.in-Ok.ensures.placed c.in-Ok.ensures.few c.in_ok-put-in-Ok.ensures.lines c.in_ok-put-in-Ok.ensures.empty c.loop-fields.invariant)
