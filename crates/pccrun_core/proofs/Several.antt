@@ -1,11 +1,11 @@
 -- Several opened subspaces: a call is answered by the channel with its ID, and each journal is that of a run on its channel alone.
-use Rattle.std.proofs.Common.{◌≡◌, ◌≢◌, ℕ, ◌<◌, Bool, true, false, cond, ◌||◌, List, [], ◌∷◌, ◌++◌, length, map, set, take, zero, suc, refl, sym, ap, ◌∙◌, subst, inl, inr, arith}
-use Rattle.std.specs.Prelude.{Option, Some, None, ◌==◌, slice_get}
+use Rattle.std.proofs.Common.{◌≡◌, ◌≢◌, ℕ, ◌+◌, ◌<◌, Bool, true, false, cond, ◌||◌, List, [], ◌∷◌, ◌++◌, length, get_or, map, set, take, drop, zero, suc, refl, sym, ap, ◌∙◌, subst, inl, inr, arith}
+use Rattle.std.specs.Prelude.{Option, Some, None, ◌==◌, ◌&&◌, slice_get}
 use Rattle.std.specs.List.{AllByRecursion, find, flat_map}
 use Rattle.std.specs.Option.{option_map}
 use Rattle.std.proofs.lemmas.Bool.{cases_eq, eq-eqb, eqb-true, eqb-false, ne_eqb}
-use Rattle.std.proofs.lemmas.List.{length-map}
-use Rattle.std.proofs.lemmas.Option.{same_Some, slice_get_within}
+use Rattle.std.proofs.lemmas.List.{length-map, map-set}
+use Rattle.std.proofs.lemmas.Option.{same_Some, slice_get-get_or, slice_get_within}
 use Rattle.pcct_table.specs.declared.subspace.Subspace.{Subspace}
 use Rattle.pcct_table.specs.declared.table.Table.{Table}
 use Rattle.pcc_history.specs.Histories.{WholeHistory}
@@ -14,7 +14,11 @@ use Rattle.pcc_script.specs.declared.scenario.Line.{Line}
 use Rattle.pcc_script.specs.declared.scenario.Line.TheVariants as line
 use Rattle.pcc_script.specs.declared.scenario.OpenLine.{OpenLine}
 use Rattle.pcc_script.specs.declared.scenario.Scenario.{Scenario}
-use Rattle.pcc_setup.specs.Openings.{AllOpen, opens_id, structure_fault}
+use Rattle.pcc_setup.specs.declared.action.ActionFault.TheVariants.{NotBank}
+use Rattle.pcc_setup.specs.declared.opening.Opened.{Opened}
+use Rattle.pcc_setup.specs.Openings.{AllOpen, opened_by, opened_with, opens_id, structure_fault}
+use Rattle.pcc_setup.specs.SetUps.{action_fault, is_bank, opens_bank}
+use Rattle.pccrun_core.specs.BankChannels.{OpenBank, channel_of, new_bank, start_of}
 use Rattle.pccrun_core.specs.Histories.{AreHistories, IsHistory, asked_by, asked_on}
 use Rattle.pccrun_core.specs.Replies.{Reply}
 use Rattle.pccrun_core.specs.SetUp.{channels_of, clock_of, run_of, set_up_of}
@@ -166,6 +170,32 @@ call_at call (d ∷ ds) (suc i) c apart e =
     let test : (d.start.head.id == id_of c) ≡ false = ne_eqb (id_of d) (id_of c) differs in
     rw test (ap (λ (t : Turn). record { reply = t.reply; channels = d ∷ t.channels }) (call_at call ds i c apart.1 e))
 
+-- a channel that is found stands at some place
+pub found_place : (id : ℕ) (cs : List Channel) (c : Channel) → channel_on id cs ≡ Some c → (i : ℕ) × (slice_get cs i ≡ Some c) × (c.start.head.id ≡ id)
+found_place id [] c e = absurd cc
+found_place id (d ∷ ds) c e = at (d.start.head.id == id) refl e (found_place id ds c)
+  where
+    at : (b : Bool) → (d.start.head.id == id) ≡ b → cond b (Some d) (channel_on id ds) ≡ Some c → (channel_on id ds ≡ Some c → (i : ℕ) × (slice_get ds i ≡ Some c) × (c.start.head.id ≡ id)) → (i : ℕ) × (slice_get (d ∷ ds) i ≡ Some c) × (c.start.head.id ≡ id)
+    at true test is later = (zero, is, subst (λ (x : Channel). id_of x ≡ id) (same_Some d c is) (eqb-true (id_of d) id test))
+    at false test is later = let found : (i : ℕ) × (slice_get ds i ≡ Some c) × (c.start.head.id ≡ id) = later is in (suc found.0, found.1, found.2)
+
+-- the same of Banks: a call on one of them, and a wait
+pub bank_call_at : (call : Call) (bs : List OpenBank) (i : ℕ) (b : OpenBank) → AreDistinct (map (λ b. b.head.id) bs) → slice_get bs i ≡ Some b
+    → call_on b.head.id call (map channel_of bs) ≡ record { reply = Some (answer_call (start_of b) call b.now).reply; channels = map channel_of (set bs i (record b { now = (answer_call (start_of b) call b.now).now })) }
+bank_call_at call bs i b apart e =
+    let ids : map id_of (map channel_of bs) ≡ map (λ (b : OpenBank). b.head.id) bs = map_map id_of channel_of bs in
+    let next : OpenBank = record b { now = (answer_call (start_of b) call b.now).now } in
+    call_at call (map channel_of bs) i (channel_of b) (subst AreDistinct (sym ids) apart) (map_at channel_of bs i b e)
+    ∙ ap (λ (v : List Channel). record { reply = Some (answer_call (start_of b) call b.now).reply; channels = v }) (sym (map-set channel_of bs i next))
+
+-- the clock of a Bank is moved up
+abbrev pub moved_up : ℕ → OpenBank → OpenBank
+moved_up n b = record b { now = record b.now { added = b.now.added + n } }
+
+pub banks_waited : (n : ℕ) (bs : List OpenBank) → map (waited n) (map channel_of bs) ≡ map channel_of (map (moved_up n) bs)
+banks_waited n [] = refl
+banks_waited n (b ∷ bs) = ap (λ (v : List Channel). waited n (channel_of b) ∷ v) (banks_waited n bs)
+
 -- ---- a line
 
 waited_channel : (n id : ℕ) (cs : List Channel) → channel_on id (map (waited n) cs) ≡ option_map (waited n) (channel_on id cs)
@@ -250,6 +280,33 @@ no_channels (line.Call worker subspace code bytes polls hold ∷ ls) = no_channe
 no_channels (line.Wait n ∷ ls) = no_channels ls
 no_channels (line.Read worker cpu polls hold ∷ ls) = no_channels ls
 no_channels (line.Set worker wish polls hold ∷ ls) = no_channels ls
+
+only_one : (id : ℕ) (cs : List Channel) (d : Channel) → length cs ≡ 1 → channel_on id cs ≡ Some d → cs ≡ d ∷ []
+only_one id [] d one e = absurd cc
+only_one id (c ∷ []) d one e = at (c.start.head.id == id) e
+  where
+    at : (b : Bool) → cond b (Some c) None ≡ Some d → c ∷ [] ≡ d ∷ []
+    at true is = ap (λ (x : Channel). x ∷ []) (same_Some c d is)
+    at false is = absurd cc
+only_one id (c ∷ x ∷ xs) d one e = absurd (omega arith)
+
+-- where no two have one ID, a run leaves at each place the channel that a run on that channel alone leaves
+pub runs_apart : (ls : List Line) (cs : List Channel) (i : ℕ) (c : Channel) → AreDistinct (map id_of cs) → slice_get cs i ≡ Some c
+    → (d : Channel) × (slice_get (step_run ls cs).channels i ≡ Some d) × ((step_run ls (c ∷ [])).channels ≡ d ∷ [])
+runs_apart ls cs i c apart e =
+    let r : Run = step_run ls cs in
+    let a : Run = step_run ls (c ∷ []) in
+    let within : i < length cs = slice_get_within cs i c e in
+    let len : length r.channels ≡ length cs = run_length ls cs in
+    let d : Channel = get_or r.channels i c in
+    let at : slice_get r.channels i ≡ Some d = slice_get-get_or r.channels i c (omega arith) in
+    let ids : Some (id_of d) ≡ Some (id_of c) = sym (map_at id_of r.channels i d at) ∙ ap (λ (v : List ℕ). slice_get v i) (run_ids ls cs) ∙ map_at id_of cs i c e in
+    let same : id_of d ≡ id_of c = same_Some (id_of d) (id_of c) ids in
+    let left : channel_on (id_of d) r.channels ≡ Some d = channel_at r.channels i d (subst AreDistinct (sym (run_ids ls cs)) apart) at in
+    let before : channel_on (id_of d) cs ≡ Some c = ap (λ (n : ℕ). channel_on n cs) same ∙ channel_at cs i c apart e in
+    let test : (c.start.head.id == id_of d) ≡ true = eq-eqb (id_of c) (id_of d) (sym same) in
+    let alone : channel_on (id_of d) (c ∷ []) ≡ Some c = rw test refl in
+    (d, at, only_one (id_of d) a.channels d (run_length ls (c ∷ [])) (run_channel ls (id_of d) (c ∷ []) cs (alone ∙ sym before) ∙ left))
 
 -- ---- histories
 
@@ -336,6 +393,44 @@ set_up_ids clock t [] h = refl
 set_up_ids clock t (o ∷ os) h =
     let there : (u : Subspace) × (slice_get t.subspaces o.id ≡ Some u) = has_structure false (slice_get t.subspaces o.id) (h zero o (omega arith) refl) in
     rw there.1 (ap (λ (v : List ℕ). o.id ∷ v) (set_up_ids clock t os (open_rest t o os h)))
+
+-- the channels of a script are the Banks of what it opens, with nothing asked of them
+pub set_up_opened : (s : Scenario) (t : Table) → set_up_of s t ≡ map (λ o. channel_of (new_bank o.head (clock_of s))) (opened_by t s.opens)
+set_up_opened s t = all s.opens
+  where
+    opened : (id : ℕ) (u : Option Subspace) (cs : List Channel) (os : List Opened) → cs ≡ map (λ (o : Opened). channel_of (new_bank o.head (clock_of s))) os
+        → channels_of (clock_of s) id u ++ cs ≡ map (λ (o : Opened). channel_of (new_bank o.head (clock_of s))) (opened_with id t.flags u ++ os)
+    opened id None cs os h = h
+    opened id (Some u) cs os h = ap (λ (v : List Channel). channels_of (clock_of s) id (Some u) ++ v) h
+
+    all : (opens : List OpenLine) → flat_map (λ (o : OpenLine). channels_of (clock_of s) o.id (slice_get t.subspaces o.id)) opens ≡ map (λ (o : Opened). channel_of (new_bank o.head (clock_of s))) (opened_by t opens)
+    all [] = refl
+    all (o ∷ os) = opened o.id (slice_get t.subspaces o.id) _ (opened_by t os) (all os)
+
+-- a call on a subspace that the script opens is answered by a channel that stands in the list
+pub named_found : (id : ℕ) (cs : List Channel) (opens : List OpenLine) → map id_of cs ≡ map (λ o. o.id) opens → opens_bank id opens ≡ true → (c : Channel) × (channel_on id cs ≡ Some c)
+named_found id [] [] e named = absurd cc
+named_found id [] (o ∷ os) e named = absurd cc
+named_found id (c ∷ cs) [] e named = absurd cc
+named_found id (c ∷ cs) (o ∷ os) e named =
+    let first : id_of c ≡ o.id = ap (λ (v : List ℕ). get_or v 0 0) e in
+    let rest : map id_of cs ≡ map (λ (x : OpenLine). x.id) os = ap (drop 1) e in
+    at (c.start.head.id == id) (o.id == id) (is_bank o.device) (ap (λ (n : ℕ). n == id) first) named (named_found id cs os rest)
+  where
+    at : (a b is : Bool) → a ≡ b → ((b && is) || opens_bank id os) ≡ true → (opens_bank id os ≡ true → (x : Channel) × (channel_on id cs ≡ Some x)) → (x : Channel) × (cond a (Some c) (channel_on id cs) ≡ Some x)
+    at true b is same h later = (c, refl)
+    at false true is same h later = absurd cc
+    at false false is same h later = later h
+
+pub named_reply : (s : Scenario) (cs : List Channel) (worker subspace code : ℕ) (bytes : List ℕ) (polls hold : ℕ) → map id_of cs ≡ map (λ o. o.id) s.opens → action_fault s (line.Call worker subspace code bytes polls hold) ≡ None
+    → (c : Channel) × (channel_on subspace cs ≡ Some c) × ((turn_of (line.Call worker subspace code bytes polls hold) cs).reply ≡ Some (answer_call c.start (record { caller = worker; code = code; bytes = bytes; polls = polls; hold = hold }) c.now).reply)
+named_reply s cs worker subspace code bytes polls hold ids right =
+    let found : (c : Channel) × (channel_on subspace cs ≡ Some c) = named_found subspace cs s.opens ids (named (opens_bank subspace s.opens) right) in
+    (found.0, found.1, call_answers subspace _ cs found.0 found.1)
+  where
+    named : (b : Bool) → cond b None (Some NotBank) ≡ None → b ≡ true
+    named true h = refl
+    named false h = absurd cc
 
 channels_fresh : (clock : ScriptClock) (id : ℕ) (o : Option Subspace) → AllByRecursion IsFresh (channels_of clock id o)
 channels_fresh clock id None = tt
