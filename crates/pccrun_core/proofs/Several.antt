@@ -3,7 +3,7 @@ use Rattle.std.proofs.Common.{◌≡◌, ◌≢◌, ℕ, ◌+◌, ◌<◌, Bool,
 use Rattle.std.specs.Prelude.{Option, Some, None, ◌==◌, ◌&&◌, slice_get}
 use Rattle.std.specs.List.{AllByRecursion, find, flat_map}
 use Rattle.std.specs.Option.{option_map}
-use Rattle.std.proofs.lemmas.Bool.{cases_eq, eq-eqb, eqb-true, eqb-false, ne_eqb}
+use Rattle.std.proofs.lemmas.Bool.{cases_eq, cond_both, eq-eqb, eqb-true, eqb-false, ne_eqb}
 use Rattle.std.proofs.lemmas.List.{length-map, map-set}
 use Rattle.std.proofs.lemmas.Option.{same_Some, slice_get-get_or, slice_get_within}
 use Rattle.pcct_table.specs.declared.subspace.Subspace.{Subspace}
@@ -31,14 +31,6 @@ use Rattle.pccrun_core.proofs.Histories.{run_histories}
 abbrev pub AreDistinct : List ℕ → Type 0
 AreDistinct [] = Unit {0}
 AreDistinct (n ∷ ns) = AllByRecursion (λ m. n ≢ m) ns × AreDistinct ns
-
-decide : {A : Type 0} (P : A → Type 0) (b : Bool) (x y : A) → (b ≡ true → P x) → (b ≡ false → P y) → P (cond b x y)
-decide P true x y h k = h refl
-decide P false x y h k = k refl
-
-choose : {A : Type 0} (P : A → Type 0) (b : Bool) (x y : A) → P x → P y → P (cond b x y)
-choose P true x y h k = h
-choose P false x y h k = k
 
 all_at : {X : Type 0} (P : X → Type 0) (xs : List X) (i : ℕ) (x : X) → AllByRecursion P xs → slice_get xs i ≡ Some x → P x
 all_at P [] i x h e = absurd cc
@@ -118,7 +110,7 @@ channel_at (d ∷ ds) (suc i) c apart e =
 pub call_reply : (id : ℕ) (call : Call) (cs : List Channel) → (call_on id call cs).reply ≡ option_map (λ c. (answer_call c.start call c.now).reply) (channel_on id cs)
 call_reply id call [] = refl
 call_reply id call (c ∷ cs) =
-    decide (λ (t : Turn). t.reply ≡ option_map (λ (d : Channel). (answer_call d.start call d.now).reply) (channel_on id (c ∷ cs))) (c.start.head.id == id) _ _
+    cond_both (c.start.head.id == id) _ _ (λ (t : Turn). t.reply ≡ option_map (λ (d : Channel). (answer_call d.start call d.now).reply) (channel_on id (c ∷ cs)))
     (λ test. rw test refl)
     (λ test. rw test (call_reply id call cs))
 
@@ -126,7 +118,7 @@ call_reply id call (c ∷ cs) =
 pub call_channel : (id : ℕ) (call : Call) (cs : List Channel) → channel_on id (call_on id call cs).channels ≡ option_map (called call) (channel_on id cs)
 call_channel id call [] = refl
 call_channel id call (c ∷ cs) =
-    decide (λ (t : Turn). channel_on id t.channels ≡ option_map (called call) (channel_on id (c ∷ cs))) (c.start.head.id == id) _ _
+    cond_both (c.start.head.id == id) _ _ (λ (t : Turn). channel_on id t.channels ≡ option_map (called call) (channel_on id (c ∷ cs)))
     (λ test. rw test refl)
     (λ test. rw test (call_channel id call cs))
 
@@ -134,7 +126,7 @@ call_channel id call (c ∷ cs) =
 pub call_other : (id other : ℕ) (call : Call) (cs : List Channel) → id ≢ other → channel_on other (call_on id call cs).channels ≡ channel_on other cs
 call_other id other call [] differs = refl
 call_other id other call (c ∷ cs) differs =
-    decide (λ (t : Turn). channel_on other t.channels ≡ channel_on other (c ∷ cs)) (c.start.head.id == id) _ _
+    cond_both (c.start.head.id == id) _ _ (λ (t : Turn). channel_on other t.channels ≡ channel_on other (c ∷ cs))
     (λ test.
     let unlike : (c.start.head.id == other) ≡ false = ne_eqb (id_of c) other (λ same. differs (sym (eqb-true (id_of c) id test) ∙ same)) in
     rw unlike refl)
@@ -143,9 +135,9 @@ call_other id other call (c ∷ cs) differs =
 pub call_starts : (id : ℕ) (call : Call) (cs : List Channel) → map (λ c. c.start) (call_on id call cs).channels ≡ map (λ c. c.start) cs
 call_starts id call [] = refl
 call_starts id call (c ∷ cs) =
-    choose (λ (t : Turn). map (λ (d : Channel). d.start) t.channels ≡ c.start ∷ map (λ (d : Channel). d.start) cs) (c.start.head.id == id) _ _
-    refl
-    (ap (λ (v : List ChannelStart). c.start ∷ v) (call_starts id call cs))
+    cond_both (c.start.head.id == id) _ _ (λ (t : Turn). map (λ (d : Channel). d.start) t.channels ≡ c.start ∷ map (λ (d : Channel). d.start) cs)
+    (λ test. refl)
+    (λ test. ap (λ (v : List ChannelStart). c.start ∷ v) (call_starts id call cs))
 
 -- a call is answered where some channel has its ID
 pub call_answers : (id : ℕ) (call : Call) (cs : List Channel) (c : Channel) → channel_on id cs ≡ Some c → (call_on id call cs).reply ≡ Some (answer_call c.start call c.now).reply
@@ -212,8 +204,9 @@ turn_channel (line.Call worker subspace code bytes polls hold) id cs ds e =
     let call : Call = record { caller = worker; code = code; bytes = bytes; polls = polls; hold = hold } in
     let P : ℕ → Type 0 = λ n. channel_on id (call_on n call cs).channels ≡ channel_on id (call_on n call ds).channels in
     elim (cases_eq id subspace) [
-    | inl same ↦ subst P same (call_channel id call cs ∙ ap (option_map (called call)) e ∙ sym (call_channel id call ds))
-    | inr differs ↦ call_other subspace id call cs (λ same. differs (sym same)) ∙ e ∙ sym (call_other subspace id call ds (λ same. differs (sym same))) ]
+      | inl same ↦ subst P same (call_channel id call cs ∙ ap (option_map (called call)) e ∙ sym (call_channel id call ds))
+      | inr differs ↦ call_other subspace id call cs (λ same. differs (sym same)) ∙ e ∙ sym (call_other subspace id call ds (λ same. differs (sym same)))
+    ]
 turn_channel (line.Wait n) id cs ds e = waited_channel n id cs ∙ ap (option_map (waited n)) e ∙ sym (waited_channel n id ds)
 turn_channel (line.Read worker cpu polls hold) id cs ds e = e
 turn_channel (line.Set worker wish polls hold) id cs ds e = e
@@ -223,8 +216,9 @@ turn_asks (line.Call worker subspace code bytes polls hold) id cs ds e =
     let call : Call = record { caller = worker; code = code; bytes = bytes; polls = polls; hold = hold } in
     let P : ℕ → Type 0 = λ n. (call_on n call cs).reply ≡ (call_on n call ds).reply in
     elim (cases_eq id subspace) [
-    | inl same ↦ ap (asked_by id (line.Call worker subspace code bytes polls hold)) (subst P same (call_reply id call cs ∙ ap (option_map (λ (c : Channel). (answer_call c.start call c.now).reply)) e ∙ sym (call_reply id call ds)))
-    | inr differs ↦ let unlike : (id == subspace) ≡ false = ne_eqb id subspace differs in rw unlike refl ]
+      | inl same ↦ ap (asked_by id (line.Call worker subspace code bytes polls hold)) (subst P same (call_reply id call cs ∙ ap (option_map (λ (c : Channel). (answer_call c.start call c.now).reply)) e ∙ sym (call_reply id call ds)))
+      | inr differs ↦ let unlike : (id == subspace) ≡ false = ne_eqb id subspace differs in rw unlike refl
+    ]
 turn_asks (line.Wait n) id cs ds e = refl
 turn_asks (line.Read worker cpu polls hold) id cs ds e = refl
 turn_asks (line.Set worker wish polls hold) id cs ds e = refl
