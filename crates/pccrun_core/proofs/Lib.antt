@@ -8,3 +8,4 @@ pub mod Woven
 pub mod Refused
 pub mod Tops
 mod Opens
+pub mod Several
