@@ -1,0 +1,2 @@
+//! Worked items and what is told of wrong ones.
+use super::*;
