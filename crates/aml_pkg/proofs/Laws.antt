@@ -1,7 +1,9 @@
 -- The laws of whole inputs.
-use Rattle.std.proofs.Common.{◌≡◌, ◌⊎◌, inl, inr, ℕ, ◌-◌, ◌≤◌, List, ◌++◌, length, take, Result, Ok, Err, refl, sym, ap, ◌∙◌, subst, arith}
+use Rattle.std.proofs.Common.{◌≡◌, ◌⊎◌, inl, inr, ℕ, zero, suc, ◌-◌, ◌<◌, ◌≤◌, true, ltb, List, [], ◌∷◌, ◌++◌, length, take, slice_index, Result, Ok, Err, refl, sym, ap, ◌∙◌, subst, arith}
 use Rattle.std.specs.Prelude.{IfOk, IfErr, MatchResult}
-use Rattle.std.proofs.lemmas.List.{length-append, take_at}
+use Rattle.std.specs.List.{list_all}
+use Rattle.std.proofs.lemmas.Bool.{and_parts, ltb-true}
+use Rattle.std.proofs.lemmas.List.{length-append, take_all, take_at}
 use Rattle.aml_pkg.specs.declared.item.Item.{Item}
 use Rattle.aml_pkg.specs.declared.fault.AmlFault.{AmlFault}
 use Rattle.aml_pkg.specs.declared.fault.ReadError.{ReadError}
@@ -92,3 +94,19 @@ one_fault b d e hd he = err_is {A = Item × ℕ} d e (sym (used_wrong b d hd) �
 
 pub one_spelling : (x y : List ℕ) (i : Item) → AmlBytes x i → AmlBytes y i → x ≡ y
 one_spelling x y i hx hy = hx.spelled ∙ sym hy.spelled
+
+-- ---- worked cases
+
+-- bytes by a test of each
+pub tested_bytes : (bytes : List ℕ) → list_all (λ x. ltb x 256) bytes ≡ true → (place : ℕ) → slice_index bytes place < 256
+tested_bytes [] h place = omega arith
+tested_bytes (x ∷ xs) h zero = ltb-true x 256 (and_parts (ltb x 256) (list_all (λ x. ltb x 256) xs) h).0
+tested_bytes (x ∷ xs) h (suc place) = tested_bytes xs (and_parts (ltb x 256) (list_all (λ x. ltb x 256) xs) h).1 place
+
+pub wrong_by : (bytes : List ℕ) (fault : AmlFault) → list_all (λ x. ltb x 256) bytes ≡ true → used_at bytes ≡ Err fault → ItemWrong bytes fault
+wrong_by bytes fault h e = used_err bytes fault (record { fits = tested_bytes bytes h }) e
+
+pub spelled_by : (bytes : List ℕ) (i : Item) → list_all (λ x. ltb x 256) bytes ≡ true → used_at bytes ≡ Ok (i, length bytes) → AmlBytes bytes i
+spelled_by bytes i h e =
+    let found = used_found bytes (i, length bytes) (record { fits = tested_bytes bytes h }) e in
+    subst (λ (front : List ℕ). AmlBytes front i) (take_all (length bytes) bytes (omega arith)) found.spelled

@@ -1,6 +1,6 @@
 //! Reading integers and lengths.
 ghost use Rattle.std.specs.Prelude.{◌≡◌, ◌≤◌, ◌<◌, ◌+◌, ◌^◌, length, IfOk};
-ghost use Rattle.aml_pkg.specs.Reading.{Gives, form_of, int_at, len_at, number_at, spelled_len_at, value_of};
+ghost use Rattle.aml_pkg.specs.Reading.{Gives, body_len, form_of, int_at, len_at, number_at, spelled_len_at, value_of};
 
 use crate::fault::{AmlKind, ReadError};
 use crate::item::{Form, Int, Len};
@@ -121,4 +121,12 @@ pub(crate) fn len_of(window: Window, bytes: &[u8]) -> Result<(Len, &[u8]), ReadE
         return Err(window.ended());
     }
     Ok((len, rest))
+}
+
+/// How many bytes a length leaves behind its own.
+pub(crate) fn body_len(len: Len) -> usize
+    requires { 1 + len.follow ≤ len.value }
+    ensures { result ≡ body_len len }
+{
+    (len.value - (1 + u32::from(len.follow))) as usize
 }

@@ -12,7 +12,7 @@ ghost use Rattle.aml_pkg.specs.Reading.{Gives, body_at, buffer_at, element_at, e
 
 use crate::fault::{AmlError, AmlKind, ReadError};
 use crate::item::{Buffer, Element, Item, Items};
-use crate::number::{int_of, len_of};
+use crate::number::{body_len, int_of, len_of};
 use crate::window::Window;
 use pcc_io::Bytes;
 use std::alloc::Global;
@@ -31,8 +31,7 @@ fn buffer_of(alloc: Global, window: Window, bytes: &[u8]) -> Result<(Buffer, &[u
     ensures shorter { IfOk result (λ x. length x.1.now ≤ length bytes.now) }
 {
     let (len, rest) = len_of(window, bytes)?;
-    let body_len = len.value - (1 + u32::from(len.follow));
-    let (body, rest) = rest.split_at(body_len as usize);
+    let (body, rest) = rest.split_at(body_len(len));
     let (size, body) = int_of(window.inner(bytes, len.value), body)?;
     let bytes = Bytes::from_vec(Vec::from_slice(alloc, body)?);
     Ok((Buffer { len, size, bytes }, rest))
@@ -103,8 +102,7 @@ fn package_of(alloc: Global, window: Window, bytes: &[u8]) -> Result<(Item, &[u8
     ensures shorter { IfOk result (λ x. length x.1.now ≤ length bytes.now) }
 {
     let (len, rest) = len_of(window, bytes)?;
-    let body_len = len.value - (1 + u32::from(len.follow));
-    let (body, rest) = rest.split_at(body_len as usize);
+    let (body, rest) = rest.split_at(body_len(len));
     let items = body_of(alloc, window.inner(bytes, len.value), body)?;
     Ok((Item::Package { len, items }, rest))
 }
