@@ -1,0 +1,5 @@
+pub mod RowTable
+pub mod Tested
+pub mod Laws
+pub mod Sizes
+pub mod Lines

@@ -1,0 +1,5 @@
+pub mod Rows
+pub mod Entries
+pub mod Packages
+pub mod Testing
+pub mod PackageText

@@ -1,0 +1,21 @@
+//! Packages of performance control (`_CPC`, ACPI 6.5, 8.4.6.1): their bytes both ways, their text, and which fields of a communication
+//! space their registers are. A controller of performance and its callers stand on it.
+#![tactic(auto)]
+
+mod entry;
+mod fault;
+mod package;
+mod register;
+mod rows;
+mod testing;
+mod text;
+mod worked;
+
+pub use entry::Entry;
+pub use fault::{CpcError, CpcFault, CpcKind};
+pub use package::{Cpc, cpc_from, cpc_to, package_laws};
+pub use rows::Role;
+pub use text::cpc_lines;
+
+#[cfg(test)]
+mod tests;

@@ -1,0 +1,2 @@
+//! Worked packages.
+use super::*;

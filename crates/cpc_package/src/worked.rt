@@ -1,0 +1,1 @@
+//! Worked packages, on which the definitions are evaluated.
