@@ -3,3 +3,6 @@ pub mod Tested
 pub mod Laws
 pub mod Sizes
 pub mod Lines
+pub mod First
+pub mod Meeting
+pub mod Bound

@@ -3,3 +3,4 @@ pub mod Entries
 pub mod Packages
 pub mod Testing
 pub mod PackageText
+pub mod Bindings

@@ -2,6 +2,8 @@
 //! space their registers are. A controller of performance and its callers stand on it.
 #![tactic(auto)]
 
+mod apart;
+mod binding;
 mod entry;
 mod fault;
 mod package;
@@ -9,8 +11,9 @@ mod register;
 mod rows;
 mod testing;
 mod text;
-mod worked;
 
+pub use apart::cpus_apart;
+pub use binding::{BindFault, Binding, Cpus, Source1, bind};
 pub use entry::Entry;
 pub use fault::{CpcError, CpcFault, CpcKind};
 pub use package::{Cpc, cpc_from, cpc_to, package_laws};

@@ -3,7 +3,7 @@ ghost use Rattle.std.specs.Prelude.{◌≡◌, ◌⊎◌, ◌<◌, ◌≤◌, �
 ghost use Rattle.pcc_bytes.specs.Bytes.{IsBytes};
 ghost use Rattle.aml_pkg.specs.declared.item.Item.{Item};
 ghost use Rattle.cpc_package.specs.Entries.{elements_of, entries_of, entry_at};
-ghost use Rattle.cpc_package.specs.Packages.{CpcBytes, CpcWrong, HasFault, HasPackage, HasSeventeen, IsTold, Tells};
+ghost use Rattle.cpc_package.specs.Packages.{CpcBytes, CpcWrong, HasFault, HasPackage, HasSeventeen, IsCpc, IsTold, Tells};
 ghost use Rattle.cpc_package.specs.declared.fault.CpcFault.{CpcFault};
 ghost use Rattle.cpc_package.specs.declared.fault.CpcError.TheVariants.{NoMemory as OutOfMemory};
 
@@ -40,6 +40,7 @@ impl Cpc {
         ensures value { result.now ≡ elements_of self.now }
         ensures sized { All HasSeventeen result.now }
         ensures all { length result.now ≡ 23 }
+        ensures right { IsCpc self.now }
     {
         match &self.item {
             Item::Package { items, .. } => items.as_slice(),
@@ -52,6 +53,7 @@ impl Cpc {
     pub fn entries(&self) -> u8
         ensures count { result ≡ length (entries_of self.now) }
         ensures all { result ≡ 23 }
+        ensures right { IsCpc self.now }
     {
         self.elements().len() as u8
     }

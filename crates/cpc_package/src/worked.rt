@@ -1,1 +1,0 @@
-//! Worked packages, on which the definitions are evaluated.
