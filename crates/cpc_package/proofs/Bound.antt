@@ -1,5 +1,5 @@
 -- What is known of the entries of a package that can be bound.
-use Rattle.std.proofs.Common.{◌≡◌, ◌⊎◌, inl, inr, ℕ, zero, suc, ◌+◌, ◌*◌, ◌<◌, ◌≤◌, Bool, true, false, cond, eqb, leb, List, [], ◌∷◌, length, get_or, map, take, set, replicate, Option, Some, None, refl, sym, ap, ◌∙◌, subst, arith}
+use Rattle.std.proofs.Common.{◌≡◌, inl, inr, ℕ, zero, suc, ◌+◌, ◌*◌, ◌<◌, ◌≤◌, Bool, true, false, cond, eqb, leb, List, [], ◌∷◌, length, get_or, map, take, set, replicate, Option, Some, None, refl, sym, ap, ◌∙◌, subst, arith}
 use Rattle.std.specs.Prelude.{◌&&◌, slice_index}
 use Rattle.std.proofs.lemmas.Bool.{and_parts, cases_lt, eqb-true, leb-true}
 use Rattle.std.proofs.lemmas.List.{get_or-replicate, get_or-set_same, get_or-set_other, get_or_past, length-replicate, length-set, get_or-map}
@@ -15,16 +15,14 @@ use Rattle.pcc_gas.specs.declared.field.Field.{Field}
 use Rattle.cpc_package.specs.declared.entry.Entry.{Entry}
 use Rattle.cpc_package.specs.declared.entry.Entry.TheVariants.{Integer, Register, Absent}
 use Rattle.cpc_package.specs.declared.binding.Source1.{Source1}
-use Rattle.cpc_package.specs.declared.binding.Source1.TheVariants.{Missing, Number, At}
+use Rattle.cpc_package.specs.declared.binding.Source1.TheVariants.{Missing, At}
 use Rattle.cpc_package.specs.declared.binding.Binding.{Binding}
-use Rattle.cpc_package.specs.declared.binding.BindFault.{BindFault}
-use Rattle.cpc_package.specs.declared.binding.BindFault.TheVariants.{NotPcc, TwoSubspaces, BadWidth, FieldOutside, FieldsOverlap, NoDesired, NoBound}
+use Rattle.cpc_package.specs.declared.binding.BindFault.TheVariants.{NotPcc, TwoSubspaces, BadWidth, FieldOutside, NoDesired, NoBound}
 use Rattle.cpc_package.specs.Entries.{entries_of, entry_at, entry_of, is_absent_in, register_in}
 use Rattle.cpc_package.specs.Packages.{AllFrom, IsCpc, IsOfRole}
 use Rattle.cpc_package.specs.Rows.{role_of}
-use Rattle.cpc_package.specs.declared.rows.Role.{Role}
 use Rattle.cpc_package.specs.declared.rows.Role.TheVariants as role
-use Rattle.cpc_package.specs.Bindings.{HasWidth, IsBinding, IsRight, LiesIn, access_test, bind_fault, bounds_fault, end_of, field_of, first_from, first_sharing, first_subspace, gas_of, is_absent, is_subspace, overlap, register_test, registers_fault, share_bit, share_test, source_at, source_of}
+use Rattle.cpc_package.specs.Bindings.{HasWidth, IsBinding, IsRight, LiesIn, access_test, bind_fault, bounds_fault, end_of, field_of, first_sharing, first_subspace, gas_of, is_absent, is_subspace, overlap, register_test, registers_fault, share_test, source_at, source_of}
 use Rattle.cpc_package.proofs.First.{first_none, front_none, or_none}
 use Rattle.cpc_package.proofs.Meeting.{apart_by}
 
@@ -254,12 +252,12 @@ is_right c len b h none bound =
     let there_are = bounded (entry_at entries 7) (entry_at entries 5) (entry_at entries 3) (entry_at entries 2) (or_none (registers_fault entries len) _ none).1 in
     let register = desired_register c h there_are.is_desired in
     record {
-  desired = (field_of register.0, bound.each 7 (omega arith) ∙ source_of_gas (entry_at entries 7) register.0 register.1);
-  lowest = λ m. there (entry_at entries 5) there_are.is_lowest (sym (bound.each 5 (omega arith)) ∙ m);
-  highest = λ m. there (entry_at entries 2) there_are.is_highest (sym (bound.each 2 (omega arith)) ∙ m);
-  widths = widths (entries_of c) len b none bound;
-  apart = all_apart (entries_of c) len b none bound;
-}
+      desired = (field_of register.0, bound.each 7 (omega arith) ∙ source_of_gas (entry_at entries 7) register.0 register.1);
+      lowest = λ m. there (entry_at entries 5) there_are.is_lowest (sym (bound.each 5 (omega arith)) ∙ m);
+      highest = λ m. there (entry_at entries 2) there_are.is_highest (sym (bound.each 2 (omega arith)) ∙ m);
+      widths = widths (entries_of c) len b none bound;
+      apart = all_apart (entries_of c) len b none bound;
+    }
 
 pub bound_by : (entries : List Entry) (len : ℕ) (b : Binding) → bind_fault entries len ≡ None
     → ((n : ℕ) (gas : Gas) → gas_of (entry_at entries n) ≡ Some gas → is_subspace (first_subspace entries) gas.access ≡ true → b.subspace ≡ gas.access)

@@ -1,11 +1,11 @@
 -- What is read is spelled so, what is spelled so is read, and each fault is of the wrong that it tells.
-use Rattle.std.proofs.Common.{◌≡◌, ◌⊎◌, inl, inr, ℕ, ◌≤◌, List, ◌++◌, length, take, drop, Option, Some, None, refl, sym, ap, ◌∙◌, subst}
+use Rattle.std.proofs.Common.{◌≡◌, ◌⊎◌, inl, inr, ℕ, List, ◌++◌, length, take, drop, Option, Some, None, sym, ap, ◌∙◌, subst}
 use Rattle.std.proofs.lemmas.List.{take-append-drop}
 use Rattle.aml_pkg.specs.declared.item.Item.{Item}
 use Rattle.aml_pkg.specs.declared.fault.AmlFault.{AmlFault}
 use Rattle.aml_pkg.specs.declared.fault.ReadError.{ReadError}
 use Rattle.aml_pkg.specs.declared.fault.ReadError.TheVariants as read
-use Rattle.aml_pkg.specs.Spelling.{AmlBytes, IsItem}
+use Rattle.aml_pkg.specs.Spelling.{AmlBytes}
 use Rattle.aml_pkg.specs.Faults as aml
 use Rattle.aml_pkg.specs.Answers.{OnFault}
 use Rattle.pcc_bytes.specs.Bytes.{IsBytes}

@@ -1,13 +1,13 @@
 -- Fields share a bit or are apart.
-use Rattle.std.proofs.Common.{◌≡◌, ◌⊎◌, inl, inr, ℕ, ◌+◌, ◌<◌, ◌≤◌, Bool, true, false, ltb, List, length, get_or, refl, sym, ap, ◌∙◌, subst, arith}
+use Rattle.std.proofs.Common.{◌≡◌, ◌⊎◌, inl, inr, ℕ, ◌+◌, ◌<◌, ◌≤◌, Bool, true, false, List, length, get_or, refl, sym, ap, ◌∙◌, subst, arith}
 use Rattle.std.proofs.lemmas.Bool.{cases_lt, lt-ltb}
 use Rattle.std.proofs.lemmas.List.{get_or_past}
 use Rattle.pcc_gas.specs.Fields.{AreApart, InField}
 use Rattle.pcc_gas.specs.declared.field.Field.{Field}
 use Rattle.cpc_package.specs.declared.binding.Source1.{Source1}
-use Rattle.cpc_package.specs.declared.binding.Source1.TheVariants.{Missing, Number, At}
+use Rattle.cpc_package.specs.declared.binding.Source1.TheVariants.{Missing, At}
 use Rattle.cpc_package.specs.declared.binding.Binding.{Binding}
-use Rattle.cpc_package.specs.Bindings.{AllApart, Meets, ShareBit, end_of, share_bit, source_at}
+use Rattle.cpc_package.specs.Bindings.{AllApart, Meets, ShareBit, end_of, share_bit}
 
 -- ---- two fields
 

@@ -1,9 +1,8 @@
 -- The tests of an item say what is wrong first.
-use Rattle.std.proofs.Common.{◌≡◌, ◌⊎◌, inl, inr, ℕ, zero, suc, ◌+◌, ◌/◌, ◌%◌, ◌^◌, ◌<◌, ◌≤◌, Bool, true, false, cond, eqb, List, [], ◌∷◌, ◌++◌, length, get_or, drop, take, Option, Some, None, refl, sym, ap, ◌∙◌, subst, arith}
+use Rattle.std.proofs.Common.{◌≡◌, inl, inr, ℕ, zero, suc, ◌+◌, ◌%◌, ◌^◌, ◌<◌, ◌≤◌, Bool, true, false, cond, eqb, List, [], ◌∷◌, ◌++◌, length, get_or, drop, take, Option, Some, None, refl, sym, ap, ◌∙◌, subst, arith}
 use Rattle.std.specs.Prelude.{◌&&◌, ◌||◌, slice_index, sum, bytes_eq}
 use Rattle.std.specs.List.{flat_map}
-use Rattle.std.proofs.lemmas.Bool.{eqb-true, eqb-false, eq-eqb, ne_eqb, and_parts, or_cases}
-use Rattle.std.proofs.lemmas.Bool.Decides.{nat_tests}
+use Rattle.std.proofs.lemmas.Bool.{eqb-true, eqb-false, eq-eqb, ne_eqb}
 use Rattle.std.proofs.lemmas.Slice.Eq.{bytes_eq-Decides}
 use Rattle.std.proofs.lemmas.List.{length-append, length-take, length-drop, drop_more, drop_all}
 use Rattle.std.proofs.lemmas.List.Concat.{flat_map-cons}
@@ -15,14 +14,13 @@ use Rattle.aml_pkg.specs.declared.item.Element.TheVariants as element
 use Rattle.aml_pkg.specs.declared.item.Item.{Item}
 use Rattle.aml_pkg.specs.declared.item.Item.TheVariants as item
 use Rattle.aml_pkg.specs.Spelling.{element_bytes, len_limit, IsPackage}
-use Rattle.pcc_gas.specs.Addresses.{AddressBytes, RegisterBytes}
 use Rattle.cpc_package.specs.declared.rows.Role.{Role}
 use Rattle.cpc_package.specs.declared.rows.Role.TheVariants as role
 use Rattle.cpc_package.specs.declared.fault.CpcKind.{CpcKind}
 use Rattle.cpc_package.specs.declared.fault.CpcKind.TheVariants.{NotInteger, WrongCount, WrongRevision, NotRegister, BadDescriptor, BadEndTag, BadChecksum, EntryCount}
 use Rattle.cpc_package.specs.declared.fault.CpcFault.{CpcFault}
 use Rattle.cpc_package.specs.Rows.{role_of}
-use Rattle.cpc_package.specs.Entries.{address_part, register_in}
+use Rattle.cpc_package.specs.Entries.{register_in}
 use Rattle.cpc_package.specs.Packages.{Agrees, AllFrom, EntryWrong, CountBuffer, RevisionBuffer, OtherCount, OtherRevision, NoRegister, InRegister, InEither, IsCount, IsCpc, IsOfRole, IsRegister, IsSized, PackageWrong, NoPackage, OtherEntries, InEntry, RegisterWrong, InSize, InDescriptor, InEndTag, InChecksum, descriptor, revision_of}
 use Rattle.cpc_package.specs.Testing.{entries_fault, entry_kind, found_at, item_fault, register_kind}
 
@@ -96,9 +94,9 @@ agrees_test : (bytes : List ℕ) (s t : Bool) → s ≡ eqb (slice_index bytes 1
 agrees_test bytes true t e d = Holds (inl (eqb-true _ _ (sym e)))
 agrees_test bytes false true e d = Holds (inr (eqb-true _ _ (sym d)))
 agrees_test bytes false false e d = Breaks (λ h. elim h [
-      | inl z ↦ eqb-false (slice_index bytes 16) 0 (sym e) z
-      | inr z ↦ eqb-false (sum bytes % 256) 0 (sym d) z
-    ])
+  | inl z ↦ eqb-false (slice_index bytes 16) 0 (sym e) z
+  | inr z ↦ eqb-false (sum bytes % 256) 0 (sym d) z
+])
 
 agrees_decides : (bytes : List ℕ) → Decided (Agrees bytes) (eqb (slice_index bytes 16) 0 || eqb (sum bytes % 256) 0)
 agrees_decides bytes = agrees_test bytes _ _ refl refl

@@ -4,3 +4,4 @@ pub mod Packages
 pub mod Testing
 pub mod PackageText
 pub mod Bindings
+pub mod Worked

@@ -59,19 +59,32 @@ pub type Cpus = Items<Binding>;
 #[derive(Clone, Copy, Debug, PartialEq, Eq)]
 pub enum BindFault {
     /// The register lies in another space than that of communication channels.
-    NotPcc { entry: u8 },
+    NotPcc {
+        entry: u8,
+    },
     /// The register lies in another subspace than the first one.
-    TwoSubspaces { entry: u8 },
+    TwoSubspaces {
+        entry: u8,
+    },
     /// The register has no bit, or more than 64.
-    BadWidth { entry: u8 },
+    BadWidth {
+        entry: u8,
+    },
     /// The register ends behind the communication space.
-    FieldOutside { entry: u8 },
+    FieldOutside {
+        entry: u8,
+    },
     /// Entry b has a bit of entry a, the first of those before it that share one.
-    FieldsOverlap { a: u8, b: u8 },
+    FieldsOverlap {
+        a: u8,
+        b: u8,
+    },
     /// The desired performance, entry 7, is absent.
     NoDesired,
     /// The lowest performance, entry 5, is absent, or else the highest, entry 2.
-    NoBound { entry: u8 },
+    NoBound {
+        entry: u8,
+    },
     /// The lowest, the nominal and the highest performance are integers that don't rise in this order.
     BadScale {
         lowest: u64,
@@ -199,11 +212,7 @@ fn number_of(entry: Entry) -> Option<u64>
     }
 }
 
-fn scale_fault(
-    lowest: Option<u64>,
-    nominal: Option<u64>,
-    highest: Option<u64>,
-) -> Option<BindFault>
+fn scale_fault(lowest: Option<u64>, nominal: Option<u64>, highest: Option<u64>) -> Option<BindFault>
     ensures { result ≡ scale_fault lowest nominal highest }
 {
     let lowest = lowest?;
@@ -220,12 +229,7 @@ fn scale_fault(
 }
 
 /// The first of the entries that must be there and isn't, or a scale that doesn't rise.
-fn bounds_fault(
-    desired: Entry,
-    lowest: Entry,
-    nominal: Entry,
-    highest: Entry,
-) -> Option<BindFault>
+fn bounds_fault(desired: Entry, lowest: Entry, nominal: Entry, highest: Entry) -> Option<BindFault>
     ensures { result ≡ bounds_fault desired lowest nominal highest }
 {
     if is_absent(desired) {

@@ -7,7 +7,5 @@ pub enum Entry {
     Integer(u64),
     Register(Register),
     /// A register whose address is twelve zero bytes: there is none.
-    Absent {
-        checksum: u8,
-    },
+    Absent { checksum: u8 },
 }

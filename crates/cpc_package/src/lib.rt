@@ -11,6 +11,7 @@ mod register;
 mod rows;
 mod testing;
 mod text;
+mod worked;
 
 pub use apart::cpus_apart;
 pub use binding::{BindFault, Binding, Cpus, Source1, bind};
@@ -19,6 +20,7 @@ pub use fault::{CpcError, CpcFault, CpcKind};
 pub use package::{Cpc, cpc_from, cpc_to, package_laws};
 pub use rows::Role;
 pub use text::cpc_lines;
+pub use worked::{SIX_FIELDS_PACKAGE, worked_packages};
 
 #[cfg(test)]
 mod tests;

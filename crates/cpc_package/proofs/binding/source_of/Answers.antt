@@ -1,4 +1,4 @@
-use Rattle.std.proofs.Common.{◌+◌, ◌*◌, ◌≤◌, ap, arith}
+use Rattle.std.proofs.Common.{◌*◌, ◌≤◌, ap, arith}
 use Rattle.cpc_package.specs.Bindings.{end_of, field_of, gas_of}
 use Rattle.cpc_package.proofs.binding.source_of.Goals as goal
 

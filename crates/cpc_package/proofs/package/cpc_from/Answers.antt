@@ -1,4 +1,4 @@
-use Rattle.std.proofs.Common.{sym, ◌∙◌}
+use Rattle.std.proofs.Common.{sym}
 use Rattle.std.proofs.lemmas.Result.{err_from_is_err_and}
 use Rattle.cpc_package.proofs.Laws.{is_right, package_only, package_exact, faulty_only, faulty_told, faulty_exact, unread_told, unread_exact}
 use Rattle.cpc_package.proofs.package.cpc_from.Goals as goal
