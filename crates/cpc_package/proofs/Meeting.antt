@@ -1,6 +1,7 @@
 -- Fields share a bit or are apart.
-use Rattle.std.proofs.Common.{◌≡◌, ◌⊎◌, inl, inr, ℕ, ◌+◌, ◌<◌, ◌≤◌, Bool, true, false, List, length, get_or, refl, sym, ap, ◌∙◌, subst, arith}
-use Rattle.std.proofs.lemmas.Bool.{cases_lt, lt-ltb}
+use Rattle.std.proofs.Common.{◌≡◌, ◌⊎◌, inl, inr, ℕ, ◌+◌, ◌<◌, ◌≤◌, Bool, true, false, ltb, List, length, get_or, refl, sym, ap, ◌∙◌, subst, arith}
+use Rattle.std.specs.Prelude.{◌&&◌, ◌↔◌}
+use Rattle.std.proofs.lemmas.Bool.{and_parts, cases_lt, lt-ltb, ltb-true}
 use Rattle.std.proofs.lemmas.List.{get_or_past}
 use Rattle.pcc_gas.specs.Fields.{AreApart, InField}
 use Rattle.pcc_gas.specs.declared.field.Field.{Field}
@@ -32,6 +33,20 @@ pub record Common (f g : Field) : Type 0 where
   pub in_first : InField f bit
   pub in_second : InField g bit
 
+common_by : (f g : Field) → share_bit f g ≡ true → Common f g
+common_by f g h =
+    let p = and_parts (ltb f.at_bit (end_of f) && ltb g.at_bit (end_of g) && ltb f.at_bit (end_of g)) (ltb g.at_bit (end_of f)) h in
+    let q = and_parts (ltb f.at_bit (end_of f) && ltb g.at_bit (end_of g)) (ltb f.at_bit (end_of g)) p.0 in
+    let r = and_parts (ltb f.at_bit (end_of f)) (ltb g.at_bit (end_of g)) q.0 in
+    let a = ltb-true f.at_bit (end_of f) r.0 in
+    let b = ltb-true g.at_bit (end_of g) r.1 in
+    let c = ltb-true f.at_bit (end_of g) q.1 in
+    let d = ltb-true g.at_bit (end_of f) p.1 in
+    elim (cases_lt f.at_bit g.at_bit) [
+      | inl lt ↦ record { bit = g.at_bit; in_first = record { from = omega arith; below = d }; in_second = record { from = omega arith; below = b } }
+      | inr le ↦ record { bit = f.at_bit; in_first = record { from = omega arith; below = a }; in_second = record { from = le; below = c } }
+    ]
+
 above : (f g : Field) → g.at_bit ≤ f.at_bit → (AreApart f g → ⊥) → Common f g
 above f g le h =
     elim (cases_lt f.at_bit (f.at_bit + f.width)) [
@@ -50,6 +65,20 @@ common f g h =
           record { bit = c.bit; in_first = c.in_second; in_second = c.in_first }
       | inr le ↦ above f g le h
     ]
+
+-- the tests tell exactly which fields aren't apart
+split : (b : Bool) → (b ≡ true) ⊎ (b ≡ false)
+split true = inl refl
+split false = inr refl
+
+pub share_exact : (f g : Field) → (share_bit f g ≡ true) ↔ (AreApart f g → ⊥)
+share_exact f g = (
+  λ h apart. let c = common_by f g h in apart c.bit c.in_first c.in_second,
+  λ h. elim (split (share_bit f g)) [
+    | inl yes_it_does ↦ yes_it_does
+    | inr none ↦ absurd (h (apart_by f g none))
+  ],
+)
 
 -- ---- a field and the sources of another binding
 

@@ -1,7 +1,9 @@
 //! Which entries of a package are fields of a communication space.
-ghost use Rattle.std.specs.Prelude.{◌≡◌, ◌<◌, ◌≤◌, ◌*◌, ◌^◌, ℕ, length, take, slice_index_or, true, Some, None, IfOk, MatchResult};
+ghost use Rattle.std.specs.Prelude.{◌≡◌, ◌<◌, ◌≤◌, ◌*◌, ◌^◌, ◌↔◌, ℕ, length, take, slice_index_or, true, Some, None, IfOk, MatchResult};
 ghost use Rattle.pcc_gas.specs.declared.address.Gas.{Gas};
 ghost use Rattle.cpc_package.specs.declared.binding.Source1.TheVariants.{Missing};
+ghost use Rattle.pcc_gas.specs.Fields.{AreApart};
+ghost use Rattle.pcc_gas.specs.declared.field.Field.{Field};
 ghost use Rattle.cpc_package.specs.Entries.{entries_of, entry_at};
 ghost use Rattle.cpc_package.specs.Packages.{IsCpc};
 ghost use Rattle.cpc_package.specs.Bindings.{
@@ -157,8 +159,15 @@ fn first_sharing(cpc: &Cpc, n: u8, gas: Gas) -> Option<u8>
     None
 }
 
-/// The first test of a register that fails, in a space of so many bytes.
-fn register_fault(cpc: &Cpc, space_len: u32, entry: u8, gas: Gas) -> Option<BindFault>
+/// The first test of a register that fails, in a space of so many bytes, where the first one lies in a subspace.
+fn register_fault(
+    cpc: &Cpc,
+    subspace: Option<u8>,
+    space_len: u32,
+    entry: u8,
+    gas: Gas,
+) -> Option<BindFault>
+    requires first { subspace ≡ first_subspace (entries_of cpc.now) }
     requires few { entry < 23 }
     requires within { entry < length (entries_of cpc.now) }
     ensures { result ≡ register_test (entries_of cpc.now) space_len entry (Some gas) }
@@ -166,7 +175,7 @@ fn register_fault(cpc: &Cpc, space_len: u32, entry: u8, gas: Gas) -> Option<Bind
     if gas.space != PCC {
         return Some(BindFault::NotPcc { entry });
     }
-    if let Some(subspace) = first_subspace(cpc) {
+    if let Some(subspace) = subspace {
         if subspace != gas.access {
             return Some(BindFault::TwoSubspaces { entry });
         }
@@ -187,9 +196,10 @@ fn registers_fault(cpc: &Cpc, space_len: u32) -> Option<BindFault>
     ensures right { IsCpc cpc.now }
     ensures fault { result ≡ registers_fault (entries_of cpc.now) space_len }
 {
+    let subspace = first_subspace(cpc);
     for n in 0..cpc.entries() {
         if let Some(gas) = gas_of(cpc.entry(n)) {
-            if let Some(fault) = register_fault(cpc, space_len, n, gas) {
+            if let Some(fault) = register_fault(cpc, subspace, space_len, n, gas) {
                 return Some(fault);
             }
         }
@@ -320,3 +330,8 @@ pub fn bind(cpc: &Cpc, space_len: u32) -> Result<Binding, BindFault>
         sources: sources_of(cpc, space_len),
     })
 }
+
+/// Two fields share a bit, as the tests of a package see it, exactly where they aren't apart. It does nothing.
+pub fn share_law()
+    ensures { (f g : Field) → (share_bit f g ≡ true) ↔ (AreApart f g → ⊥) }
+{}

@@ -14,7 +14,7 @@ mod text;
 mod worked;
 
 pub use apart::cpus_apart;
-pub use binding::{BindFault, Binding, Cpus, Source1, bind};
+pub use binding::{BindFault, Binding, Cpus, Source1, bind, share_law};
 pub use entry::Entry;
 pub use fault::{CpcError, CpcFault, CpcKind};
 pub use package::{Cpc, cpc_from, cpc_to, package_laws};

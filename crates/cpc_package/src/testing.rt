@@ -84,8 +84,7 @@ fn entries_fault(elements: &[Element], at: u32) -> Option<CpcFault>
 {
     let count = elements.len();
     let mut at = at;
-    for n in 0..count {
-        let element = &elements[n];
+    for (n, element) in elements.iter().enumerate() {
         if let Some(kind) = entry_kind(count, row_of(n).1, element) {
             let entry = n as u8;
             return Some(CpcFault { entry, at, kind });

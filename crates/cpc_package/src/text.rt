@@ -118,8 +118,8 @@ pub fn cpc_lines(alloc: Global, cpc: &Cpc) -> Result<Vec<u8>, NoMemory>
 {
     let mut out = Vec::new(alloc);
     let elements = cpc.elements();
-    for n in 0..elements.len() {
-        put_entry(&mut out, n, &elements[n])?;
+    for (n, element) in elements.iter().enumerate() {
+        put_entry(&mut out, n, element)?;
     }
     Ok(out)
 }
