@@ -1,0 +1,7 @@
+pub mod Rows
+pub mod Entries
+pub mod Packages
+pub mod Testing
+pub mod PackageText
+pub mod Bindings
+pub mod Worked

@@ -1,0 +1,50 @@
+-- Worked packages.
+use Rattle.std.specs.Prelude.{ℕ, List, [], ◌∷◌, ◌++◌, replicate}
+use Rattle.aml_pkg.specs.declared.item.Form.{Form}
+use Rattle.aml_pkg.specs.declared.item.Form.TheVariants.{Zero, Byte, Word}
+use Rattle.aml_pkg.specs.declared.item.Element.{Element}
+use Rattle.aml_pkg.specs.declared.item.Element.TheVariants as element
+use Rattle.aml_pkg.specs.declared.item.Item.{Item}
+use Rattle.aml_pkg.specs.declared.item.Item.TheVariants as item
+
+abbrev pub integer : ℕ → Form → Element
+integer value form = element.Int (record { value = value; form = form })
+
+abbrev pub buffer : List ℕ → Element
+buffer bytes = element.Buffer (record { len = record { value = 20; follow = 0 }; size = record { value = 17; form = Byte }; bytes = bytes })
+
+-- twelve zero bytes of address
+abbrev pub no_register : Element
+no_register = buffer (0x82 ∷ 0x0c ∷ 0x00 ∷ (replicate 12 0 ++ 0x79 ∷ 0 ∷ []))
+
+-- a register of subspace 0 at a byte
+abbrev pub field_at : ℕ → ℕ → Element
+field_at width byte = buffer (0x82 ∷ 0x0c ∷ 0x00 ∷ 0x0a ∷ width ∷ 0 ∷ 0 ∷ byte ∷ (replicate 7 0 ++ 0x79 ∷ 0 ∷ []))
+
+-- the desired, the minimum and the maximum performance, both counters, and whether performance was limited
+abbrev pub six_fields : Item
+six_fields = item.Package (record { value = 278; follow = 1 }) (
+    integer 23 Byte
+    ∷ integer 3 Byte
+    ∷ integer 300 Word
+    ∷ integer 200 Byte
+    ∷ integer 80 Byte
+    ∷ integer 10 Byte
+    ∷ no_register
+    ∷ field_at 32 0
+    ∷ field_at 32 4
+    ∷ field_at 32 8
+    ∷ no_register
+    ∷ no_register
+    ∷ integer 0 Zero
+    ∷ field_at 64 16
+    ∷ field_at 64 24
+    ∷ field_at 32 12
+    ∷ no_register
+    ∷ integer 0 Zero
+    ∷ no_register
+    ∷ no_register
+    ∷ integer 100 Byte
+    ∷ integer 400 Word
+    ∷ integer 2000 Word
+    ∷ [])
