@@ -14,10 +14,11 @@ use Rattle.pcc_steps.specs.declared.ask.AskOutcome.TheVariants.{Posted, Clear, D
 use Rattle.pcc_steps.specs.Wires.{style_of, block_of, sees_done, tells_error, acknowledges}
 use Rattle.pcc_steps.specs.Runs.{Run, ends, loads, stores, swaps, executes, Within}
 use Rattle.pcc_steps.specs.Walk.{ask_left, ask_after, Takes}
-use Rattle.pcc_steps.specs.Asking.{Ask, AskOk, IsAskRunning, ask_next, ask_fed, ask_told, ask_fed_at, has_more, after_block, after_update, after_mark, after_bell, after_look, store_on, look_on, read_on, block_on, line_on, lowered_on}
+use Rattle.pcc_steps.specs.Asking.{Ask, AskOk, IsAskRunning, ask_begun, ask_looking, ask_next, ask_fed, ask_told, ask_fed_at, has_more, after_block, after_update, after_mark, after_bell, after_look, store_on, look_on, read_on, block_on, line_on, lowered_on}
 use Rattle.pcc_steps.specs.Agree.{act, Finds, Asker, Answerer, Agree, done_after, clears_after}
 use Rattle.pcc_steps.proofs.Agreement.{ask_step_agrees}
-use Rattle.pcc_steps.proofs.AskWalks.{asks_by_table}
+use Rattle.pcc_steps.proofs.AskWalks.{asks_by_table, looks_by_table, posts_by_table}
+use Rattle.pcc_steps.proofs.Bounds.{looks_within, posts_within}
 use Rattle.pcc_steps.proofs.Nexts.{clear_told}
 use Rattle.channel_plain.specs.Picks.{found}
 use Rattle.channel_plain.specs.Standing.{is_rest, carried_at}
@@ -114,7 +115,7 @@ more ws ws1 ws2 a b c told h k = record {
 
 -- ---- the run ends
 
-one_less : {E : Type 0} (n : ℕ) (r : Run E) (x : Action) (next : ℕ → Run E) → Takes r x next → Within n r → (0 < n) × ((v : ℕ) → Within (n - 1) (next v))
+pub one_less : {E : Type 0} (n : ℕ) (r : Run E) (x : Action) (next : ℕ → Run E) → Takes r x next → Within n r → (0 < n) × ((v : ℕ) → Within (n - 1) (next v))
 one_less n (ends e) x next t w = absurd t
 one_less n (loads p f) x next t w = (w.0, λ v. subst (Within (n - 1)) (sym (t.1 v)) (w.1 v))
 one_less n (stores p u r) x next t w = (w.0, λ v. subst (Within (n - 1)) (sym (t.1 v)) w.1)
@@ -226,16 +227,16 @@ fed_behind a v runs = not_look (ask_fed a v).stage (behind_at a.stage a v runs)
 pub record AskGoing (ws : List ℕ) (a : Ask) (most : ℕ) (i : ℕ) (ws' : List ℕ) (b : Ask) : Type 0 where
   pub steps : AskSteps ws a ws' b None
   pub behind : b.stage ≢ LookWord
-  pub within : Within (most - i) (ask_left b)
+  pub within : AskOk b → Within (most - i) (ask_left b)
 
-pub going_start : (ws : List ℕ) (a : Ask) (most : ℕ) → a.stage ≢ AskRest → a.stage ≢ LookWord → Within most (ask_left a) → AskGoing ws a most 0 ws a
-going_start ws a most runs behind w = record { steps = none_yet ws a runs; behind = behind; within = let e : most ≡ most - 0 = omega arith in subst (λ (n : ℕ). Within n (ask_left a)) e w }
+pub going_start : (ws : List ℕ) (a : Ask) (most : ℕ) → a.stage ≢ AskRest → a.stage ≢ LookWord → (AskOk a → Within most (ask_left a)) → AskGoing ws a most 0 ws a
+going_start ws a most runs behind w = record { steps = none_yet ws a runs; behind = behind; within = λ ok. let e : most ≡ most - 0 = omega arith in subst (λ (n : ℕ). Within n (ask_left a)) e (w ok) }
 
 pub going_more : (ws : List ℕ) (a : Ask) (most i : ℕ) (ws1 ws2 : List ℕ) (b c : Ask) → AskGoing ws a most i ws1 b → AskStep ws1 b ws2 c None → AskGoing ws a most (i + 1) ws2 c
 going_more ws a most i ws1 ws2 b c h s = let v : ℕ = found (ask_next b) ws1 in let runs : b.stage ≢ AskRest = h.steps.stops in record {
   steps = more ws ws1 ws2 a b c None h.steps (step_goes ws1 b ws2 c None runs s);
   behind = subst (λ (x : Ask). x.stage ≢ LookWord) (sym s.machine) (fed_behind b v runs);
-  within = let e : most - i - 1 ≡ most - (i + 1) = omega arith in subst (λ (n : ℕ). Within n (ask_left c)) e (subst (λ (x : Ask). Within (most - i - 1) (ask_left x)) (sym s.machine) (rest_of (most - i) b v s.right runs (sym s.told_is) h.within));
+  within = λ ok. let e : most - i - 1 ≡ most - (i + 1) = omega arith in subst (λ (n : ℕ). Within n (ask_left c)) e (subst (λ (x : Ask). Within (most - i - 1) (ask_left x)) (sym s.machine) (rest_of (most - i) b v s.right runs (sym s.told_is) (h.within s.right)));
 }
 
 -- the last step of a run
@@ -247,4 +248,28 @@ going_sees ws a most i ws1 ws2 b c o h s e = h.behind ((clear_told b (found (ask
 
 -- it isn't longer
 pub going_stops : (ws : List ℕ) (a : Ask) (most i : ℕ) (ws' : List ℕ) (b : Ask) → AskGoing ws a most i ws' b → AskOk b → most ≤ i → ⊥
-going_stops ws a most i ws' b h ok le = let p : 0 < most - i = least (most - i) b ok h.steps.stops h.within in omega (arith, p, le)
+going_stops ws a most i ws' b h ok le = let p : 0 < most - i = least (most - i) b ok h.steps.stops (h.within ok) in omega (arith, p, le)
+
+-- ---- whole runs
+
+pub post_within : (a b : Ask) (code : ℕ) (bytes : List ℕ) (n : ℕ) → b ≡ ask_begun a code bytes → n ≡ block_of b.wiring → AskOk b → Within (n + 7) (ask_left b)
+post_within a b code bytes n e k ok = let x : Ask = ask_begun a code bytes in
+    subst (λ (z : ℕ × Ask). Within z.0 (ask_left z.1)) (λ i. (ap (λ (m : ℕ). m + 7) (sym (k ∙ ap (λ (z : Ask). block_of z.wiring) e)) i, sym e i))
+    (subst (Within (block_of a.wiring + 7)) (sym (posts_by_table a code bytes)) (posts_within a.wiring code x.sent ((subst AskOk e ok).sized.sent)))
+
+-- the load of completion, with which a look begins
+pub first_steps : (a b c : Ask) (ws ws' : List ℕ) (o : Option AskOutcome) → b ≡ ask_looking a → AskStep ws b ws' c o → AskSteps ws (ask_looking a) ws' c o
+first_steps a b c ws ws' o e s = step_goes ws (ask_looking a) ws' c o (λ q. cc) (subst (λ (x : Ask). AskStep ws x ws' c o) e s)
+
+pub look_within : (a b c : Ask) (ws ws' : List ℕ) (n : ℕ) → b ≡ ask_looking a → AskStep ws b ws' c None → n ≡ block_of c.wiring → Within (n + 5) (ask_left c)
+look_within a b c ws ws' n e s k = let x : Ask = ask_looking a in let t : AskStep ws x ws' c None = subst (λ (x : Ask). AskStep ws x ws' c None) e s in
+    let m : ℕ = block_of a.wiring in let same : c.wiring ≡ a.wiring = (first_steps a b c ws ws' None e s).wiring in
+    let i : m + 6 - 1 ≡ n + 5 = let q : n ≡ m = k ∙ ap block_of same in omega (arith, q) in
+    subst (λ (z : ℕ × Ask). Within z.0 (ask_left z.1)) (λ j. (i j, sym t.machine j))
+    (rest_of (m + 6) x (found (ask_next x) ws) t.right (λ q. cc) (sym t.told_is) (subst (Within (m + 6)) (sym (looks_by_table a)) (looks_within a.wiring)))
+
+pub look_steps : (a b c d : Ask) (ws ws1 ws2 : List ℕ) (o : AskOutcome) → b ≡ ask_looking a → AskStep ws b ws1 c None → AskSteps ws1 c ws2 d (Some o) → AskSteps ws (ask_looking a) ws2 d (Some o)
+look_steps a b c d ws ws1 ws2 o e s h = more ws ws1 ws2 (ask_looking a) c d (Some o) (first_steps a b c ws ws1 None e s) h
+
+pub look_long : (a b c : Ask) (ws ws' : List ℕ) → b ≡ ask_looking a → AskStep ws b ws' c None → length ws ≡ 8 + block_of a.wiring → length ws' ≡ 8 + block_of c.wiring
+look_long a b c ws ws' e s long = let h : AskSteps ws (ask_looking a) ws' c None = first_steps a b c ws ws' None e s in h.long ∙ long ∙ ap (λ (w : Wiring). 8 + block_of w) (sym h.wiring)

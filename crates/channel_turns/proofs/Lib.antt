@@ -1,1 +1,2 @@
 pub mod AskRuns
+pub mod AnswerRuns

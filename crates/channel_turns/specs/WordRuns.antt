@@ -76,6 +76,7 @@ module _ (exec : Device) where
   -- one word step, and what it told; a command that is loaded by it is executed
   pub record AnswerStep (ws : List ℕ) (b : Answer) (d : List ℕ) (ws' : List ℕ) (b' : Answer) (d' : List ℕ) (told : Option AnswerOutcome) : Type 0 where
     pub right : AnswerOk b
+    pub fed : AnswerOk (answer_fed b (found (answer_next b) ws))
     pub small : found (answer_next b) ws < 2 ^ 64
     pub words : ws' ≡ act (answer_next b) ws
     pub machine : b' ≡ (settle exec (record { m = answer_fed b (found (answer_next b) ws); device = d; done = [] })).m
@@ -98,7 +99,7 @@ HistoryIs (Some Served) stage ha before now = length now ≡ length ha + 1
 module _ (exec : Device) (is_state : List ℕ → Type 0) (room_of : List ℕ → ℕ) where
   -- whatever the other end did, the relation is kept
   abbrev pub AnswerKeeps : List ℕ → Answer → List ℕ → List ℕ → Answer → List ℕ → Option AnswerOutcome → Type 0
-  AnswerKeeps ws b d ws' b' d' told = (start : List ℕ) (x : Asker) (done : List Exchange) → is_state start → room_of start ≡ x.m.wiring.room → Agree exec start ws x (record { m = b; device = d; done = done })
+  AnswerKeeps ws b d ws' b' d' told = (start : List ℕ) (x : Asker) (done : List Exchange) → is_state start → room_of start ≡ x.m.wiring.room → Agree exec start ws x (record { m = b; device = d; done = done }) → HasExecuted b.stage (length done) (length x.done)
       → (now : List Exchange) × Agree exec start ws' x (record { m = b'; device = d'; done = now }) × HistoryIs told b'.stage x.done done now
 
 -- the line that the run takes was down, or up

@@ -6,8 +6,8 @@ ghost use Rattle.pcc_steps.specs.declared.ask.AskOutcome.TheVariants.{Posted, Cl
 ghost use Rattle.pcc_steps.specs.declared.answer.AnswerStage.TheVariants.{AnswerRest, TakeLine};
 ghost use Rattle.pcc_steps.specs.declared.answer.AnswerOutcome.TheVariants.{Idle, Served};
 ghost use Rattle.pcc_steps.specs.Wires.{block_of, sees_done};
-ghost use Rattle.pcc_steps.specs.Asking.{IsAskRunning, ask_begun, ask_looking};
-ghost use Rattle.pcc_steps.specs.Answering.{IsAnswerStepping};
+ghost use Rattle.pcc_steps.specs.Asking.{AskOk, IsAskRunning, ask_begun, ask_looking};
+ghost use Rattle.pcc_steps.specs.Answering.{AnswerOk, IsAnswerStepping};
 ghost use Rattle.pcc_steps.specs.Runs.{Within};
 ghost use Rattle.pcc_steps.specs.Walk.{answer_left, ask_left};
 ghost use Rattle.pcc_steps.specs.Agree.{settle};
@@ -34,16 +34,16 @@ fn ask_step(words: &mut [u64], ask: &mut AskState) -> Option<AskOutcome>
 }
 
 // The word steps that are left of a run behind its load of completion, at most so many.
-#[tactic(auto, using(crate::proofs::AskRuns::going_start, crate::proofs::AskRuns::going_more, crate::proofs::AskRuns::going_ends, crate::proofs::AskRuns::going_sees, crate::proofs::AskRuns::going_stops))]
+#[tactic(auto, using(crate::proofs::AskRuns::going_start, crate::proofs::AskRuns::going_sees))]
 fn finish_ask(words: &mut [u64], ask: &mut AskState, most: u32) -> AskOutcome
     requires runs { IsAskRunning ask.old }
     requires behind { ask.old.stage ≢ LookWord }
     requires long { length words.old ≡ 8 + block_of ask.old.wiring }
-    requires within { Within most (ask_left ask.old) }
+    requires within { AskOk ask.old → Within most (ask_left ask.old) }
     ensures steps { AskSteps words.old ask.old words.new ask.new (Some result) }
     ensures seen { result ≢ Clear }
 {
-    for i in 0..most {
+    for _ in 0..most {
         if let Some(outcome) = ask_step(words, ask) {
             return outcome;
         }
@@ -64,6 +64,8 @@ pub(crate) fn post_run(words: &mut [u64], ask: &mut AskState, code: u32, bytes: 
     ensures { AskSteps words.old (ask_begun ask.old code bytes.now) words.new ask.new (Some Posted) }
 {
     ask_begin(ask, code, bytes);
+    // The run has a first step, and so the machine is right.
+    ask_next(ask);
     let most = ask.wiring().block() + 7;
     finish_ask(words, ask, most);
 }
@@ -81,7 +83,7 @@ pub(crate) fn look_run(words: &mut [u64], ask: &mut AskState) -> AskOutcome
     if let Some(outcome) = ask_step(words, ask) {
         return outcome;
     }
-    let most = ask.wiring().block() + 6;
+    let most = ask.wiring().block() + 5;
     finish_ask(words, ask, most)
 }
 
@@ -90,6 +92,7 @@ pub(crate) fn look_run(words: &mut [u64], ask: &mut AskState) -> AskOutcome
 // The device executes the command that is loaded, if one is.
 fn run_device<E: Executor>(answer: &mut AnswerState, device: &mut E)
     requires { E.room_of (E.state device.old) ≡ answer.old.wiring.room }
+    ensures right { AnswerOk answer.old }
     ensures machine { answer.new ≡ (settle E.exec_of (record { m = answer.old; device = E.state device.old; done = [] })).m }
     ensures device { E.state device.new ≡ (settle E.exec_of (record { m = answer.old; device = E.state device.old; done = [] })).device }
     ensures room { E.room_of (E.state device.new) ≡ answer.old.wiring.room }
@@ -124,21 +127,25 @@ fn finish_answer<E: Executor>(
     answer: &mut AnswerState,
     device: &mut E,
     most: u32,
-)
+) -> AnswerOutcome
     requires steps { IsAnswerStepping answer.old }
     requires behind { answer.old.stage ≢ TakeLine }
     requires long { length words.old ≡ 8 + block_of answer.old.wiring }
     requires room { E.room_of (E.state device.old) ≡ answer.old.wiring.room }
-    requires within { Within most (answer_left answer.old) }
-    ensures keeps { AnswerKeeps E.exec_of E.is_state E.room_of words.old answer.old (E.state device.old) words.new answer.new (E.state device.new) (Some Served) }
+    requires within { AnswerOk answer.old → Within most (answer_left answer.old) }
+    ensures keeps { AnswerKeeps E.exec_of E.is_state E.room_of words.old answer.old (E.state device.old) words.new answer.new (E.state device.new) (Some result) }
+    ensures served { result ≡ Served }
     ensures rests { answer.new.stage ≡ AnswerRest }
     ensures long { length words.new ≡ length words.old }
 {
+    answering_laws::<E>();
     for _ in 0..most {
-        if answer_step(words, answer, device).is_some() {
-            return;
+        if let Some(outcome) = answer_step(words, answer, device) {
+            return outcome;
         }
     }
+    // A run that is under way has a next step, and this one has none left.
+    answer_next(answer);
     unreachable!()
 }
 
@@ -163,6 +170,5 @@ pub(crate) fn answer_run<E: Executor>(
     if let Some(outcome) = answer_step(words, answer, device) {
         return outcome;
     }
-    finish_answer(words, answer, device, 2 * block + 11);
-    AnswerOutcome::Served
+    finish_answer(words, answer, device, 2 * block + 10)
 }
