@@ -1,2 +1,4 @@
 pub mod AskRuns
 pub mod AnswerRuns
+pub mod Standings
+pub mod Tellings

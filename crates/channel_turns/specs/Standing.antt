@@ -52,8 +52,8 @@ waits false x = []
 
 module _ (exec : Device) where
   -- what is seen
-  abbrev pub seen : JournalHead → LineState → ℕ → List ℕ → List ℕ → Plain → WithSpare Record → Option Sent → ℕ → EndsState
-  seen head clock added first opening p journal sent hold = record {
+  abbrev pub seen : JournalHead → LineState → List ℕ → List ℕ → Plain → WithSpare Record → Option Sent → ℕ → EndsState
+  seen head clock first opening p journal sent hold = record {
     head = head;
     clock = record { start = clock.start; step = clock.step };
     first = first;
@@ -62,7 +62,7 @@ module _ (exec : Device) where
     records = journal.items;
     sent = sent;
     taken = clock.taken;
-    added = added;
+    added = clock.added;
     hold = hold;
     budget = p.ask.budget;
     looks = p.ask.looks;

@@ -52,9 +52,9 @@ impl<E: Executor> Model for PlainEnds<E> {
 
     ghost Value = { EndsState };
 
-    ghost view = { λ s. seen E.exec_of s.head s.clock s.clock.added (E.state s.first.value) s.opening.value.items (record { words = s.words.items; ask = s.ask; answer = s.answer; device = E.state s.device }) s.journal (sent_of s.flight) s.hold };
+    ghost view = { λ s. seen E.exec_of s.head s.clock (E.state s.first.value) s.opening.value.items (record { words = s.words.items; ask = s.ask; answer = s.answer; device = E.state s.device }) s.journal (sent_of s.flight) s.hold };
 
-    ghost invariant = { λ s. Stands E.exec_of E.is_state E.room_of (record { words = s.words.items; ask = s.ask; answer = s.answer; device = E.state s.device }) (seen E.exec_of s.head s.clock s.clock.added (E.state s.first.value) s.opening.value.items (record { words = s.words.items; ask = s.ask; answer = s.answer; device = E.state s.device }) s.journal (sent_of s.flight) s.hold) × HasMemory s.flight s.journal.spare };
+    ghost invariant = { λ s. Stands E.exec_of E.is_state E.room_of (record { words = s.words.items; ask = s.ask; answer = s.answer; device = E.state s.device }) (seen E.exec_of s.head s.clock (E.state s.first.value) s.opening.value.items (record { words = s.words.items; ask = s.ask; answer = s.answer; device = E.state s.device }) s.journal (sent_of s.flight) s.hold) × HasMemory s.flight s.journal.spare };
 }
 
 impl<E: Executor> PlainEnds<E> {
@@ -210,6 +210,9 @@ impl<E: Executor> PlainEnds<E> {
         ensures { record { now = self.new; told = result } ≡ looked E.exec_of self.old }
     {
         match look_run(&mut self.words, &mut self.ask) {
+            AskOutcome::Clear => Look::Clear {
+                looks: self.ask.looks(),
+            },
             AskOutcome::Drained { error } => match self.flight.take() {
                 None => unreachable!(),
                 Some(flight) => {
@@ -221,9 +224,7 @@ impl<E: Executor> PlainEnds<E> {
                     Look::Drained { place, late }
                 }
             },
-            _ => Look::Clear {
-                looks: self.ask.looks(),
-            },
+            AskOutcome::Posted => unreachable!(),
         }
     }
 

@@ -1,6 +1,6 @@
 //! A command that is made ready, with all the memory that it takes.
 
-ghost use Rattle.std.specs.Prelude.{◌≡◌, ◌≤◌, ◌<◌, ◌+◌, IfOk, length, vec_len, vec_capacity};
+ghost use Rattle.std.specs.Prelude.{◌≡◌, ◌≤◌, ◌<◌, false, IfOk, length};
 ghost use Rattle.pcc_bytes.specs.Bytes.{IsBytes};
 ghost use Rattle.pcc_history.specs.Channel.{over};
 
@@ -16,20 +16,22 @@ pub struct Ready {
     kind: u8,
     room: u32,
     code: u32,
-    bytes: Vec<u8>,
+    // The bytes stand in front of the memory for the input.
+    input: Vec<u8>,
+    len: usize,
     reply: Vec<u8>,
 }
 
 impl Model for Ready {
-    ghost use Rattle.std.specs.Prelude.{vec_len, vec_capacity};
+    ghost use Rattle.std.specs.Prelude.{length, take};
     ghost use Rattle.channel_turns.specs.EndsStates.{ReadyState};
     ghost use Rattle.channel_turns.specs.Readying.{HasRoomFor};
 
     ghost Value = { ReadyState };
 
-    ghost view = { λ r. record { kind = r.kind; room = r.room; code = r.code; bytes = r.bytes.items } };
+    ghost view = { λ r. record { kind = r.kind; room = r.room; code = r.code; bytes = take r.len r.input.items } };
 
-    ghost invariant = { λ r. HasRoomFor r.kind r.room r.code r.bytes.items (vec_capacity r.bytes) (vec_len r.reply) };
+    ghost invariant = { λ r. HasRoomFor r.kind r.room r.code r.len (length r.input.items) (length r.reply.items) };
 }
 
 impl Ready {
@@ -44,14 +46,16 @@ impl Ready {
         requires fits { length bytes.now ≤ room }
         ensures { IfOk result (λ r. r ≡ record { kind = kind; room = room; code = code; bytes = bytes.now }) }
     {
-        let mut held = Vec::with_capacity(alloc, room as usize)?;
-        put(&mut held, bytes);
+        let len = bytes.len();
+        let mut input = vec![in alloc; 0; room as usize]?;
+        lay(bytes, &mut input);
         let reply = vec![in alloc; 0; room as usize]?;
         Ok(Ready {
             kind,
             room,
             code,
-            bytes: held,
+            input,
+            len,
             reply,
         })
     }
@@ -67,24 +71,25 @@ impl Ready {
     pub(crate) fn bytes(&self) -> &[u8]
         ensures { result.now ≡ self.now.bytes }
     {
-        &self.bytes
+        &self.input[..self.len]
     }
 
     /// The command in flight, posted by a caller at a reading over a space.
     pub(crate) fn fly(self, caller: u32, post: u64, space: &[u8]) -> Flight
         requires { length space.now ≡ self.room }
         ensures command { result.command ≡ record { caller = caller; code = self.code; input = over space.now self.bytes; post = post } }
-        ensures reply { vec_len result.reply ≡ self.room }
+        ensures reply { length result.reply.items ≡ self.room }
         ensures executed { result.executed ≡ false }
         ensures lost { result.lost ≡ 0 }
     {
-        let mut input = self.bytes;
-        let len = input.len();
-        put(&mut input, &space[len..]);
+        let code = self.code;
+        let len = self.len;
+        let mut input = self.input;
+        input[len..].copy_from_slice(&space[len..]);
         Flight {
             command: Pending {
                 caller,
-                code: self.code,
+                code,
                 input: Bytes::from_vec(input),
                 post,
             },
@@ -95,15 +100,12 @@ impl Ready {
     }
 }
 
-// Puts bytes at the end of a list that has the memory for them.
-fn put(list: &mut Vec<u8>, bytes: &[u8])
-    requires { vec_len list.old + length bytes.now ≤ vec_capacity list.old }
-    ensures { list.new.items ≡ list.old.items ++ bytes.now }
+// The bytes over the front of others.
+fn lay(bytes: &[u8], input: &mut [u8])
+    requires { length bytes.now ≤ length input.old }
+    ensures { input.new ≡ over input.old bytes.now }
 {
-    match list.extend_from_slice(bytes) {
-        Ok(()) => {}
-        Err(_) => unreachable!(),
-    }
+    input[..bytes.len()].copy_from_slice(bytes);
 }
 
 /// A slice of bytes has bytes. It does nothing.
