@@ -2,3 +2,4 @@ pub mod AskRuns
 pub mod AnswerRuns
 pub mod Standings
 pub mod Tellings
+pub mod Polls

@@ -1,11 +1,15 @@
 -- A channel that is called in one thread, and what a call makes of it.
-use Rattle.std.specs.Prelude.{◌≡◌, ℕ, ◌+◌, ◌-◌, ◌^◌, min, true, false, List, Option, Some, None}
+use Rattle.std.specs.Prelude.{◌≡◌, ◌≤◌, ℕ, ◌+◌, ◌-◌, ◌^◌, min, true, false, List, length, Option, Some, None, Result, Ok, OnOk}
 use Rattle.pcc_history.specs.Devices.{Device}
 use Rattle.pcc_journal.specs.declared.text.JournalHead.{JournalHead}
-use Rattle.channel_turns.specs.ChannelRuns.{Call, ChannelStart, ChannelState, InFlight, ScriptClock, answer_call, fresh}
-use Rattle.channel_turns.specs.EndsStates.{EndsState, Sent, is_lost}
-use Rattle.channel_turns.specs.Outcomes.{StandsFor}
+use Rattle.channel_turns.specs.ChannelRuns.{Call, ChannelStart, ChannelState, InFlight, ScriptClock, answer_call, fresh, post_call}
+use Rattle.channel_turns.specs.EndsStates.{EndsState, Sent, is_lost, start_of}
+use Rattle.channel_turns.specs.Outcomes.{IsPlaced, StandsFor}
+use Rattle.pcc_io.specs.declared.items.NoMemory.{NoMemory}
+use Rattle.channel_turns.specs.declared.outcome.CallRefusal.{CallRefusal}
+use Rattle.channel_turns.specs.declared.outcome.CallRefusal.TheVariants as refusal
 use Rattle.channel_turns.specs.declared.outcome.Outcome.{Outcome}
+use Rattle.channel_turns.specs.declared.outcome.Outcome.TheVariants as outcome
 
 -- what stays of an opened subspace, but for the meaning of its device, and what changes
 pub record OpenChannel : Type 0 where
@@ -37,6 +41,29 @@ start_by exec c = record { head = c.head; clock = c.clock; device = exec; state 
 pub record IsAnswered (exec : Device) (old : OpenChannel) (call : Call) (new : OpenChannel) (outcome : Outcome) : Type 0 where
   pub told : let a = answer_call (start_by exec old) call old.now in StandsFor a.now.records outcome a.reply
   pub left : new ≡ record old { now = (answer_call (start_by exec old) call old.now).now }
+
+-- what stays
+pub record Stays (old new : EndsState) : Type 0 where
+  pub head : new.head ≡ old.head
+  pub clock : new.clock ≡ old.clock
+  pub first : new.first ≡ old.first
+  pub opening : new.opening ≡ old.opening
+
+-- nothing was in flight: the call is answered by its post
+pub record IsPosted (exec : Device) (old : EndsState) (call : Call) (new : EndsState) (outcome : Outcome) : Type 0 where
+  pub told : let a = post_call (start_of exec old) call (now_of old) in StandsFor a.now.records outcome a.reply
+  pub left : now_of new ≡ (post_call (start_of exec old) call (now_of old)).now
+  pub stays : Stays old new
+  pub placed : IsPlaced (length new.records) outcome
+  pub readings : new.taken ≤ old.taken + 2
+
+-- what is told of a refusal
+abbrev pub IsRefused : CallRefusal → Result Outcome NoMemory → Type 0
+IsRefused (refusal.BadCode code) result = result ≡ Ok (outcome.BadCode code)
+IsRefused (refusal.TooLong len room) result = result ≡ Ok (outcome.TooLong len room)
+IsRefused refusal.JournalFull result = result ≡ Ok outcome.JournalFull
+IsRefused refusal.NoMemory result = OnOk result ⊥
+IsRefused (refusal.TooSoon now earliest) result = result ≡ Ok (outcome.TooSoon now earliest)
 
 -- nothing was asked yet
 abbrev pub new_channel : Device → JournalHead → ℕ → ℕ → List ℕ → List ℕ → OpenChannel

@@ -216,3 +216,20 @@ module _ (exec : Device) where
   -- a look of the asking end for the command in flight
   abbrev pub looked : EndsState → Looked
   looked s = looked_by s.sent s
+
+  -- ---- polls
+
+  pub record Awaited : Type 0 where
+    pub now : EndsState
+    -- the place of the record, where the reply was taken
+    pub place : Option ℕ
+
+  -- so many polls, each a turn and a look, for a command that isn't executed: it is executed and drained exactly where its hold is below them
+  abbrev pub awaited_by : Option Sent → ℕ → EndsState → Awaited
+  awaited_by None polls s = record { now = s; place = None }
+  awaited_by (Some c) polls s =
+      if nat_lt s.hold polls then record { now = record (drained c s) { hold = 0; looks = s.looks + s.hold }; place = Some (length s.records) }
+      else record { now = record s { hold = s.hold - polls; looks = s.looks + polls }; place = None }
+
+  abbrev pub awaited : ℕ → EndsState → Awaited
+  awaited polls s = awaited_by s.sent polls s

@@ -1,15 +1,17 @@
 //! The calls of one thread that drives both ends of a channel in turn: a turn of the answering end, and then a look of the asking end.
 
-ghost use Rattle.std.specs.Prelude.{◌≡◌, ◌≤◌, ◌<◌, ◌+◌, ◌^◌, ℕ, length, IfOk, OnErr};
+ghost use Rattle.std.specs.Prelude.{◌≡◌, ◌≤◌, ◌<◌, ◌+◌, ◌^◌, true, None, length, IfOk, OnErr};
 ghost use Rattle.std.specs.Option.{option_copied};
 ghost use Rattle.pcc_steps.specs.Wires.{IsRight};
-ghost use Rattle.channel_turns.specs.ChannelRuns.{fresh, pending_of};
-ghost use Rattle.channel_turns.specs.Calls.{IsAnswered, new_channel, waited};
+ghost use Rattle.channel_turns.specs.ChannelRuns.{pending_of};
+ghost use Rattle.channel_turns.specs.Calls.{IsAnswered, IsLate, IsPosted, IsRefused, new_channel, waited};
+ghost use Rattle.channel_turns.specs.EndsStates.{awaited, rings};
 ghost use Rattle.channel_turns.specs.Outcomes.{IsPlaced};
 ghost use Rattle.channel_turns.specs.Standing.{IsHeadOf};
 
 use crate::ends::PlainEnds;
 use crate::outcome::{CallRefusal, Look, Outcome};
+use crate::ready::Ready;
 use pcc_exec::Executor;
 use pcc_io::NoMemory;
 use pcc_journal::{JournalHead, Pending, Record};
@@ -109,38 +111,84 @@ impl<E: Executor> TurnChannel<E> {
             Err(refusal) => return refused(refusal),
         };
         self.ends.budget(polls);
-        if self.ends.in_flight() && turns(&mut self.ends, polls).is_none() {
+        if self.ends.in_flight() && polls_of(&mut self.ends, polls).is_none() {
             return Ok(Outcome::StillPending { looks: polls });
         }
-        if let Err(refusal) = self.ends.post(caller, ready) {
-            return refused(refusal);
-        }
-        self.ends.hold(hold);
-        match turns(&mut self.ends, polls) {
-            Some(place) => Ok(Outcome::Done {
-                place: place as usize,
-            }),
-            None => {
-                self.ends.give_up();
-                Ok(Outcome::TimedOut { looks: polls })
+        post(&mut self.ends, caller, ready, polls, hold)
+    }
+}
+
+// Nothing is in flight: posts a command that is made ready, and polls for its reply.
+fn post<E: Executor>(
+    ends: &mut PlainEnds<E>,
+    caller: u32,
+    ready: Ready,
+    polls: u32,
+    hold: u32,
+) -> Result<Outcome, NoMemory>
+    requires free { ends.old.sent ≡ None }
+    requires kind { ready.kind ≡ ends.old.head.kind }
+    requires room { ready.room ≡ ends.old.head.room }
+    requires spare { 0 < ends.old.spare }
+    requires few { length ends.old.records + ends.old.spare ≤ 4096 }
+    requires polls { 0 < polls }
+    requires budget { ends.old.budget ≡ polls }
+    requires early { ends.old.taken + 2 < 2 ^ 64 }
+    ensures answered { IfOk result (IsPosted E.exec_of ends.old (record { caller = caller; code = ready.code; bytes = ready.bytes; polls = polls; hold = hold }) ends.new) }
+    ensures late { IsLate ends.new.sent }
+    ensures err { OnErr result ⊥ }
+{
+    match ends.post(caller, ready) {
+        Err(refusal) => refused(refusal),
+        Ok(()) => {
+            ends.hold(hold);
+            match polls_of(ends, polls) {
+                Some(place) => Ok(Outcome::Done {
+                    place: place as usize,
+                }),
+                None => {
+                    ends.give_up();
+                    Ok(Outcome::TimedOut { looks: polls })
+                }
             }
         }
     }
 }
 
 // A turn and a look, until the command in flight is drained or so many looks are made. The place of its record, where it is drained.
-fn turns<E: Executor>(ends: &mut PlainEnds<E>, polls: u32) -> Option<u32> {
+fn polls_of<E: Executor>(ends: &mut PlainEnds<E>, polls: u32) -> Option<u32>
+    requires rings { rings ends.old.sent ≡ true }
+    requires few { length ends.old.records < 4096 }
+    requires looks { ends.old.looks ≡ 0 }
+    requires budget { ends.old.budget ≡ polls }
+    ensures { record { now = ends.new; place = result } ≡ awaited E.exec_of polls ends.old }
+{
     for _ in 0..polls {
-        ends.turn();
-        if let Look::Drained { place, .. } = ends.look() {
+        if let Some(place) = poll(ends) {
             return Some(place);
         }
     }
     None
 }
 
+// A turn, and then a look.
+fn poll<E: Executor>(ends: &mut PlainEnds<E>) -> Option<u32>
+    requires rings { rings ends.old.sent ≡ true }
+    requires few { length ends.old.records < 4096 }
+    requires left { ends.old.looks < ends.old.budget }
+    ensures { record { now = ends.new; place = result } ≡ awaited E.exec_of 1 ends.old }
+{
+    ends.turn();
+    match ends.look() {
+        Look::Drained { place, .. } => Some(place),
+        Look::Clear { .. } => None,
+    }
+}
+
 // What a refused command makes of its call.
-fn refused(refusal: CallRefusal) -> Result<Outcome, NoMemory> {
+fn refused(refusal: CallRefusal) -> Result<Outcome, NoMemory>
+    ensures { IsRefused refusal result }
+{
     match refusal {
         CallRefusal::BadCode { code } => Ok(Outcome::BadCode { code }),
         CallRefusal::TooLong { len, room } => Ok(Outcome::TooLong { len, room }),
