@@ -3,3 +3,4 @@ pub mod AnswerRuns
 pub mod Standings
 pub mod Tellings
 pub mod Polls
+pub mod Calls
