@@ -572,8 +572,8 @@ module _ (exec : Device) where
       runs = subst (λ (a : Answer). IsAnswerStepping a) (sym s.machine) (on.0, on.1);
       behind_line = subst (λ (a : Answer). a.stage ≢ TakeLine) (sym s.machine) on.2;
       within = λ ok. let e : most - i - 1 ≡ most - (i + 1) = omega arith in
-      subst (λ (z : ℕ × Answer). Within z.0 (answer_left z.1)) (λ j. (e j, sym s.machine j))
-      (settled_within (is_run (answer_fed b1 v).stage) (most - i - 1) (answer_fed b1 v) d1 refl s.fed (subst AnswerOk s.machine ok) (rest_of (most - i) b1 v s.right h.runs (sym s.told_is) (h.within s.right)));
+          subst (λ (z : ℕ × Answer). Within z.0 (answer_left z.1)) (λ j. (e j, sym s.machine j))
+          (settled_within (is_run (answer_fed b1 v).stage) (most - i - 1) (answer_fed b1 v) d1 refl s.fed (subst AnswerOk s.machine ok) (rest_of (most - i) b1 v s.right h.runs (sym s.told_is) (h.within s.right)));
     }
 
     -- the last step of a run

@@ -72,7 +72,7 @@ stepped ws a v runs ok e small = let told : Option AskOutcome = ask_told a v in 
       keeps = λ exec start done clears y g. (
         clears_after told clears,
         subst (λ (l : List Exchange). Agree exec start (act (ask_next a) ws) (record { m = b; done = l; clears = clears_after told clears }) y) (sym (done_same told done z b.steps))
-        (ask_step_agrees exec start ws (record { m = a; done = done; clears = clears }) y v g (subst (λ (n : ℕ). Finds (ask_next a) ws n) (sym e) (finds_found (ask_next a) ws)) small),
+            (ask_step_agrees exec start ws (record { m = a; done = done; clears = clears }) y v g (subst (λ (n : ℕ). Finds (ask_next a) ws n) (sym e) (finds_found (ask_next a) ws)) small),
       );
       long = long_act (ask_next a) ws;
       wiring = f.wiring;

@@ -153,17 +153,17 @@ module _ (exec : Device) where
 
     pub budget_stands : (p : Plain) (j : WithSpare Record) (sent : Option Sent) (hold polls : ℕ) (b : Ask) → b ≡ ask_budgeted p.ask polls → Stands exec is_state room_of p (at p j sent hold) → Stands exec is_state room_of (record p { ask = b }) (at (record p { ask = b }) j sent hold)
     budget_stands p j sent hold polls b e k = subst (λ (b : Ask). Stands exec is_state room_of (record p { ask = b }) (at (record p { ask = b }) j sent hold)) (sym e) (
-      record {
-        clears = k.clears;
-        agree = budget_agrees exec first p.words (asker_of exec p (at p j sent hold) k.clears) (answerer_of exec p (at p j sent hold)) polls k.rests k.agree;
-        rests = k.rests;
-        quiet = k.quiet;
-        long = k.long;
-        start = k.start;
-        room = k.room;
-        head = k.head;
-        carries = carries_same sent p.ask (ask_budgeted p.ask polls) refl refl refl k.carries;
-      })
+        record {
+          clears = k.clears;
+          agree = budget_agrees exec first p.words (asker_of exec p (at p j sent hold) k.clears) (answerer_of exec p (at p j sent hold)) polls k.rests k.agree;
+          rests = k.rests;
+          quiet = k.quiet;
+          long = k.long;
+          start = k.start;
+          room = k.room;
+          head = k.head;
+          carries = carries_same sent p.ask (ask_budgeted p.ask polls) refl refl refl k.carries;
+        })
 
     -- ---- a turn of the answering end
 
@@ -202,17 +202,17 @@ module _ (exec : Device) where
     idle_stands p q j sent hold e rests long keeps k = let s : EndsState = at p j sent hold in let x : Asker = asker_of exec p s k.clears in let done : List Exchange = (answerer_of exec p s).done in
         let h = keeps first x done k.start k.room k.agree (at_rest p.answer (length done) (length x.done) k.quiet) in let to : Plain = record p { words = q.words; answer = q.answer; device = q.device } in
         subst (λ (z : Plain). Stands exec is_state room_of z (at z j sent hold)) (sym e) (
-          record {
-            clears = k.clears;
-            agree = subst (λ (l : List Exchange). Agree exec first q.words x (record { m = q.answer; device = q.device; done = l })) h.2 h.1;
-            rests = k.rests;
-            quiet = rests;
-            long = long ∙ k.long;
-            start = k.start;
-            room = k.room;
-            head = k.head;
-            carries = k.carries;
-          })
+        record {
+          clears = k.clears;
+          agree = subst (λ (l : List Exchange). Agree exec first q.words x (record { m = q.answer; device = q.device; done = l })) h.2 h.1;
+          rests = k.rests;
+          quiet = rests;
+          long = long ∙ k.long;
+          start = k.start;
+          room = k.room;
+          head = k.head;
+          carries = k.carries;
+        })
 
     executes : (p q : Plain) (j : WithSpare Record) (c : Sent) (hold : ℕ) → c.executed ≡ false → q.answer.stage ≡ AnswerRest → length q.words ≡ length p.words → AnswerKeeps exec is_state room_of p.words p.answer p.device q.words q.answer q.device (Some Served)
         → Stands exec is_state room_of p (at p j (Some c) hold) → let to : Plain = record p { words = q.words; answer = q.answer; device = q.device } in Stands exec is_state room_of to (at to j (Some (record c { executed = true })) hold)
@@ -272,17 +272,17 @@ module _ (exec : Device) where
         → Stands exec is_state room_of p (at p j sent hold) → Stands exec is_state room_of q (at q j sent hold)
     clear_stands p q j sent hold e flies left h k = let s : EndsState = at p j sent hold in let to : Plain = record p { words = q.words; ask = q.ask } in let g = h.keeps exec first (exchanges_of j.items) k.clears (answerer_of exec p s) (looking p j sent hold flies left k) in
         subst (λ (z : Plain). Stands exec is_state room_of z (at z j sent hold)) (sym e) (
-          record {
-            clears = g.0;
-            agree = g.1;
-            rests = h.stops;
-            quiet = k.quiet;
-            long = h.long ∙ k.long ∙ ap (λ (w : Wiring). 8 + block_of w) (sym h.wiring);
-            start = k.start;
-            room = k.room ∙ ap (λ (w : Wiring). w.room) (sym h.wiring);
-            head = subst (IsHeadOf head) (sym h.wiring) k.head;
-            carries = carries_same sent p.ask q.ask h.flies h.code h.input k.carries;
-          })
+        record {
+          clears = g.0;
+          agree = g.1;
+          rests = h.stops;
+          quiet = k.quiet;
+          long = h.long ∙ k.long ∙ ap (λ (w : Wiring). 8 + block_of w) (sym h.wiring);
+          start = k.start;
+          room = k.room ∙ ap (λ (w : Wiring). w.room) (sym h.wiring);
+          head = subst (IsHeadOf head) (sym h.wiring) k.head;
+          carries = carries_same sent p.ask q.ask h.flies h.code h.input k.carries;
+        })
 
     -- the reply that a look takes is that of the executed command
     pub drain_reply : (p q : Plain) (j : WithSpare Record) (c : Sent) (hold : ℕ) (error : Bool) → p.ask.looks < p.ask.budget → AskSteps p.words (ask_looking p.ask) q.words q.ask (Some (Drained error))
@@ -305,10 +305,10 @@ module _ (exec : Device) where
         by : (b : Bool) → c.executed ≡ b → (c.executed ≡ true) × (reply_of exec s c.command ≡ record { code = c.command.code; input = c.command.input; error = error; output = q.ask.space })
         by false e = absurd (not_more ha (ha ++ waits c.executed (reply_of exec s c.command)) last (ap (λ (x : Bool). ha ++ waits x (reply_of exec s c.command)) e ∙ append-nil ha) same)
         by true e = (
-            e,
-            last_same ha (reply_of exec s c.command) last (sym (ap (λ (x : Bool). ha ++ waits x (reply_of exec s c.command)) e) ∙ same)
-            ∙ ap (λ (z : ℕ × List ℕ). record { code = z.0; input = z.1; error = error; output = q.ask.space }) (λ i. ((h.code ∙ k.carries.1) i, (h.input ∙ k.carries.2) i)),
-          )
+          e,
+          last_same ha (reply_of exec s c.command) last (sym (ap (λ (x : Bool). ha ++ waits x (reply_of exec s c.command)) e) ∙ same)
+              ∙ ap (λ (z : ℕ × List ℕ). record { code = z.0; input = z.1; error = error; output = q.ask.space }) (λ i. ((h.code ∙ k.carries.1) i, (h.input ∙ k.carries.2) i)),
+        )
 
     pub drain_long : (p q : Plain) (j : WithSpare Record) (c : Sent) (hold : ℕ) (error : Bool) → p.ask.looks < p.ask.budget → AskSteps p.words (ask_looking p.ask) q.words q.ask (Some (Drained error))
         → Stands exec is_state room_of p (at p j (Some c) hold) → length c.command.input ≡ length q.ask.space
@@ -326,17 +326,17 @@ module _ (exec : Device) where
         ∙ (ap (λ (x : Exchange). ha ++ x ∷ []) (sym er) ∙ (sym (exchanges_more j.items r) ∙ ap exchanges_of (sym ej))) in
         let hist : y.done ≡ exchanges_of j'.items ++ [] = (rests_fit first (record { m = q.ask; done = ha ++ last ∷ []; clears = g.0 }) y g.1.0 false h.stops k.quiet h.flies g.1.1.2).1.done ∙ all ∙ sym (append-nil (exchanges_of j'.items)) in
         subst (λ (z : Plain). Stands exec is_state room_of z (seen exec head clock' first opening z j' None hold)) (sym e) (
-          record {
-            clears = g.0;
-            agree = subst (λ (z : List Exchange × List Exchange). Agree exec first q.words (record { m = q.ask; done = z.0; clears = g.0 }) (record { m = p.answer; device = p.device; done = z.1 })) (λ i. (all i, hist i)) g.1;
-            rests = h.stops;
-            quiet = k.quiet;
-            long = h.long ∙ k.long ∙ ap (λ (w : Wiring). 8 + block_of w) (sym h.wiring);
-            start = k.start;
-            room = k.room ∙ ap (λ (w : Wiring). w.room) (sym h.wiring);
-            head = subst (IsHeadOf head) (sym h.wiring) k.head;
-            carries = h.flies;
-          })
+        record {
+          clears = g.0;
+          agree = subst (λ (z : List Exchange × List Exchange). Agree exec first q.words (record { m = q.ask; done = z.0; clears = g.0 }) (record { m = p.answer; device = p.device; done = z.1 })) (λ i. (all i, hist i)) g.1;
+          rests = h.stops;
+          quiet = k.quiet;
+          long = h.long ∙ k.long ∙ ap (λ (w : Wiring). 8 + block_of w) (sym h.wiring);
+          start = k.start;
+          room = k.room ∙ ap (λ (w : Wiring). w.room) (sym h.wiring);
+          head = subst (IsHeadOf head) (sym h.wiring) k.head;
+          carries = h.flies;
+        })
 
     -- ---- a post
 
@@ -350,17 +350,17 @@ module _ (exec : Device) where
         let g = h.keeps exec first ha k.clears (answerer_of exec p s) (post_begin_agrees exec first p.words (asker_of exec p s k.clears) (answerer_of exec p s) code bytes k.rests k.carries fits few byte wide is k.agree) in
         let reply : Exchange = reply_of exec s c.command in
         subst (λ (z : Plain). Stands exec is_state room_of z (seen exec head clock' first opening z j (Some c) hold)) (sym e) (
-          record {
-            clears = g.0;
-            agree = subst (λ (b : Bool). Agree exec first q.words (record { m = q.ask; done = ha; clears = g.0 }) (record { m = p.answer; device = p.device; done = ha ++ waits b reply })) (sym ex) g.1;
-            rests = h.stops;
-            quiet = k.quiet;
-            long = h.long ∙ k.long ∙ ap (λ (w : Wiring). 8 + block_of w) (sym h.wiring);
-            start = k.start;
-            room = k.room ∙ ap (λ (w : Wiring). w.room) (sym h.wiring);
-            head = subst (IsHeadOf head) (sym h.wiring) k.head;
-            carries = (h.flies, h.code ∙ sym ek, h.input ∙ sym ei);
-          })
+        record {
+          clears = g.0;
+          agree = subst (λ (b : Bool). Agree exec first q.words (record { m = q.ask; done = ha; clears = g.0 }) (record { m = p.answer; device = p.device; done = ha ++ waits b reply })) (sym ex) g.1;
+          rests = h.stops;
+          quiet = k.quiet;
+          long = h.long ∙ k.long ∙ ap (λ (w : Wiring). 8 + block_of w) (sym h.wiring);
+          start = k.start;
+          room = k.room ∙ ap (λ (w : Wiring). w.room) (sym h.wiring);
+          head = subst (IsHeadOf head) (sym h.wiring) k.head;
+          carries = (h.flies, h.code ∙ sym ek, h.input ∙ sym ei);
+        })
 
     -- ---- the start
 

@@ -92,17 +92,17 @@ module _ (exec : Device) (head : JournalHead) (clock : LineState) (first opening
       → clock' ≡ record clock { taken = counted clock.taken } → q.ask.budget ≡ p.ask.budget → q.ask.looks ≡ 0 → q.ask.space ≡ p.ask.space
       → seen exec head clock' first opening q j (Some c) hold ≡ posted caller ready (at p j None hold)
   posted_is p q j c hold caller ready clock' ec ek budget looks space = λ i. record {
-      head = head;
-      clock = record { start = (ek i).start; step = (ek i).step };
-      first = first;
-      opening = opening;
-      object = record { state = state_after exec first (exchanges_of j.items); space = space i };
-      records = j.items;
-      sent = Some (ec i);
-      taken = (ek i).taken;
-      added = (ek i).added;
-      hold = hold;
-      budget = budget i;
-      looks = looks i;
-      spare = j.spare;
-    }
+    head = head;
+    clock = record { start = (ek i).start; step = (ek i).step };
+    first = first;
+    opening = opening;
+    object = record { state = state_after exec first (exchanges_of j.items); space = space i };
+    records = j.items;
+    sent = Some (ec i);
+    taken = (ek i).taken;
+    added = (ek i).added;
+    hold = hold;
+    budget = budget i;
+    looks = looks i;
+    spare = j.spare;
+  }

@@ -111,7 +111,7 @@ impl<E: Executor> TurnChannel<E> {
             Err(refusal) => return refused(refusal),
         };
         self.ends.budget(polls);
-        if self.ends.in_flight() && polls_of(&mut self.ends, polls).is_none() {
+        if self.ends.in_flight() && await_reply(&mut self.ends, polls).is_none() {
             return Ok(Outcome::StillPending { looks: polls });
         }
         post(&mut self.ends, caller, ready, polls, hold)
@@ -142,7 +142,7 @@ fn post<E: Executor>(
         Err(refusal) => refused(refusal),
         Ok(()) => {
             ends.hold(hold);
-            match polls_of(ends, polls) {
+            match await_reply(ends, polls) {
                 Some(place) => Ok(Outcome::Done {
                     place: place as usize,
                 }),
@@ -156,7 +156,7 @@ fn post<E: Executor>(
 }
 
 // A turn and a look, until the command in flight is drained or so many looks are made. The place of its record, where it is drained.
-fn polls_of<E: Executor>(ends: &mut PlainEnds<E>, polls: u32) -> Option<u32>
+fn await_reply<E: Executor>(ends: &mut PlainEnds<E>, polls: u32) -> Option<u32>
     requires rings { rings ends.old.sent ≡ true }
     requires few { length ends.old.records < 4096 }
     requires looks { ends.old.looks ≡ 0 }

@@ -37,9 +37,11 @@ invariant_of-self g c = let x = c.self.inside in let p : Plain = record { words 
     let steps : AskSteps p.words (ask_looking p.ask) q.words q.ask (Some Clear) = subst (λ (ws : List ℕ). AskSteps ws (ask_looking p.ask) q.words q.ask (Some Clear)) same r.steps in
     let long : length q.words ≡ length x.words.items = steps.long in
     let words : take x.words.len (q.words ++ drop (length q.words) x.words.items) ≡ q.words = whole_words x.words.len q.words x.words.items n long in
-    let flies : p.ask.in_flight ≡ true = is_flown (sent_of x.flight) p.ask (subst (λ (z : EndsState). is_flying z.sent ≡ true) (sym c.self.view_is) c.requires.flies) c.self.invariant.0.carries in
-    (with_words exec is_state room_of x.head x.clock first opening q q.words (take x.words.len (q.words ++ drop (length q.words) x.words.items)) x.clock x.journal (sent_of x.flight) x.hold words
-    (clear_stands exec is_state room_of x.head x.clock first opening p q x.journal (sent_of x.flight) x.hold refl flies left steps c.self.invariant.0), c.self.invariant.1)
+    let flies : p.ask.in_flight ≡ true = is_flown (sent_of x.flight) p.ask (subst (λ (z : EndsState). is_flying z.sent ≡ true) (sym c.self.view_is) c.requires.flies) c.self.invariant.0.carries in (
+      with_words exec is_state room_of x.head x.clock first opening q q.words (take x.words.len (q.words ++ drop (length q.words) x.words.items)) x.clock x.journal (sent_of x.flight) x.hold words
+          (clear_stands exec is_state room_of x.head x.clock first opening p q x.journal (sent_of x.flight) x.hold refl flies left steps c.self.invariant.0),
+      c.self.invariant.1,
+    )
 
 pub returns-in-Clear : goal.returns-in-Clear
 returns-in-Clear g c = let x = c.self.inside in let p : Plain = record { words = x.words.items; ask = x.ask; answer = x.answer; device = g.E.Executor.state x.device } in let exec = g.E.Executor.exec_of in let is_state = g.E.Executor.is_state in let room_of = g.E.Executor.room_of in let first : List ℕ = g.E.Executor.state x.first.value in let opening : List ℕ = x.opening.value.items in
@@ -69,11 +71,12 @@ invariant_of-self-in-Some g c = let x = c.self.inside in let p : Plain = record 
     let words : take x.words.len (q.words ++ drop (length q.words) x.words.items) ≡ q.words = whole_words x.words.len q.words x.words.items n long in
     let reply = drain_reply exec is_state room_of x.head x.clock first opening p q x.journal cs x.hold c.in-Drained.error left steps k in
     let entry : c.recorded-entry.result ≡ record { caller = f.command.caller; code = f.command.code; input = f.command.input; error = c.in-Drained.error; output = q.ask.space; post = f.command.post; done = c.now-done.result; late = is_lost cs } = c.recorded-entry.ensures ∙ ap (λ (o : List ℕ). record { caller = f.command.caller; code = f.command.code; input = f.command.input; error = c.in-Drained.error; output = o; post = f.command.post; done = c.now-done.result; late = is_lost cs }) c.space.ensures in
-    let none : c.take.new.self ≡ None = c.in-Some.ensures.after in
-    (with_words exec is_state room_of x.head x.clock first opening q q.words (take x.words.len (q.words ++ drop (length q.words) x.words.items)) c.now-done.new.self c.append.new.self (sent_of c.take.new.self) x.hold words
-    (subst (λ (o : Option Flight). Stands exec is_state room_of q (seen exec x.head c.now-done.new.self first opening q c.append.new.self (sent_of o) x.hold)) (sym none)
-    (drained_stands exec is_state room_of x.head x.clock first opening p q x.journal c.append.new.self cs x.hold c.in-Drained.error c.now-done.new.self c.recorded-entry.result refl left steps c.append.ensures.items (ap exchange_of_record entry) k)),
-    subst (λ (o : Option Flight). HasMemory o c.append.new.self.spare) (sym none) tt)
+    let none : c.take.new.self ≡ None = c.in-Some.ensures.after in (
+      with_words exec is_state room_of x.head x.clock first opening q q.words (take x.words.len (q.words ++ drop (length q.words) x.words.items)) c.now-done.new.self c.append.new.self (sent_of c.take.new.self) x.hold words
+          (subst (λ (o : Option Flight). Stands exec is_state room_of q (seen exec x.head c.now-done.new.self first opening q c.append.new.self (sent_of o) x.hold)) (sym none)
+          (drained_stands exec is_state room_of x.head x.clock first opening p q x.journal c.append.new.self cs x.hold c.in-Drained.error c.now-done.new.self c.recorded-entry.result refl left steps c.append.ensures.items (ap exchange_of_record entry) k)),
+      subst (λ (o : Option Flight). HasMemory o c.append.new.self.spare) (sym none) tt,
+    )
 
 pub returns-in-Some : goal.returns-in-Some
 returns-in-Some g c = let x = c.self.inside in let p : Plain = record { words = x.words.items; ask = x.ask; answer = x.answer; device = g.E.Executor.state x.device } in let exec = g.E.Executor.exec_of in let is_state = g.E.Executor.is_state in let room_of = g.E.Executor.room_of in let first : List ℕ = g.E.Executor.state x.first.value in let opening : List ℕ = x.opening.value.items in

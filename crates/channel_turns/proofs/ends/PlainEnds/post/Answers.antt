@@ -36,7 +36,8 @@ invariant_of-self-2 g c = let x = c.self.inside in let p : Plain = record { word
     let command : cs.command ≡ record { caller = c.args.caller; code = c.args.ready.code; input = over c.space.result.now c.args.ready.bytes; post = c.now-now.result } = c.fly.ensures.command in
     let input : cs.command.input ≡ over p.ask.space bytes = ap (λ (z : Pending). z.input) command ∙ (ap (λ (l : List ℕ). over l c.args.ready.bytes) (c.space.ensures ∙ steps.space) ∙ ap (over p.ask.space) (sym is_bytes)) in
     let long_space : length p.ask.space ≡ p.ask.wiring.room = k.agree.1.2.ask_ok.sized.space in
-    let long_input : length cs.command.input ≡ p.ask.wiring.room = ap (λ (l : List ℕ). length l) input ∙ (over_long p.ask.space bytes (omega (arith, fits, long_space)) ∙ long_space) in
-    (with_words exec is_state room_of x.head x.clock first opening q q.words (take x.words.len (q.words ++ drop (length q.words) x.words.items)) c.now-now.new.self x.journal (Some cs) x.hold words
-    (posted_stands exec is_state room_of x.head x.clock first opening p q x.journal cs x.hold code bytes c.now-now.new.self refl steps fits few byte wide is c.fly.ensures.executed (ap (λ (z : Pending). z.code) command ∙ sym c.code.ensures.code) input k),
-    (c.fly.ensures.reply ∙ room ∙ sym wired ∙ sym long_input, spare))
+    let long_input : length cs.command.input ≡ p.ask.wiring.room = ap (λ (l : List ℕ). length l) input ∙ (over_long p.ask.space bytes (omega (arith, fits, long_space)) ∙ long_space) in (
+      with_words exec is_state room_of x.head x.clock first opening q q.words (take x.words.len (q.words ++ drop (length q.words) x.words.items)) c.now-now.new.self x.journal (Some cs) x.hold words
+          (posted_stands exec is_state room_of x.head x.clock first opening p q x.journal cs x.hold code bytes c.now-now.new.self refl steps fits few byte wide is c.fly.ensures.executed (ap (λ (z : Pending). z.code) command ∙ sym c.code.ensures.code) input k),
+      (c.fly.ensures.reply ∙ room ∙ sym wired ∙ sym long_input, spare),
+    )

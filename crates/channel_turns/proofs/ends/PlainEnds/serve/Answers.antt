@@ -21,9 +21,11 @@ invariant_of-self g c = let x = c.self.inside in let p : Plain = record { words 
     let n : x.words.len ≡ length x.words.items = search rules in let same : c.deref_mut.result.now ≡ x.words.items = c.deref_mut.ensures.value in
     let long : length q.words ≡ length x.words.items = r.long ∙ ap (λ (l : List ℕ). length l) same in
     let words : take x.words.len (q.words ++ drop (length q.words) x.words.items) ≡ q.words = whole_words x.words.len q.words x.words.items n long in
-    let keeps : AnswerKeeps exec is_state room_of p.words p.answer p.device q.words q.answer q.device (Some Idle) = subst (λ (ws : List ℕ). AnswerKeeps exec is_state room_of ws p.answer p.device q.words q.answer q.device (Some Idle)) same r.keeps in
-    (with_words exec is_state room_of x.head x.clock first opening q q.words (take x.words.len (q.words ++ drop (length q.words) x.words.items)) x.clock x.journal (sent_of x.flight) x.hold words
-    (idle_stands exec is_state room_of x.head x.clock first opening p q x.journal (sent_of x.flight) x.hold refl r.rests long keeps c.self.invariant.0), c.self.invariant.1)
+    let keeps : AnswerKeeps exec is_state room_of p.words p.answer p.device q.words q.answer q.device (Some Idle) = subst (λ (ws : List ℕ). AnswerKeeps exec is_state room_of ws p.answer p.device q.words q.answer q.device (Some Idle)) same r.keeps in (
+      with_words exec is_state room_of x.head x.clock first opening q q.words (take x.words.len (q.words ++ drop (length q.words) x.words.items)) x.clock x.journal (sent_of x.flight) x.hold words
+          (idle_stands exec is_state room_of x.head x.clock first opening p q x.journal (sent_of x.flight) x.hold refl r.rests long keeps c.self.invariant.0),
+      c.self.invariant.1,
+    )
 
 pub invariant_of-self-in-Served : goal.invariant_of-self-in-Served
 invariant_of-self-in-Served g c = let x = c.self.inside in let p : Plain = record { words = x.words.items; ask = x.ask; answer = x.answer; device = g.E.Executor.state x.device } in let exec = g.E.Executor.exec_of in let is_state = g.E.Executor.is_state in let room_of = g.E.Executor.room_of in let first : List ℕ = g.E.Executor.state x.first.value in let opening : List ℕ = x.opening.value.items in
@@ -33,9 +35,11 @@ invariant_of-self-in-Served g c = let x = c.self.inside in let p : Plain = recor
     let long : length q.words ≡ length x.words.items = r.long ∙ ap (λ (l : List ℕ). length l) same in
     let words : take x.words.len (q.words ++ drop (length q.words) x.words.items) ≡ q.words = whole_words x.words.len q.words x.words.items n long in
     let keeps : AnswerKeeps exec is_state room_of p.words p.answer p.device q.words q.answer q.device (Some Served) = subst (λ (ws : List ℕ). AnswerKeeps exec is_state room_of ws p.answer p.device q.words q.answer q.device (Some Served)) same r.keeps in
-    let ring = served_rings exec is_state room_of x.head x.clock first opening p x.journal (sent_of x.flight) x.hold c.self.invariant.0 (subst (LineWas Served) same r.line) in
-    (with_words exec is_state room_of x.head x.clock first opening q q.words (take x.words.len (q.words ++ drop (length q.words) x.words.items)) x.clock x.journal (sent_of c.execute.new.flight) x.hold words
-    (served_stands exec is_state room_of x.head x.clock first opening p q x.journal (sent_of x.flight) (sent_of c.execute.new.flight) x.hold refl r.rests long keeps c.execute.ensures.sent ring c.self.invariant.0), c.execute.ensures.memory x.journal.spare c.self.invariant.1)
+    let ring = served_rings exec is_state room_of x.head x.clock first opening p x.journal (sent_of x.flight) x.hold c.self.invariant.0 (subst (LineWas Served) same r.line) in (
+      with_words exec is_state room_of x.head x.clock first opening q q.words (take x.words.len (q.words ++ drop (length q.words) x.words.items)) x.clock x.journal (sent_of c.execute.new.flight) x.hold words
+          (served_stands exec is_state room_of x.head x.clock first opening p q x.journal (sent_of x.flight) (sent_of c.execute.new.flight) x.hold refl r.rests long keeps c.execute.ensures.sent ring c.self.invariant.0),
+      c.execute.ensures.memory x.journal.spare c.self.invariant.1,
+    )
 
 pub returns-in-Served : goal.returns-in-Served
 returns-in-Served g c = let x = c.self.inside in let p : Plain = record { words = x.words.items; ask = x.ask; answer = x.answer; device = g.E.Executor.state x.device } in let exec = g.E.Executor.exec_of in let is_state = g.E.Executor.is_state in let room_of = g.E.Executor.room_of in let first : List ℕ = g.E.Executor.state x.first.value in let opening : List ℕ = x.opening.value.items in
