@@ -75,7 +75,7 @@ module _ (exec : Device) where
   -- ---- the device's turn
 
   -- what was executed before stays
-  framed : (st : AnswerStage) (m : Answer) (d : List ℕ) (done : List Exchange) → settle_at exec st (record { m = m; device = d; done = done }) ≡ (let y = settle_at exec st (record { m = m; device = d; done = [] }) in record y { done = done ++ y.done })
+  pub framed : (st : AnswerStage) (m : Answer) (d : List ℕ) (done : List Exchange) → settle_at exec st (record { m = m; device = d; done = done }) ≡ (let y = settle_at exec st (record { m = m; device = d; done = [] }) in record y { done = done ++ y.done })
   framed RunDevice m d done = refl
   framed AnswerRest m d done = ap (λ (l : List Exchange). record { m = m; device = d; done = l }) (sym (append-nil done))
   framed TakeLine m d done = ap (λ (l : List Exchange). record { m = m; device = d; done = l }) (sym (append-nil done))

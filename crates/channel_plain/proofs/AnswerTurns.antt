@@ -51,19 +51,19 @@ is_rest CloseBellLoad = false
 is_rest CloseBellStore = false
 is_rest CloseLine = false
 
-abbrev is_run : AnswerStage → Bool
+abbrev pub is_run : AnswerStage → Bool
 is_run RunDevice = true
 is_run _ = false
 
-rest_is : (st : AnswerStage) → is_rest st ≡ true → st ≡ AnswerRest
+pub rest_is : (st : AnswerStage) → is_rest st ≡ true → st ≡ AnswerRest
 rest_is AnswerRest e = refl
 rest_is _ e = absurd (cc e)
 
-run_is : (st : AnswerStage) → is_run st ≡ true → st ≡ RunDevice
+pub run_is : (st : AnswerStage) → is_run st ≡ true → st ≡ RunDevice
 run_is RunDevice e = refl
 run_is _ e = absurd (cc e)
 
-abbrev ends_run : Option AnswerOutcome → Bool
+abbrev pub ends_run : Option AnswerOutcome → Bool
 ends_run None = false
 ends_run (Some o) = true
 
@@ -103,7 +103,7 @@ reply_rests : (b : Bool) (j : ℕ) (a : Answer) → is_rest (reply_on b j a).sta
 reply_rests true j a = refl
 reply_rests false j a = reply_goes (tells_error a.wiring) (style_of a.wiring)
 
-fed_rests : (st : AnswerStage) (a : Answer) (v : ℕ) → is_rest st ≡ false → is_run st ≡ false → is_rest (answer_fed_at st a v).stage ≡ ends_run (answer_told_at st a v)
+pub fed_rests : (st : AnswerStage) (a : Answer) (v : ℕ) → is_rest st ≡ false → is_run st ≡ false → is_rest (answer_fed_at st a v).stage ≡ ends_run (answer_told_at st a v)
 fed_rests AnswerRest a v e f = absurd (cc e)
 fed_rests TakeLine a v e f = takes_rests (eqb v 0) a
 fed_rests TakeAckLoad a v e f = refl

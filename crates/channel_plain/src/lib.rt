@@ -14,8 +14,10 @@ mod text;
 mod trace;
 mod worked;
 
+pub use opening::opening_words;
 pub use plain::{Plain, weave, weave_lines};
 pub use sent::{Flight, Sent};
+pub use step::perform;
 pub use text::trace_lines;
 pub use trace::{Asked, Side, Trace, TraceEnd, TraceLine};
 pub use worked::worked_picks;

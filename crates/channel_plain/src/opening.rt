@@ -9,13 +9,9 @@ use pcc_steps::Wiring;
 use shmem_header::{Generic, header_word, signature_of, words_into};
 use std::alloc::Global;
 
-/// Word 0 says that nothing is in flight, the block begins with its signature, and the space follows.
+/// The words of a subspace before the first step: word 0 says that nothing is in flight, the block begins with its signature, and the space follows.
 #[tactic(auto, using(std::proofs::lemmas::List::append_assoc))]
-pub(crate) fn opening_words(
-    alloc: Global,
-    wiring: &Wiring,
-    opening: &[u8],
-) -> Result<Vec<u64>, NoMemory>
+pub fn opening_words(alloc: Global, wiring: &Wiring, opening: &[u8]) -> Result<Vec<u64>, NoMemory>
     requires right { IsRight wiring.now }
     requires room { length opening.now ≡ wiring.now.room }
     ensures { IfOk result (λ words. words.items ≡ opening_words wiring.now (words_of opening.now)) }

@@ -1,0 +1,275 @@
+-- The asking machine's word steps, one after the other.
+use Rattle.std.proofs.Common.{◌≡◌, ◌≢◌, ℕ, suc, ◌+◌, ◌-◌, ◌^◌, ◌<◌, ◌≤◌, Bool, true, false, List, [], ◌∷◌, ◌++◌, length, refl, sym, ap, ◌∙◌, subst, arith}
+use Rattle.std.specs.Prelude.{Option, Some, None, get_or}
+use Rattle.pcc_history.specs.Devices.{Device}
+use Rattle.pcc_history.specs.Channel.{Exchange}
+use Rattle.pcc_steps.specs.declared.wiring.Wiring.{Wiring}
+use Rattle.pcc_steps.specs.declared.wiring.Style.{Style}
+use Rattle.pcc_steps.specs.declared.wiring.Style.TheVariants.{Headed, Joined3, Separate3, Joined4, Separate4, Reduced5}
+use Rattle.pcc_steps.specs.declared.wiring.Action.{Action}
+use Rattle.pcc_steps.specs.declared.ask.AskStage.{AskStage}
+use Rattle.pcc_steps.specs.declared.ask.AskStage.TheVariants.{AskRest, PostBlock, PostHeader, PostUpdateLoad, PostUpdateStore, PostMarkLoad, PostMarkStore, PostBellLoad, PostBellStore, PostLine, LookWord, LookError, LookBlock, LookLine, LookLineStore, LookAckLoad, LookAckStore}
+use Rattle.pcc_steps.specs.declared.ask.AskOutcome.{AskOutcome}
+use Rattle.pcc_steps.specs.declared.ask.AskOutcome.TheVariants.{Posted, Clear, Drained}
+use Rattle.pcc_steps.specs.Wires.{style_of, block_of, sees_done, tells_error, acknowledges}
+use Rattle.pcc_steps.specs.Runs.{Run, ends, loads, stores, swaps, executes, Within}
+use Rattle.pcc_steps.specs.Walk.{ask_left, ask_after, Takes}
+use Rattle.pcc_steps.specs.Asking.{Ask, AskOk, IsAskRunning, ask_begun, ask_looking, ask_next, ask_fed, ask_told, ask_fed_at, has_more, after_block, after_update, after_mark, after_bell, after_look, store_on, look_on, read_on, block_on, line_on, lowered_on}
+use Rattle.pcc_steps.specs.Agree.{act, Finds, Asker, Answerer, Agree, done_after, clears_after}
+use Rattle.pcc_steps.proofs.Agreement.{ask_step_agrees}
+use Rattle.pcc_steps.proofs.AskWalks.{asks_by_table, looks_by_table, posts_by_table}
+use Rattle.pcc_steps.proofs.Bounds.{looks_within, posts_within}
+use Rattle.pcc_steps.proofs.Nexts.{clear_told}
+use Rattle.channel_plain.specs.Picks.{found}
+use Rattle.channel_plain.specs.Standing.{is_rest, carried_at}
+use Rattle.channel_plain.proofs.Keeps.{long_act, finds_found}
+use Rattle.channel_plain.proofs.Feeds as feeds
+use Rattle.channel_turns.specs.WordRuns.{AskStep, AskSteps, looks_after, flies_after, IsFor, KeepsSpace, Stops}
+
+-- ---- one step
+
+looks_same : (told : Option AskOutcome) (n : ℕ) → feeds.looks_after told n ≡ looks_after told n
+looks_same None n = refl
+looks_same (Some Posted) n = refl
+looks_same (Some Clear) n = refl
+looks_same (Some (Drained e)) n = refl
+
+flies_same : (told : Option AskOutcome) (f : Bool) → feeds.flies_after told f ≡ flies_after told f
+flies_same None f = refl
+flies_same (Some Posted) f = refl
+flies_same (Some Clear) f = refl
+flies_same (Some (Drained e)) f = refl
+
+keeps_space : (told : Option AskOutcome) (old : List ℕ) (b : Ask) → feeds.Spaced told old b → KeepsSpace told old b.space
+keeps_space None old b h = h
+keeps_space (Some Posted) old b h = h
+keeps_space (Some Clear) old b h = h
+keeps_space (Some (Drained e)) old b h = tt
+
+is_for : (told : Option AskOutcome) (c f : Bool) → feeds.Sure told c f → IsFor told f
+is_for None c f h = tt
+is_for (Some Posted) c f h = h.1
+is_for (Some Clear) c f h = h.1
+is_for (Some (Drained e)) c f h = h.1
+
+stops : (told : Option AskOutcome) (b : Ask) → is_rest b.stage ≡ feeds.ends_run told → Stops told b
+stops None b e = λ q. not_false (is_rest b.stage) (ap is_rest q) e
+  where
+    not_false : (b : Bool) → b ≡ true → b ≡ false → ⊥
+    not_false b t f = cc
+stops (Some o) b e = feeds.rest_is b.stage e
+
+done_same : (told : Option AskOutcome) (done : List Exchange) (a : Ask) (n : ℕ) → done_after told done (record a { steps = n }) ≡ done_after told done a
+done_same None done a n = refl
+done_same (Some Posted) done a n = refl
+done_same (Some Clear) done a n = refl
+done_same (Some (Drained e)) done a n = refl
+
+-- by the value that it finds
+stepped : (ws : List ℕ) (a : Ask) (v : ℕ) → a.stage ≢ AskRest → AskOk a → v ≡ found (ask_next a) ws → v < 2 ^ 64 → AskSteps ws a (act (ask_next a) ws) (ask_fed a v) (ask_told a v)
+stepped ws a v runs ok e small = let told : Option AskOutcome = ask_told a v in let z : Ask = ask_fed_at a.stage a v in let b : Ask = ask_fed a v in
+    let f : feeds.Fed a.stage a b told = feeds.stepped a.stage a z told b.steps (feeds.fed a.stage a v (feeds.not_rest a.stage runs) ok.flies) in record {
+      keeps = λ exec start done clears y g. (
+        clears_after told clears,
+        subst (λ (l : List Exchange). Agree exec start (act (ask_next a) ws) (record { m = b; done = l; clears = clears_after told clears }) y) (sym (done_same told done z b.steps))
+            (ask_step_agrees exec start ws (record { m = a; done = done; clears = clears }) y v g (subst (λ (n : ℕ). Finds (ask_next a) ws n) (sym e) (finds_found (ask_next a) ws)) small),
+      );
+      long = long_act (ask_next a) ws;
+      wiring = f.wiring;
+      code = f.code;
+      input = f.input;
+      budget = f.budget;
+      looks = f.looks ∙ looks_same told a.looks;
+      flies = f.flies ∙ flies_same told a.in_flight;
+      space = keeps_space told a.space b f.space;
+      stops = stops told b f.rests;
+      is_for = is_for told (carried_at a.stage a.in_flight) a.in_flight f.sure;
+    }
+
+pub step_goes : (ws : List ℕ) (a : Ask) (ws' : List ℕ) (b : Ask) (told : Option AskOutcome) → a.stage ≢ AskRest → AskStep ws a ws' b told → AskSteps ws a ws' b told
+step_goes ws a ws' b told runs h = let v : ℕ = found (ask_next a) ws in
+    subst (λ (z : List ℕ × (Ask × Option AskOutcome)). AskSteps ws a z.0 z.1.0 z.1.1) (λ i. (sym h.words i, (sym h.machine i, sym h.told_is i))) (stepped ws a v runs h.right refl h.small)
+
+-- ---- some steps
+
+pub none_yet : (ws : List ℕ) (a : Ask) → a.stage ≢ AskRest → AskSteps ws a ws a None
+none_yet ws a runs = record { keeps = λ exec start done clears y g. (clears, g); long = refl; wiring = refl; code = refl; input = refl; budget = refl; looks = refl; flies = refl; space = refl; stops = runs; is_for = tt }
+
+looks_on : (told : Option AskOutcome) (m n : ℕ) → n ≡ m → looks_after told n ≡ looks_after told m
+looks_on told m n e = ap (looks_after told) e
+
+pub more : (ws ws1 ws2 : List ℕ) (a b c : Ask) (told : Option AskOutcome) → AskSteps ws a ws1 b None → AskSteps ws1 b ws2 c told → AskSteps ws a ws2 c told
+more ws ws1 ws2 a b c told h k = record {
+  keeps = λ exec start done clears y g. let p = h.keeps exec start done clears y g in k.keeps exec start done p.0 y p.1;
+  long = k.long ∙ h.long;
+  wiring = k.wiring ∙ h.wiring;
+  code = k.code ∙ h.code;
+  input = k.input ∙ h.input;
+  budget = k.budget ∙ h.budget;
+  looks = k.looks ∙ ap (looks_after told) h.looks;
+  flies = k.flies ∙ ap (flies_after told) h.flies;
+  space = subst (λ (s : List ℕ). KeepsSpace told s c.space) h.space k.space;
+  stops = k.stops;
+  is_for = subst (IsFor told) h.flies k.is_for;
+}
+
+-- ---- the run ends
+
+pub one_less : {E : Type 0} (n : ℕ) (r : Run E) (x : Action) (next : ℕ → Run E) → Takes r x next → Within n r → (0 < n) × ((v : ℕ) → Within (n - 1) (next v))
+one_less n (ends e) x next t w = absurd t
+one_less n (loads p f) x next t w = (w.0, λ v. subst (Within (n - 1)) (sym (t.1 v)) (w.1 v))
+one_less n (stores p u r) x next t w = (w.0, λ v. subst (Within (n - 1)) (sym (t.1 v)) w.1)
+one_less n (swaps p u f) x next t w = (w.0, λ v. subst (Within (n - 1)) (sym (t.1 v)) (w.1 v))
+one_less n (executes code s f) x next t w = absurd t
+
+least : (n : ℕ) (a : Ask) → AskOk a → IsAskRunning a → Within n (ask_left a) → 0 < n
+least n a ok runs w = (one_less n (ask_left a) (ask_next a) (λ v. ask_after (ask_told a v) (ask_fed a v)) (asks_by_table a ok runs) w).0
+
+rest_of : (n : ℕ) (a : Ask) (v : ℕ) → AskOk a → IsAskRunning a → ask_told a v ≡ None → Within n (ask_left a) → Within (n - 1) (ask_left (ask_fed a v))
+rest_of n a v ok runs e w = subst (λ (told : Option AskOutcome). Within (n - 1) (ask_after told (ask_fed a v))) e ((one_less n (ask_left a) (ask_next a) (λ v. ask_after (ask_told a v) (ask_fed a v)) (asks_by_table a ok runs) w).1 v)
+
+-- ---- a look loads completion once
+
+abbrev is_look : AskStage → Bool
+is_look LookWord = true
+is_look _ = false
+
+behind_block : (s : Style) → is_look (after_block s) ≡ false
+behind_block Headed = refl
+behind_block Joined3 = refl
+behind_block Separate3 = refl
+behind_block Joined4 = refl
+behind_block Separate4 = refl
+behind_block Reduced5 = refl
+
+behind_update : (s : Style) → is_look (after_update s) ≡ false
+behind_update Separate3 = refl
+behind_update Headed = refl
+behind_update Joined3 = refl
+behind_update Joined4 = refl
+behind_update Separate4 = refl
+behind_update Reduced5 = refl
+
+behind_mark : (s : Style) → is_look (after_mark s) ≡ false
+behind_mark Separate3 = refl
+behind_mark Headed = refl
+behind_mark Joined3 = refl
+behind_mark Joined4 = refl
+behind_mark Separate4 = refl
+behind_mark Reduced5 = refl
+
+behind_bell : (s : Style) → is_look (after_bell s) ≡ false
+behind_bell Reduced5 = refl
+behind_bell Headed = refl
+behind_bell Joined3 = refl
+behind_bell Separate3 = refl
+behind_bell Joined4 = refl
+behind_bell Separate4 = refl
+
+behind_look : (b : Bool) → is_look (after_look b) ≡ false
+behind_look true = refl
+behind_look false = refl
+
+stored : (b : Bool) (j : ℕ) (a : Ask) → is_look (store_on b j a).stage ≡ false
+stored true j a = refl
+stored false j a = behind_block (style_of a.wiring)
+
+looked : (b : Bool) (v : ℕ) (a : Ask) → is_look (look_on b v a).stage ≡ false
+looked true v a = behind_look (tells_error a.wiring)
+looked false v a = refl
+
+blocked : (b : Bool) (a : Ask) → is_look (block_on b a).stage ≡ false
+blocked true a = refl
+blocked false a = refl
+
+reads : (b : Bool) (j v : ℕ) (a : Ask) → is_look (read_on b j v a).stage ≡ false
+reads true j v a = refl
+reads false j v a = blocked a.wiring.notify _
+
+lined : (b : Bool) (a : Ask) → is_look (line_on b a).stage ≡ false
+lined true a = refl
+lined false a = refl
+
+lowers : (b : Bool) (a : Ask) → is_look (lowered_on b a).stage ≡ false
+lowers true a = refl
+lowers false a = refl
+
+behind_at : (st : AskStage) (a : Ask) (v : ℕ) → st ≢ AskRest → is_look (ask_fed_at st a v).stage ≡ false
+behind_at AskRest a v runs = absurd (runs refl)
+behind_at (PostBlock j) a v runs = stored (has_more j a.wiring) j a
+behind_at PostHeader a v runs = refl
+behind_at PostUpdateLoad a v runs = refl
+behind_at PostUpdateStore a v runs = behind_update (style_of a.wiring)
+behind_at PostMarkLoad a v runs = refl
+behind_at PostMarkStore a v runs = behind_mark (style_of a.wiring)
+behind_at PostBellLoad a v runs = refl
+behind_at PostBellStore a v runs = behind_bell (style_of a.wiring)
+behind_at PostLine a v runs = refl
+behind_at LookWord a v runs = looked (sees_done a.wiring v) v a
+behind_at LookError a v runs = refl
+behind_at (LookBlock j) a v runs = reads (has_more j a.wiring) j v a
+behind_at LookLine a v runs = lined _ a
+behind_at LookLineStore a v runs = lowers (acknowledges a.wiring) a
+behind_at LookAckLoad a v runs = refl
+behind_at LookAckStore a v runs = refl
+
+not_look : (st : AskStage) → is_look st ≡ false → st ≢ LookWord
+not_look st e q = cc_of (ap is_look q) e
+  where
+    cc_of : {b : Bool} → b ≡ true → b ≡ false → ⊥
+    cc_of t f = cc
+
+fed_behind : (a : Ask) (v : ℕ) → a.stage ≢ AskRest → (ask_fed a v).stage ≢ LookWord
+fed_behind a v runs = not_look (ask_fed a v).stage (behind_at a.stage a v runs)
+
+-- ---- a run of so many steps at most
+
+pub record AskGoing (ws : List ℕ) (a : Ask) (most : ℕ) (i : ℕ) (ws' : List ℕ) (b : Ask) : Type 0 where
+  pub steps : AskSteps ws a ws' b None
+  pub behind : b.stage ≢ LookWord
+  pub within : AskOk b → Within (most - i) (ask_left b)
+
+pub going_start : (ws : List ℕ) (a : Ask) (most : ℕ) → a.stage ≢ AskRest → a.stage ≢ LookWord → (AskOk a → Within most (ask_left a)) → AskGoing ws a most 0 ws a
+going_start ws a most runs behind w = record { steps = none_yet ws a runs; behind = behind; within = λ ok. let e : most ≡ most - 0 = omega arith in subst (λ (n : ℕ). Within n (ask_left a)) e (w ok) }
+
+pub going_more : (ws : List ℕ) (a : Ask) (most i : ℕ) (ws1 ws2 : List ℕ) (b c : Ask) → AskGoing ws a most i ws1 b → AskStep ws1 b ws2 c None → AskGoing ws a most (i + 1) ws2 c
+going_more ws a most i ws1 ws2 b c h s = let v : ℕ = found (ask_next b) ws1 in let runs : b.stage ≢ AskRest = h.steps.stops in record {
+  steps = more ws ws1 ws2 a b c None h.steps (step_goes ws1 b ws2 c None runs s);
+  behind = subst (λ (x : Ask). x.stage ≢ LookWord) (sym s.machine) (fed_behind b v runs);
+  within = λ ok. let e : most - i - 1 ≡ most - (i + 1) = omega arith in subst (λ (n : ℕ). Within n (ask_left c)) e (subst (λ (x : Ask). Within (most - i - 1) (ask_left x)) (sym s.machine) (rest_of (most - i) b v s.right runs (sym s.told_is) (h.within s.right)));
+}
+
+-- the last step of a run
+pub going_ends : (ws : List ℕ) (a : Ask) (most i : ℕ) (ws1 ws2 : List ℕ) (b c : Ask) (o : AskOutcome) → AskGoing ws a most i ws1 b → AskStep ws1 b ws2 c (Some o) → AskSteps ws a ws2 c (Some o)
+going_ends ws a most i ws1 ws2 b c o h s = more ws ws1 ws2 a b c (Some o) h.steps (step_goes ws1 b ws2 c (Some o) h.steps.stops s)
+
+pub going_sees : (ws : List ℕ) (a : Ask) (most i : ℕ) (ws1 ws2 : List ℕ) (b c : Ask) (o : AskOutcome) → AskGoing ws a most i ws1 b → AskStep ws1 b ws2 c (Some o) → o ≢ Clear
+going_sees ws a most i ws1 ws2 b c o h s e = h.behind ((clear_told b (found (ask_next b) ws1)).0 (sym s.told_is ∙ ap Some e)).0
+
+-- it isn't longer
+pub going_stops : (ws : List ℕ) (a : Ask) (most i : ℕ) (ws' : List ℕ) (b : Ask) → AskGoing ws a most i ws' b → AskOk b → most ≤ i → ⊥
+going_stops ws a most i ws' b h ok le = let p : 0 < most - i = least (most - i) b ok h.steps.stops (h.within ok) in omega (arith, p, le)
+
+-- ---- whole runs
+
+pub post_within : (a b : Ask) (code : ℕ) (bytes : List ℕ) (n : ℕ) → b ≡ ask_begun a code bytes → n ≡ block_of b.wiring → AskOk b → Within (n + 7) (ask_left b)
+post_within a b code bytes n e k ok = let x : Ask = ask_begun a code bytes in
+    subst (λ (z : ℕ × Ask). Within z.0 (ask_left z.1)) (λ i. (ap (λ (m : ℕ). m + 7) (sym (k ∙ ap (λ (z : Ask). block_of z.wiring) e)) i, sym e i))
+    (subst (Within (block_of a.wiring + 7)) (sym (posts_by_table a code bytes)) (posts_within a.wiring code x.sent ((subst AskOk e ok).sized.sent)))
+
+-- the load of completion, with which a look begins
+pub first_steps : (a b c : Ask) (ws ws' : List ℕ) (o : Option AskOutcome) → b ≡ ask_looking a → AskStep ws b ws' c o → AskSteps ws (ask_looking a) ws' c o
+first_steps a b c ws ws' o e s = step_goes ws (ask_looking a) ws' c o (λ q. cc) (subst (λ (x : Ask). AskStep ws x ws' c o) e s)
+
+pub look_within : (a b c : Ask) (ws ws' : List ℕ) (n : ℕ) → b ≡ ask_looking a → AskStep ws b ws' c None → n ≡ block_of c.wiring → Within (n + 5) (ask_left c)
+look_within a b c ws ws' n e s k = let x : Ask = ask_looking a in let t : AskStep ws x ws' c None = subst (λ (x : Ask). AskStep ws x ws' c None) e s in
+    let m : ℕ = block_of a.wiring in let same : c.wiring ≡ a.wiring = (first_steps a b c ws ws' None e s).wiring in
+    let i : m + 6 - 1 ≡ n + 5 = let q : n ≡ m = k ∙ ap block_of same in omega (arith, q) in
+    subst (λ (z : ℕ × Ask). Within z.0 (ask_left z.1)) (λ j. (i j, sym t.machine j))
+    (rest_of (m + 6) x (found (ask_next x) ws) t.right (λ q. cc) (sym t.told_is) (subst (Within (m + 6)) (sym (looks_by_table a)) (looks_within a.wiring)))
+
+pub look_steps : (a b c d : Ask) (ws ws1 ws2 : List ℕ) (o : AskOutcome) → b ≡ ask_looking a → AskStep ws b ws1 c None → AskSteps ws1 c ws2 d (Some o) → AskSteps ws (ask_looking a) ws2 d (Some o)
+look_steps a b c d ws ws1 ws2 o e s h = more ws ws1 ws2 (ask_looking a) c d (Some o) (first_steps a b c ws ws1 None e s) h
+
+pub look_long : (a b c : Ask) (ws ws' : List ℕ) → b ≡ ask_looking a → AskStep ws b ws' c None → length ws ≡ 8 + block_of a.wiring → length ws' ≡ 8 + block_of c.wiring
+look_long a b c ws ws' e s long = let h : AskSteps ws (ask_looking a) ws' c None = first_steps a b c ws ws' None e s in h.long ∙ long ∙ ap (λ (w : Wiring). 8 + block_of w) (sym h.wiring)

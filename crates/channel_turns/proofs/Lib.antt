@@ -1,0 +1,6 @@
+pub mod AskRuns
+pub mod AnswerRuns
+pub mod Standings
+pub mod Tellings
+pub mod Polls
+pub mod Calls

@@ -1,0 +1,144 @@
+-- A channel in the run of `step`: what it is, as one thread sees it, and what a call is answered and how it leaves the channel.
+-- There is no machine, no word and no look in it.
+use Rattle.std.specs.Prelude.{◌==◌, ◌&&◌, ℕ, ◌+◌, ◌-◌, nat_lt, nat_le, Bool, true, false, if◌then◌else◌, List, [], ◌∷◌, ◌++◌, length, Option, Some, None}
+use Rattle.pcc_causes.specs.Clock.{line_reading}
+use Rattle.pcc_history.specs.Devices.{Device}
+use Rattle.pcc_history.specs.Channel.{Exchange, Object, exchange_of, object_after, over}
+use Rattle.rate_limit.specs.RateLimits.{earliest_of}
+use Rattle.pcc_journal.specs.declared.reserved.TheConstants.{MAX_ITEMS}
+use Rattle.pcc_journal.specs.declared.record.Record.{Record}
+use Rattle.pcc_journal.specs.declared.record.Pending.{Pending}
+use Rattle.pcc_journal.specs.declared.text.JournalHead.{JournalHead}
+use Rattle.pcc_journal.specs.Records.{times_of}
+use Rattle.channel_turns.specs.Replies.{Reply, Done, BadCode, TooLong, JournalFull, StillPending, TooSoon, TimedOut}
+
+-- ---- an opened subspace
+
+-- the start and the step of a clock, in microseconds
+pub record ScriptClock : Type 0 where
+  pub start : ℕ
+  pub step : ℕ
+
+-- what stays: the head of its journal, its clock, its device with the state at the start, and the communication space at the start
+pub record ChannelStart : Type 0 where
+  pub head : JournalHead
+  pub clock : ScriptClock
+  pub device : Device
+  pub state : List ℕ
+  pub opening : List ℕ
+
+-- a command in flight, and what is left of its hold
+pub record InFlight : Type 0 where
+  pub command : Pending
+  pub left : ℕ
+
+abbrev pub pending_of : Option InFlight → Option Pending
+pending_of None = None
+pending_of (Some p) = Some p.command
+
+-- the reading at which the command in flight was posted
+abbrev pub post_of : Option InFlight → Option ℕ
+post_of None = None
+post_of (Some p) = Some p.command.post
+
+-- what changes: the channel, the records, the command in flight, how many readings its clock gave, and the time that was added to the clock
+pub record ChannelState : Type 0 where
+  pub object : Object
+  pub records : List Record
+  pub in_flight : Option InFlight
+  pub taken : ℕ
+  pub added : ℕ
+
+pub record Channel : Type 0 where
+  pub start : ChannelStart
+  pub now : ChannelState
+
+-- nothing was asked yet
+abbrev pub fresh : ChannelStart → ChannelState
+fresh start = record { object = record { state = start.state; space = start.opening }; records = []; in_flight = None; taken = 0; added = 0 }
+
+-- the next reading
+abbrev pub next_reading : ChannelStart → ChannelState → ℕ
+next_reading start now = line_reading start.clock.start start.clock.step now.added now.taken
+
+-- a journal has so many records at most
+abbrev pub journal_limit : ℕ
+journal_limit = MAX_ITEMS
+
+abbrev pub count_in_flight : Option InFlight → ℕ
+count_in_flight None = 0
+count_in_flight (Some p) = 1
+
+-- ---- a call
+
+pub record Call : Type 0 where
+  pub caller : ℕ
+  pub code : ℕ
+  pub bytes : List ℕ
+  pub polls : ℕ
+  pub hold : ℕ
+
+-- what a line is answered, and how it leaves the channel
+pub record Answered : Type 0 where
+  pub reply : Reply
+  pub now : ChannelState
+
+-- the generic header of the types 0 to 2 has a code of one byte
+abbrev pub has_byte_codes : ℕ → Bool
+has_byte_codes kind = nat_le kind 2
+
+-- a call that is refused by itself, or by a full journal
+abbrev pub refusal_of : JournalHead → Call → ChannelState → Option Reply
+refusal_of head call now =
+    if has_byte_codes head.kind && nat_lt 255 call.code then Some (BadCode call.code)
+    else if nat_lt head.room (length call.bytes) then Some (TooLong (length call.bytes) head.room)
+    else if nat_le journal_limit (length now.records + count_in_flight now.in_flight) then Some JournalFull
+    else None
+
+abbrev pub exchange_with : ChannelStart → Pending → ChannelState → Exchange
+exchange_with start command now = exchange_of start.device start.head.reports now.object.state command.code command.input
+
+abbrev pub record_of : Pending → Exchange → ℕ → Bool → Record
+record_of command x done late =
+    record { caller = command.caller; code = command.code; input = command.input; error = x.error; output = x.output; post = command.post; done = done; late = late }
+
+-- the device executes a posted command; the next reading is its completion, and it is recorded
+abbrev pub completed : ChannelStart → Pending → Bool → ChannelState → ChannelState
+completed start command late now = record {
+  object = object_after start.device now.object.state command.code command.input;
+  records = now.records ++ record_of command (exchange_with start command now) (next_reading start now) late ∷ [];
+  in_flight = None;
+  taken = now.taken + 1;
+  added = now.added;
+}
+
+-- a posted command is executed in its call exactly where its hold is below the polls
+abbrev pub after_post : ChannelStart → Call → Pending → ChannelState → Answered
+after_post start call command now =
+    if nat_lt call.hold call.polls then (
+    let x = exchange_with start command now in
+    record { reply = Done x.error x.output; now = completed start command false now }
+    ) else record { reply = TimedOut call.polls; now = record now { in_flight = Some (record { command = command; left = call.hold - call.polls }) } }
+
+-- nothing is in flight: the next reading is taken, and where the limits allow it, it is the post of this call
+abbrev pub post_call : ChannelStart → Call → ChannelState → Answered
+post_call start call now =
+    let reading = next_reading start now in
+    let earliest = earliest_of start.head.limits (times_of now.records) in
+    let later = record now { taken = now.taken + 1 } in
+    if nat_lt reading earliest then record { reply = TooSoon reading earliest; now = later }
+    else after_post start call (record { caller = call.caller; code = call.code; input = over now.object.space call.bytes; post = reading }) later
+
+-- an earlier command is completed first, exactly where what is left of its hold is below the polls
+abbrev pub answer_behind : ChannelStart → Call → ChannelState → Option InFlight → Answered
+answer_behind start call now None = post_call start call now
+answer_behind start call now (Some p) =
+    if nat_lt p.left call.polls then post_call start call (completed start p.command true now)
+    else record { reply = StillPending call.polls; now = record now { in_flight = Some (record p { left = p.left - call.polls }) } }
+
+abbrev pub answer_unless : ChannelStart → Call → ChannelState → Option Reply → Answered
+answer_unless start call now (Some refusal) = record { reply = refusal; now = now }
+answer_unless start call now None = answer_behind start call now now.in_flight
+
+abbrev pub answer_call : ChannelStart → Call → ChannelState → Answered
+answer_call start call now = answer_unless start call now (refusal_of start.head call now)

@@ -1,0 +1,19 @@
+//! Both ends of a channel on a plain list of words, called in turn by one thread: whole posts, looks and answers, poll budgets and holds, and the
+//! call of a script's line over them (ACPI 6.5, chapter 14).
+#![tactic(auto)]
+
+mod clock;
+mod ends;
+mod flight;
+mod outcome;
+mod ready;
+mod runs;
+mod turns;
+
+pub use ends::PlainEnds;
+pub use outcome::{CallRefusal, Look, Outcome, Turn};
+pub use ready::Ready;
+pub use turns::TurnChannel;
+
+#[cfg(test)]
+mod tests;

@@ -1,0 +1,120 @@
+ghost use Rattle.std.specs.Prelude.{◌≡◌, true};
+ghost use Rattle.pcc_steps.specs.Wires.{IsRight};
+
+use super::*;
+use pcc_exec::Bank;
+use pcc_gas::Masks;
+use pcc_io::NoMemory;
+use pcc_journal::JournalHead;
+use pcc_steps::Wiring;
+use rate_limit::Limits;
+use std::alloc::Global;
+
+// A generic subspace of 16 bytes: the doorbell's lowest bit is set, and the others are kept.
+fn wired() -> Wiring
+    ensures right { IsRight result }
+    ensures kind { result.kind ≡ 0 }
+    ensures reports { result.reports ≡ true }
+    ensures room { result.room ≡ 16 }
+{
+    let none = Masks {
+        preserve: 0,
+        set: 0,
+    };
+    Wiring {
+        kind: 0,
+        id: 0,
+        notify: false,
+        joined: false,
+        has_bell: true,
+        has_ack: false,
+        reports: true,
+        room: 16,
+        bell: Masks {
+            preserve: 0xffff_fffe,
+            set: 1,
+        },
+        ack: none,
+        update: none,
+        check_mask: 0,
+        error_mask: 0,
+    }
+}
+
+// A Bank on it, with a clock of 10 microseconds a reading.
+fn channel(alloc: Global) -> Result<TurnChannel<Bank>, NoMemory> {
+    let head = JournalHead {
+        id: 0,
+        kind: 0,
+        cppc: false,
+        room: 16,
+        limits: Limits {
+            turnaround: 0,
+            per_minute: 0,
+        },
+        reports: true,
+    };
+    let bank = Bank::new(alloc, 16)?;
+    TurnChannel::new(alloc, head, wired(), bank, &[0; 16], 0, 10)
+}
+
+const ONE: [u8; 16] = [1, 0, 0, 0, 0, 0, 0, 0, 0, 0, 0, 0, 0, 0, 0, 0];
+
+#[test]
+fn a_late_reply_is_recorded_by_the_next_call(rt: HostRuntime) {
+    let alloc = rt.alloc();
+    let mut channel = channel(alloc).expect(&rt, "memory");
+    assert!(rt; channel.call(alloc, 0, 16, &[1], 3, 3) == Ok(Outcome::TimedOut { looks: 3 }));
+    assert!(rt; channel.call(alloc, 1, 16, &[2], 4, 3) == Ok(Outcome::Done { place: 1 }));
+    assert!(rt; channel.pending().is_none());
+    let records = channel.records();
+    assert!(rt; records.len() == 2);
+    assert!(rt; records[0].late && records[0].post == 0 && records[0].done == 10);
+    assert!(rt;
+        records[0].input.as_slice() == ONE.as_slice()
+            && records[0].output.as_slice() == [0u8; 16].as_slice()
+    );
+    assert!(rt; !records[1].late && records[1].post == 20 && records[1].done == 30);
+    assert!(rt; records[1].caller == 1 && records[1].output.as_slice() == ONE.as_slice());
+}
+
+#[test]
+fn a_command_that_is_held_on_stays_pending(rt: HostRuntime) {
+    let alloc = rt.alloc();
+    let mut channel = channel(alloc).expect(&rt, "memory");
+    assert!(rt; channel.call(alloc, 0, 16, &[1], 3, 100) == Ok(Outcome::TimedOut { looks: 3 }));
+    assert!(rt; channel.call(alloc, 0, 16, &[2], 3, 0) == Ok(Outcome::StillPending { looks: 3 }));
+    assert!(rt; channel.call(alloc, 0, 16, &[2], 3, 0) == Ok(Outcome::StillPending { looks: 3 }));
+    assert!(rt; channel.records().len() == 0);
+    match channel.pending() {
+        None => assert!(rt; false),
+        Some(command) => assert!(rt;
+            command.code == 16 && command.post == 0 && command.input.as_slice() == ONE.as_slice()
+        ),
+    }
+}
+
+#[test]
+fn what_is_left_of_a_hold_stands_for_the_next_call(rt: HostRuntime) {
+    let alloc = rt.alloc();
+    let mut channel = channel(alloc).expect(&rt, "memory");
+    assert!(rt; channel.call(alloc, 0, 16, &[1], 2, 5) == Ok(Outcome::TimedOut { looks: 2 }));
+    assert!(rt; channel.call(alloc, 0, 17, &[], 2, 0) == Ok(Outcome::StillPending { looks: 2 }));
+    assert!(rt; channel.call(alloc, 0, 17, &[], 2, 0) == Ok(Outcome::Done { place: 1 }));
+    let records = channel.records();
+    assert!(rt; records[0].late && records[0].done == 10 && records[1].post == 20);
+    assert!(rt; records[1].output.as_slice() == ONE.as_slice());
+}
+
+#[test]
+fn calls_that_are_refused(rt: HostRuntime) {
+    let alloc = rt.alloc();
+    let mut channel = channel(alloc).expect(&rt, "memory");
+    assert!(rt; channel.call(alloc, 0, 256, &[0; 17], 1, 0) == Ok(Outcome::BadCode { code: 256 }));
+    assert!(rt;
+        channel.call(alloc, 0, 16, &[0; 17], 1, 0) == Ok(Outcome::TooLong { len: 17, room: 16 })
+    );
+    channel.wait(100);
+    assert!(rt; channel.call(alloc, 0, 17, &[], 1, 0) == Ok(Outcome::Done { place: 0 }));
+    assert!(rt; channel.records()[0].post == 100 && channel.records()[0].done == 110);
+}

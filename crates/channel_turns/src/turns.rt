@@ -1,0 +1,199 @@
+//! The calls of one thread that drives both ends of a channel in turn: a turn of the answering end, and then a look of the asking end.
+
+ghost use Rattle.std.specs.Prelude.{◌≡◌, ◌≤◌, ◌<◌, ◌+◌, ◌^◌, true, None, length, IfOk, OnErr};
+ghost use Rattle.std.specs.Option.{option_copied};
+ghost use Rattle.pcc_steps.specs.Wires.{IsRight};
+ghost use Rattle.channel_turns.specs.ChannelRuns.{pending_of};
+ghost use Rattle.channel_turns.specs.Calls.{IsAnswered, IsLate, IsPosted, IsRefused, new_channel, waited};
+ghost use Rattle.channel_turns.specs.EndsStates.{awaited, rings};
+ghost use Rattle.channel_turns.specs.Outcomes.{IsPlaced};
+ghost use Rattle.channel_turns.specs.Standing.{IsHeadOf};
+
+use crate::ends::PlainEnds;
+use crate::outcome::{CallRefusal, Look, Outcome};
+use crate::ready::Ready;
+use pcc_exec::Executor;
+use pcc_io::NoMemory;
+use pcc_journal::{JournalHead, Pending, Record};
+use pcc_steps::Wiring;
+use std::alloc::Global;
+use std::marker::Model;
+
+/// A channel that is called by one thread. Contracts see it as an opened subspace of a run.
+#[derive(Drop)]
+pub struct TurnChannel<E: Executor> {
+    ends: PlainEnds<E>,
+}
+
+impl<E: Executor> Model for TurnChannel<E> {
+    ghost use Rattle.channel_turns.specs.Calls.{IsLate, OpenChannel, open_channel};
+
+    ghost Value = { OpenChannel };
+
+    ghost view = { λ c. open_channel c.ends };
+
+    ghost invariant = { λ c. IsLate c.ends.sent };
+}
+
+impl<E: Executor> TurnChannel<E> {
+    /// A channel that nothing was asked of, with this device and this communication space. Its clock has this start and this step, in
+    /// microseconds.
+    pub fn new(
+        alloc: Global,
+        head: JournalHead,
+        wiring: Wiring,
+        device: E,
+        opening: &[u8],
+        start: u64,
+        step: u64,
+    ) -> Result<TurnChannel<E>, NoMemory>
+        requires right { IsRight wiring }
+        requires head { IsHeadOf head wiring }
+        requires room { E.room_of (E.state device) ≡ wiring.room }
+        requires long { length opening.now ≡ wiring.room }
+        ensures { IfOk result (λ c. c ≡ new_channel E.exec_of head start step (E.state device) opening.now) }
+    {
+        Ok(TurnChannel {
+            ends: PlainEnds::new(alloc, head, wiring, device, opening, start, step)?,
+        })
+    }
+
+    /// The head of the journal.
+    pub fn head(&self) -> &JournalHead
+        ensures { result.now ≡ self.now.head }
+    {
+        self.ends.head()
+    }
+
+    /// The records, the first one first.
+    pub fn records(&self) -> &[Record]
+        ensures { result.now ≡ self.now.now.records }
+    {
+        self.ends.journal().as_slice()
+    }
+
+    /// The command in flight.
+    pub fn pending(&self) -> Option<&Pending>
+        ensures { option_copied result ≡ pending_of self.now.now.in_flight }
+    {
+        self.ends.pending()
+    }
+
+    /// Moves the clock up by so many microseconds.
+    pub fn wait(&mut self, n: u64)
+        ensures { self.new ≡ waited n self.old }
+    {
+        self.ends.wait(n);
+    }
+
+    /// Makes a call of a caller: a command of this code, whose input is the space with the bytes laid over its front, with so many polls from 1
+    /// to 1,000,000, held for so many turns of the answering end. It is answered as a line of a run. A command is executed in its call
+    /// exactly where its hold is below its polls; what is left of the hold stands for the next call.
+    pub fn call(
+        &mut self,
+        alloc: Global,
+        caller: u32,
+        code: u32,
+        bytes: &[u8],
+        polls: u32,
+        hold: u32,
+    ) -> Result<Outcome, NoMemory>
+        requires polls { 0 < polls }
+        requires early { self.old.now.taken < 2 ^ 63 }
+        ensures answered { IfOk result (IsAnswered E.exec_of self.old (record { caller = caller; code = code; bytes = bytes.now; polls = polls; hold = hold }) self.new) }
+        ensures placed { IfOk result (IsPlaced (length self.new.now.records)) }
+        ensures readings { self.new.now.taken ≤ self.old.now.taken + 3 }
+        ensures head { self.new.head ≡ self.old.head }
+        ensures err { OnErr result (self.new ≡ self.old) }
+    {
+        let ready = match self.ends.ready(alloc, code, bytes) {
+            Ok(ready) => ready,
+            Err(refusal) => return refused(refusal),
+        };
+        self.ends.budget(polls);
+        if self.ends.in_flight() && await_reply(&mut self.ends, polls).is_none() {
+            return Ok(Outcome::StillPending { looks: polls });
+        }
+        post(&mut self.ends, caller, ready, polls, hold)
+    }
+}
+
+// Nothing is in flight: posts a command that is made ready, and polls for its reply.
+fn post<E: Executor>(
+    ends: &mut PlainEnds<E>,
+    caller: u32,
+    ready: Ready,
+    polls: u32,
+    hold: u32,
+) -> Result<Outcome, NoMemory>
+    requires free { ends.old.sent ≡ None }
+    requires kind { ready.kind ≡ ends.old.head.kind }
+    requires room { ready.room ≡ ends.old.head.room }
+    requires spare { 0 < ends.old.spare }
+    requires few { length ends.old.records + ends.old.spare ≤ 4096 }
+    requires polls { 0 < polls }
+    requires budget { ends.old.budget ≡ polls }
+    requires early { ends.old.taken + 2 < 2 ^ 64 }
+    ensures answered { IfOk result (IsPosted E.exec_of ends.old (record { caller = caller; code = ready.code; bytes = ready.bytes; polls = polls; hold = hold }) ends.new) }
+    ensures late { IsLate ends.new.sent }
+    ensures err { OnErr result ⊥ }
+{
+    match ends.post(caller, ready) {
+        Err(refusal) => refused(refusal),
+        Ok(()) => {
+            ends.hold(hold);
+            match await_reply(ends, polls) {
+                Some(place) => Ok(Outcome::Done {
+                    place: place as usize,
+                }),
+                None => {
+                    ends.give_up();
+                    Ok(Outcome::TimedOut { looks: polls })
+                }
+            }
+        }
+    }
+}
+
+// A turn and a look, until the command in flight is drained or so many looks are made. The place of its record, where it is drained.
+fn await_reply<E: Executor>(ends: &mut PlainEnds<E>, polls: u32) -> Option<u32>
+    requires rings { rings ends.old.sent ≡ true }
+    requires few { length ends.old.records < 4096 }
+    requires looks { ends.old.looks ≡ 0 }
+    requires budget { ends.old.budget ≡ polls }
+    ensures { record { now = ends.new; place = result } ≡ awaited E.exec_of polls ends.old }
+{
+    for _ in 0..polls {
+        if let Some(place) = poll(ends) {
+            return Some(place);
+        }
+    }
+    None
+}
+
+// A turn, and then a look.
+fn poll<E: Executor>(ends: &mut PlainEnds<E>) -> Option<u32>
+    requires rings { rings ends.old.sent ≡ true }
+    requires few { length ends.old.records < 4096 }
+    requires left { ends.old.looks < ends.old.budget }
+    ensures { record { now = ends.new; place = result } ≡ awaited E.exec_of 1 ends.old }
+{
+    ends.turn();
+    match ends.look() {
+        Look::Drained { place, .. } => Some(place),
+        Look::Clear { .. } => None,
+    }
+}
+
+// What a refused command makes of its call.
+fn refused(refusal: CallRefusal) -> Result<Outcome, NoMemory>
+    ensures { IsRefused refusal result }
+{
+    match refusal {
+        CallRefusal::BadCode { code } => Ok(Outcome::BadCode { code }),
+        CallRefusal::TooLong { len, room } => Ok(Outcome::TooLong { len, room }),
+        CallRefusal::JournalFull => Ok(Outcome::JournalFull),
+        CallRefusal::NoMemory => Err(NoMemory),
+        CallRefusal::TooSoon { now, earliest } => Ok(Outcome::TooSoon { now, earliest }),
+    }
+}
