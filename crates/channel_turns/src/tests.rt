@@ -1,4 +1,4 @@
-ghost use Rattle.std.specs.Prelude.{◌≡◌, true};
+ghost use Rattle.std.specs.Prelude.{◌≡◌, true, IfOk};
 ghost use Rattle.pcc_steps.specs.Wires.{IsRight};
 
 use super::*;
@@ -42,7 +42,9 @@ fn wired() -> Wiring
 }
 
 // A Bank on it, with a clock of 10 microseconds a reading.
-fn channel(alloc: Global) -> Result<TurnChannel<Bank>, NoMemory> {
+fn channel(alloc: Global) -> Result<TurnChannel<Bank>, NoMemory>
+    ensures { IfOk result (λ c. c.now.taken ≡ 0) }
+{
     let head = JournalHead {
         id: 0,
         kind: 0,
