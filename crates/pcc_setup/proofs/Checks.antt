@@ -1,6 +1,9 @@
--- The checks of a set-up, one behind the other.
+-- The checks of a set-up, one behind the other, and that a script that passes them isn't refused.
 use Rattle.std.proofs.Common.{◌≡◌, ℕ, ◌+◌, ◌-◌, ◌^◌, ◌<◌, ◌≤◌, List, [], length, refl, sym, ap, ◌∙◌, subst, arith}
-use Rattle.std.specs.Prelude.{Some, None, slice_get}
+use Rattle.std.specs.Prelude.{Option, Some, None, slice_get, take}
+use Rattle.std.proofs.lemmas.Option.{slice_get_within}
+use Rattle.pcct_codec.proofs.Headers.{one_table}
+use Rattle.pcc_setup.proofs.Refused.{table_kept}
 use Rattle.pcct_table.specs.declared.table.Table.{Table}
 use Rattle.pcct_codec.specs.Tables.{TableBytes}
 use Rattle.pcc_script.specs.declared.scenario.Line.{Line}
@@ -14,9 +17,9 @@ use Rattle.pcc_setup.specs.declared.refusal.InputError.{InputError}
 use Rattle.pcc_setup.specs.declared.refusal.InputError.TheVariants as error
 use Rattle.pcc_setup.specs.declared.refusal.Refusal.{Refusal}
 use Rattle.pcc_setup.specs.declared.refusal.Refusal.TheVariants as refusal
-use Rattle.pcc_setup.specs.Openings.{AllOpen, memories_by, opened_by}
+use Rattle.pcc_setup.specs.Openings.{AllOpen, line_fault, memories_by, opened_by}
 use Rattle.pcc_setup.specs.RefusalText.{IsRefusedFor}
-use Rattle.pcc_setup.specs.SetUps.{AllNamed, IsSetUp, Meeting, OpenRefused, SetUpRefused, TableRefused, WrongAction, WrongOpen, WrongTable, action_fault, first_action}
+use Rattle.pcc_setup.specs.SetUps.{AllNamed, FirstWrong, IsSetUp, Meeting, OpenRefused, SetUpRefused, TableRefused, WrongAction, WrongOpen, WrongTable, action_fault, first_action}
 
 pub wrong_table : (s : Scenario) (bytes : List ℕ) (e : InputError) → bytes ≡ s.table → IsRefusedFor (TableRefused bytes) e → IsRefusedFor (SetUpRefused s) e
 wrong_table s bytes (error.Refused r) same h = let P : List ℕ → Type 0 = λ b. TableRefused b r in (WrongTable r (subst P same h.0), h.1)
@@ -39,3 +42,21 @@ wrong_action s t ms place line l fault bytes all_open is apart at named wrong nu
 pub is_set_up : (s : Scenario) (t : Table) (ms : List (ℕ × ℕ × ℕ)) (os : List Opened) → TableBytes s.table t → AllOpen t s.opens (length s.opens) → ms ≡ memories_by t s.opens → AreApart ms → AllNamed s (length s.actions)
     → os ≡ opened_by t s.opens → (u : Table) × IsSetUp s u × (os ≡ opened_by u s.opens)
 is_set_up s t ms os bytes all_open is apart named opened = (t, record { table = bytes; all_open = all_open; apart = subst AreApart is apart; named = named }, opened)
+
+-- ---- a script that passes all checks is not refused
+
+both : {X : Type 0} (o : Option X) (x : X) → o ≡ None → o ≡ Some x → ⊥
+both o x e f = absurd cc
+
+pub set_up_kept : (s : Scenario) (t : Table) (r : Refusal) → IsSetUp s t → SetUpRefused s r → ⊥
+set_up_kept s t r h (WrongTable q refused) = table_kept s.table t q h.table refused
+set_up_kept s t r h (WrongOpen u bytes q (FirstWrong i o fault at before wrong)) =
+    let one : t ≡ u = one_table s.table t u h.table bytes in
+    let P : Table → Type 0 = λ v. line_fault v (take i s.opens) o ≡ None in
+    both _ fault (subst P one (h.all_open i o (slice_get_within s.opens i o at) at)) wrong
+set_up_kept s t r h (Meeting u bytes all_open found first) =
+    let one : t ≡ u = one_table s.table t u h.table bytes in
+    let P : Table → Type 0 = λ v. AreApart (memories_by v s.opens) in
+    (subst P one h.apart) first.a first.b first.order first.within first.meet
+set_up_kept s t r h (WrongAction u bytes all_open apart i l fault at named wrong) =
+    both _ fault (h.named i l (slice_get_within s.actions i l at) at) wrong

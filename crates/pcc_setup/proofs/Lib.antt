@@ -1,3 +1,3 @@
 pub mod Refused
 mod Opens
-mod Checks
+pub mod Checks

@@ -39,12 +39,13 @@ AllTo {X = X} P xs n = (i : ℕ) (x : X) → i < n → slice_get xs i ≡ Some x
 
 all_more : {X : Type 0} (P : ℕ → X → Type 0) (xs : List X) (i : ℕ) (x : X) → AllTo P xs i → slice_get xs i ≡ Some x → P i x → AllTo P xs (i + 1)
 all_more {X = X} P xs i x before at here j y lt e = elim (cases_lt j i) [
-    | inl below ↦ before j y below e
-    | inr ge ↦
-        let same : i ≡ j = omega (arith, ge, lt) in
-        let there : slice_get xs i ≡ Some y = subst (λ (k : ℕ). slice_get xs k ≡ Some y) (sym same) e in
-        let is : x ≡ y = some_same x y (sym at ∙ there) in
-        subst (λ (k : ℕ). P k y) same (subst (P i) is here) ]
+  | inl below ↦ before j y below e
+  | inr ge ↦
+      let same : i ≡ j = omega (arith, ge, lt) in
+      let there : slice_get xs i ≡ Some y = subst (λ (k : ℕ). slice_get xs k ≡ Some y) (sym same) e in
+      let is : x ≡ y = some_same x y (sym at ∙ there) in
+      subst (λ (k : ℕ). P k y) same (subst (P i) is here)
+]
 
 -- a list is made of what each element gives
 flat_more : {X Y : Type 0} (f : X → List Y) (xs : List X) (ys next : List Y) (i : ℕ) (x : X) → i < length xs → x ≡ get_or xs i x → next ≡ ys ++ f x → ys ≡ flat_map f (take i xs) → next ≡ flat_map f (take (i + 1) xs)
@@ -101,9 +102,12 @@ pub opens_line : (t : Table) (opens : List OpenLine) (i : ℕ) (x : OpenLine) (s
 opens_line t opens i x s w head image lt is at once wired headed empty =
     let same : w ≡ wiring_with x.id t.flags s = same_wiring (wiring_with x.id t.flags s) w (fault_of System s) wired in
     let none : fault_of System s ≡ None = no_fault (wiring_with x.id t.flags s) w (fault_of System s) wired in
-    let head_is : head_of x.id s ≡ head = sym (headed ∙ ap (λ (v : Wiring). head_by v s) same) in
-    (x, found opens i x lt is, ap (structure_fault (opens_id x.id (take i opens))) at ∙ ap (λ (b : Bool). structure_fault b (Some s)) once ∙ ap fault_by none,
-        ap (opened_with x.id t.flags) at ∙ (λ k. record { head = head_is k; wiring = sym same k; image = sym empty k } ∷ []))
+    let head_is : head_of x.id s ≡ head = sym (headed ∙ ap (λ (v : Wiring). head_by v s) same) in (
+      x,
+      found opens i x lt is,
+      ap (structure_fault (opens_id x.id (take i opens))) at ∙ ap (λ (b : Bool). structure_fault b (Some s)) once ∙ ap fault_by none,
+      ap (opened_with x.id t.flags) at ∙ (λ k. record { head = head_is k; wiring = sym same k; image = sym empty k } ∷ []),
+    )
 
 -- its structure has a fault
 pub opens_nothing : (t : Table) (opens : List OpenLine) (i : ℕ) (x : OpenLine) (s : Subspace) (fault : WiringFault) → i < length opens → x ≡ get_or opens i x
@@ -118,7 +122,7 @@ pub one_more_memory : (t : Table) (opens : List OpenLine) (ms next : List (ℕ �
     → slice_get t.subspaces id ≡ Some s → base ≡ base_of s → len ≡ memory_len_of s → next ≡ ms ++ (id, base, len) ∷ [] → ms ≡ memories_by t (take i opens) → next ≡ memories_by t (take (i + 1) opens)
 one_more_memory t opens ms next i id base len x s lt is named at based long pushed before =
     let gives : memory_with x.id (slice_get t.subspaces x.id) ≡ (id, base, len) ∷ [] =
-        ap (λ (n : ℕ). memory_with n (slice_get t.subspaces n)) (sym named) ∙ ap (memory_with id) at ∙ (λ k. (id, sym based k, sym long k) ∷ []) in
+    ap (λ (n : ℕ). memory_with n (slice_get t.subspaces n)) (sym named) ∙ ap (memory_with id) at ∙ (λ k. (id, sym based k, sym long k) ∷ []) in
     flat_more (λ (o : OpenLine). memory_with o.id (slice_get t.subspaces o.id)) opens ms next i x lt is (pushed ∙ ap (λ (v : List (ℕ × ℕ × ℕ)). ms ++ v) (sym gives)) before
 
 pub no_memory : (t : Table) (opens : List OpenLine) (ms : List (ℕ × ℕ × ℕ)) (i id : ℕ) (x : OpenLine) → i < length opens → x ≡ get_or opens i x → id ≡ x.id

@@ -80,11 +80,9 @@ pub data SetUpRefused (s : Scenario) : Refusal → Type 0 where
 
 -- ---- what a caller is told
 
--- a script opens Banks alone and has no processors
-pub record OpensBanks (s : Scenario) : Type 0 where
-  pub banks : list_all (λ o. is_bank o.device) s.opens ≡ true
-  pub cpus : s.cpus ≡ []
-  pub caps : s.caps ≡ []
+-- a script opens Banks alone, and has no processors and no caps
+abbrev pub opens_banks : Scenario → Bool
+opens_banks s = list_all (λ o. is_bank o.device) s.opens && length s.cpus == 0 && length s.caps == 0
 
 -- the text of an error, if it has one, is the line of such a refusal
 abbrev pub IfLine : (Refusal → Type 0) → SetUpError → Type 0

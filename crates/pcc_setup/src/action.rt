@@ -1,7 +1,8 @@
 //! Whether the actions of a script name what it opens.
 ghost use Rattle.std.specs.Prelude.{◌≡◌, None, Some, MatchOption, if◌then◌else◌, length, slice_get};
 ghost use Rattle.pcc_script.specs.declared.scenario.Line.{Line};
-ghost use Rattle.pcc_setup.specs.SetUps.{AllNamed, action_fault, is_bank, opens_bank};
+ghost use Rattle.pcc_setup.specs.SetUps.{AllNamed, action_fault, is_bank, opens_bank, opens_banks};
+ghost use Rattle.std.specs.List.{list_all};
 
 use pcc_script::{Device, Line, OpenLine, Scenario};
 
@@ -20,11 +21,27 @@ fn is_bank(device: &Device) -> bool
     matches!(device, Device::Bank)
 }
 
+/// Whether a script opens Banks alone, and has no processors and no caps.
+pub fn opens_banks(scenario: &Scenario) -> bool
+    ensures { result ≡ opens_banks scenario.now }
+{
+    are_banks(scenario.opens.as_slice()) && scenario.cpus.len() == 0 && scenario.caps.len() == 0
+}
+
+/// Whether each line opens a Bank.
+pub fn are_banks(opens: &[OpenLine]) -> bool
+    ensures { result ≡ list_all (λ o. is_bank o.device) opens.now }
+{
+    opens.iter().all(|o| is_bank(&o.device))
+}
+
 // Whether some line opens a Bank on the subspace with this ID.
 fn opens_bank(opens: &[OpenLine], id: u32) -> bool
     ensures { result ≡ opens_bank id opens.now }
 {
-    opens.iter().any(|o| u32::from(o.id) == id && is_bank(&o.device))
+    opens
+        .iter()
+        .any(|o| u32::from(o.id) == id && is_bank(&o.device))
 }
 
 // Why an action can't be run, if it can't.
@@ -32,9 +49,18 @@ fn action_fault(scenario: &Scenario, action: &Line) -> Option<ActionFault>
     ensures { result ≡ action_fault scenario.now action.now }
 {
     match action {
-        Line::Call { subspace, .. } => fault_unless(opens_bank(scenario.opens.as_slice(), *subspace), ActionFault::NotBank),
-        Line::Read { cpu, .. } => fault_unless((*cpu as usize) < scenario.cpus.len(), ActionFault::NoCpu),
-        Line::Set { wish, .. } => fault_unless((wish.cpu as usize) < scenario.cpus.len(), ActionFault::NoCpu),
+        Line::Call { subspace, .. } => fault_unless(
+            opens_bank(scenario.opens.as_slice(), *subspace),
+            ActionFault::NotBank,
+        ),
+        Line::Read { cpu, .. } => fault_unless(
+            (*cpu as usize) < scenario.cpus.len(),
+            ActionFault::NoCpu,
+        ),
+        Line::Set { wish, .. } => fault_unless(
+            (wish.cpu as usize) < scenario.cpus.len(),
+            ActionFault::NoCpu,
+        ),
         Line::Wait { .. } => None,
     }
 }

@@ -8,9 +8,9 @@ mod setup;
 mod table;
 mod text;
 
-pub use action::ActionFault;
+pub use action::{ActionFault, are_banks, opens_banks};
 pub use opening::{OpenFault, Opened, OpenedList};
 pub use refusal::{InputError, Refusal, UseFault};
-pub use setup::{SetUp, SetUpError, set_up};
+pub use setup::{SetUp, SetUpError, checked_set_up, first_action, set_up};
 pub use table::whole_table;
 pub use text::refused_line;

@@ -74,12 +74,7 @@ fn opens_id(opens: &[OpenLine], id: u8) -> bool
 }
 
 // What the line at a place opens, or why it opens nothing.
-fn open_line(
-    alloc: Global,
-    table: &Table,
-    opens: &Opens,
-    place: usize,
-) -> Result<Opened, OpenFault>
+fn open_line(alloc: Global, table: &Table, opens: &Opens, place: usize) -> Result<Opened, OpenFault>
     requires { place < length opens.now }
     ensures { MatchResult result
         (λ o. (line : OpenLine) × (slice_get opens.now place ≡ Some line) × (line_fault table.now (take place opens.now) line ≡ None) × (opened_with line.id table.now.flags (slice_get table.now.subspaces line.id) ≡ o ∷ []))
@@ -122,7 +117,11 @@ pub fn open_all(alloc: Global, table: &Table, opens: &Opens) -> Result<OpenedLis
 
 /// The ID, the base and the length of each opened memory.
 #[tactic(auto, using(crate::proofs::Opens::one_more_memory, crate::proofs::Opens::no_memory, crate::proofs::Opens::all_memories))]
-pub fn memories(alloc: Global, table: &Table, opens: &Opens) -> Result<Vec<(u8, u64, u64)>, NoMemory>
+pub fn memories(
+    alloc: Global,
+    table: &Table,
+    opens: &Opens,
+) -> Result<Vec<(u8, u64, u64)>, NoMemory>
     ensures { IfOk result (λ v. v.items ≡ memories_by table.now opens.now) }
 {
     let mut memories = Vec::new(alloc);

@@ -1,11 +1,11 @@
 //! The checks of a script's set-up, one after the other.
-ghost use Rattle.std.specs.Prelude.{◌≡◌, MatchResult, length};
+ghost use Rattle.std.specs.Prelude.{◌≡◌, true, MatchResult, length};
 ghost use Rattle.pcc_script.specs.Limits.{IsWithin};
 ghost use Rattle.pcct_table.specs.declared.table.Table.{Table};
 ghost use Rattle.pcct_codec.specs.Tables.{TableBytes};
 ghost use Rattle.pcc_setup.specs.Openings.{AllOpen, opened_by};
 ghost use Rattle.pcc_setup.specs.RefusalText.{IsRefusedFor};
-ghost use Rattle.pcc_setup.specs.SetUps.{IfLine, IsSetUp, OpensBanks, SetUpRefused, first_action};
+ghost use Rattle.pcc_setup.specs.SetUps.{IfLine, IsSetUp, SetUpRefused, first_action, opens_banks};
 ghost use Rattle.pcc_setup.specs.declared.setup.SetUpError.TheVariants.{NoMemory as Exhausted};
 
 use crate::action::{WrongAction, first_wrong};
@@ -93,9 +93,9 @@ fn with_table(alloc: Global, scenario: &Scenario, table: &Table) -> Result<SetUp
     }
 }
 
-// The checks in their order.
+/// The checks of `set_up`, with the refusal as a value.
 #[tactic(auto, using(crate::proofs::Checks::wrong_table))]
-fn checked(alloc: Global, scenario: &Scenario) -> Result<SetUp, InputError>
+pub fn checked_set_up(alloc: Global, scenario: &Scenario) -> Result<SetUp, InputError>
     requires { IsWithin scenario.now }
     ensures { MatchResult result (λ u. (t : Table) × IsSetUp scenario.now t × (u.opened ≡ opened_by t scenario.now.opens)) (IsRefusedFor (SetUpRefused scenario.now)) }
 {
@@ -109,12 +109,14 @@ fn checked(alloc: Global, scenario: &Scenario) -> Result<SetUp, InputError>
 /// subspaces lie apart, and each action names what is opened. The script opens Banks alone.
 pub fn set_up(alloc: Global, scenario: &Scenario) -> Result<SetUp, SetUpError>
     requires within { IsWithin scenario.now }
-    requires banks { OpensBanks scenario.now }
+    requires banks { opens_banks scenario.now ≡ true }
     ensures { MatchResult result (λ u. (t : Table) × IsSetUp scenario.now t × (u.opened ≡ opened_by t scenario.now.opens)) (IfLine (SetUpRefused scenario.now)) }
 {
-    match checked(alloc, scenario) {
+    match checked_set_up(alloc, scenario) {
         Ok(set_up) => Ok(set_up),
-        Err(InputError::Refused(refusal)) => Err(SetUpError::Refused { text: Bytes::from_vec(refused_line(alloc, refusal)?) }),
+        Err(InputError::Refused(refusal)) => Err(SetUpError::Refused {
+            text: Bytes::from_vec(refused_line(alloc, refusal)?),
+        }),
         Err(InputError::NoMemory) => Err(SetUpError::NoMemory),
     }
 }

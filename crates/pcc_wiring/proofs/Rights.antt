@@ -102,7 +102,7 @@ plain w r kind reports joined = record {
   quiet = λ e. absurd (omega arith);
 }
 
-is_right : (id flags : ℕ) (asks : Asks) (s : Subspace) → fault_of asks s ≡ None → IsRight (wiring_with id flags s)
+pub is_right : (id flags : ℕ) (asks : Asks) (s : Subspace) → fault_of asks s ≡ None → IsRight (wiring_with id flags s)
 is_right id flags asks (Generic t) none = plain _ (is_sound id flags asks (Generic t) none).room (omega arith) refl refl
 is_right id flags asks (HwReduced1 t) none = plain _ (is_sound id flags asks (HwReduced1 t) none).room (omega arith) refl refl
 is_right id flags asks (HwReduced2 t) none = plain _ (is_sound id flags asks (HwReduced2 t) none).room (omega arith) refl refl

@@ -12,7 +12,7 @@ mod worked;
 pub use fault::{Asks, Role, WiringFault};
 pub use overlap::{Overlap, opened_apart};
 pub use place::{place_laws, place_of};
-pub use wiring::wiring_of;
+pub use wiring::{right_wirings, wiring_of};
 pub use worked::worked_cases;
 
 #[cfg(test)]

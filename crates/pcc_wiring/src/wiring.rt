@@ -1,5 +1,7 @@
 //! The wiring of a structure, or its first fault.
-ghost use Rattle.std.specs.Prelude.{◌≡◌, ◌≤◌, IfOk, None};
+ghost use Rattle.std.specs.Prelude.{◌≡◌, ℕ, IfOk, None};
+ghost use Rattle.pcct_table.specs.declared.subspace.Subspace.{Subspace};
+ghost use Rattle.pcc_wiring.specs.declared.fault.Asks.{Asks};
 ghost use Rattle.pcc_steps.specs.Wires.{IsRight};
 ghost use Rattle.pcc_wiring.specs.Faults.{fault_by, fault_of, masks_fault, opened_as, register_fault, registers_fault, is_asked_by, Tells, watched_fault, written_fault};
 ghost use Rattle.pcc_wiring.specs.Roles.{roles_of};
@@ -220,3 +222,9 @@ pub fn wiring_of(subspace: &Subspace, id: u8, flags: u32, asks: Asks) -> Result<
     test(asks, subspace.memory_len(), &roles, &wiring)?;
     Ok(wiring)
 }
+
+/// A structure without a fault has a wiring that both ends can work with, whatever its ID and the table's flags. It does nothing.
+
+pub fn right_wirings()
+    ensures { (asks : Asks) (id flags : ℕ) (s : Subspace) → fault_of asks s ≡ None → IsRight (wiring_with id flags s) }
+{}
