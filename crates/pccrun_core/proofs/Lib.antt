@@ -2,10 +2,10 @@ pub mod Histories
 pub mod Replies
 pub mod Calls
 pub mod Steps
-pub mod Actions
 pub mod Weaves
 pub mod Woven
 pub mod Refused
 pub mod Tops
-mod Opens
+mod BankLists
+mod Serving
 pub mod Several

@@ -18,7 +18,7 @@ use Rattle.pcc_setup.specs.declared.action.ActionFault.TheVariants.{NotBank}
 use Rattle.pcc_setup.specs.declared.opening.Opened.{Opened}
 use Rattle.pcc_setup.specs.Openings.{AllOpen, opened_by, opened_with, opens_id, structure_fault}
 use Rattle.pcc_setup.specs.SetUps.{action_fault, is_bank, opens_bank}
-use Rattle.pccrun_core.specs.BankChannels.{OpenBank, channel_of, new_bank, start_of}
+use Rattle.pccrun_core.specs.BankChannels.{AreDistinct, OpenBank, channel_of, new_bank, start_of}
 use Rattle.pccrun_core.specs.Histories.{AreHistories, IsHistory, asked_by, asked_on}
 use Rattle.pccrun_core.specs.Replies.{Reply}
 use Rattle.pccrun_core.specs.SetUp.{channels_of, clock_of, run_of, set_up_of}
@@ -26,11 +26,6 @@ use Rattle.pccrun_core.specs.StepRun.{Call, Channel, ChannelStart, Run, ScriptCl
 use Rattle.pccrun_core.proofs.Histories.{run_histories}
 
 -- ---- lists
-
--- no number stands twice
-abbrev pub AreDistinct : List ℕ → Type 0
-AreDistinct [] = Unit {0}
-AreDistinct (n ∷ ns) = AllByRecursion (λ m. n ≢ m) ns × AreDistinct ns
 
 all_at : {X : Type 0} (P : X → Type 0) (xs : List X) (i : ℕ) (x : X) → AllByRecursion P xs → slice_get xs i ≡ Some x → P x
 all_at P [] i x h e = absurd cc

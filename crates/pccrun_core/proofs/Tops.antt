@@ -2,27 +2,24 @@
 use Rattle.std.proofs.Common.{◌≡◌, ◌≢◌, ℕ, ◌+◌, ◌≤◌, true, false, List, [], ◌∷◌, ◌++◌, length, get_or, map, refl, sym, ap, ◌∙◌, subst, arith}
 use Rattle.std.specs.Prelude.{Option, Some, None, MatchOption, codes, bytes_eq, slice_get}
 use Rattle.std.specs.Io.KnownBytes.{Consumes, IsAtEnd}
-use Rattle.std.specs.List.{flat_map}
 use Rattle.std.proofs.lemmas.List.{append-nil, length-append, length-map}
 use Rattle.std.proofs.lemmas.Slice.Eq.{bytes_eq-Decides}
-use Rattle.pcc_script.specs.declared.scenario.OpenLine.{OpenLine}
 use Rattle.pcc_script.specs.declared.scenario.Scenario.{Scenario}
-use Rattle.pcct_table.specs.declared.subspace.Subspace.{Subspace}
 use Rattle.pcct_table.specs.declared.table.Table.{Table}
 use Rattle.pcct_codec.proofs.Texts.{has_text}
 use Rattle.pccrun_core.specs.declared.command.Command.{Command}
 use Rattle.pccrun_core.specs.declared.command.Command.TheVariants as command
-use Rattle.pccrun_core.specs.declared.refusal.Refusal.{Refusal}
-use Rattle.pccrun_core.specs.declared.refusal.Refusal.TheVariants as refusal
+use Rattle.pcc_setup.specs.declared.refusal.Refusal.{Refusal}
+use Rattle.pcc_setup.specs.declared.refusal.Refusal.TheVariants as refusal
 use Rattle.pccrun_core.specs.Answers.{Answers, AsksFor, IsMade, IsServedInput, IsServedScript, Made, Makes, Refused, TooLong, Usage, input_limit, usage_line, word_of}
-use Rattle.pccrun_core.specs.BankChannels.{bank_start}
-use Rattle.pccrun_core.specs.Histories.{AreHistories}
-use Rattle.pccrun_core.specs.Refusals.{Refuses, WrongLine, refused_line}
-use Rattle.pccrun_core.specs.Openings.{head_of}
-use Rattle.pccrun_core.specs.SetUp.{IsPromptScript, channels_of, clock_of, run_of, set_up_of, step_text}
-use Rattle.pccrun_core.specs.StepRun.{Channel, fresh, step_run}
-use Rattle.pccrun_core.proofs.Histories.{run_histories}
-use Rattle.pccrun_core.proofs.Refused.{script_kept, table_kept}
+use Rattle.pcc_setup.specs.RefusalText.{refused_line}
+use Rattle.pcc_setup.proofs.Refused.{table_kept}
+use Rattle.pccrun_core.specs.Refusals.{Refuses, WrongLine}
+use Rattle.pcc_setup.specs.declared.opening.Opened.{Opened}
+use Rattle.pcc_setup.specs.Openings.{opened_by}
+use Rattle.pccrun_core.specs.SetUp.{step_text}
+use Rattle.pccrun_core.proofs.Several.{set_up_histories}
+use Rattle.pccrun_core.proofs.Refused.{script_kept}
 
 one : {X : Type 0} (f : X → List ℕ) (xs : List X) (x : X) → length xs ≡ 1 → x ≡ get_or xs 0 x → map f xs ≡ f x ∷ []
 one {X = X} f [] x l e = absurd (omega arith)
@@ -61,21 +58,9 @@ asks_none f xs l c h = l (sym (length-map xs f) ∙ ap length h)
 
 -- ---- what an input leads to
 
--- the one channel that a served script opens
-one_channel : (s : Scenario) (t : Table) (u : Subspace) → IsPromptScript s → slice_get t.subspaces 0 ≡ Some u → set_up_of s t ≡ record { start = bank_start (head_of 0 u) (clock_of s); now = fresh (bank_start (head_of 0 u) (clock_of s)) } ∷ []
-one_channel s t u h first =
-    ap (flat_map (λ (o : OpenLine). channels_of (clock_of s) o.id (slice_get t.subspaces o.id))) h.opens
-    ∙ ap (λ (o : Option Subspace). channels_of (clock_of s) 0 o ++ []) first
-
--- the one journal of a served script is a history
-pub served_histories : (s : Scenario) (t : Table) (u : Subspace) → IsPromptScript s → slice_get t.subspaces 0 ≡ Some u → AreHistories s.actions (run_of s t)
-served_histories s t u h first =
-    let P : List Channel → Type 0 = λ cs. AreHistories s.actions (step_run s.actions cs) in
-    subst P (sym (one_channel s t u h first)) (run_histories (bank_start (head_of 0 u) (clock_of s)) s.actions)
-
 -- what is made of a served script
-pub stepped : (input : List ℕ) (s : Scenario) (t : Table) (u : Subspace) (text : List ℕ) → IsServedScript command.Step input s t → slice_get t.subspaces 0 ≡ Some u → text ≡ step_text s t → Makes command.Step input text
-stepped input s t u text h first e = (s, t, h, served_histories s t u h.script.prompt first, e)
+pub stepped : (input : List ℕ) (s : Scenario) (os : List Opened) (text : List ℕ) → ((t : Table) × IsServedScript command.Step input s t × (os ≡ opened_by t s.opens)) → ((t : Table) → os ≡ opened_by t s.opens → text ≡ step_text s t) → Makes command.Step input text
+stepped input s os text h e = (s, h.0, h.1, set_up_histories s h.0 h.1.served.set_up.all_open, e h.0 h.2)
 
 pub made_of : (words : List (List ℕ)) (left left' : Option (List ℕ)) (input text : List ℕ) (c : Command) → AsksFor words c → Consumes left left' input → IsAtEnd left' → Makes c input text → Answers words left left' 0 text
 made_of words left left' input text c asked read end made = Made c asked input (record { read = read; end = end }) text made
@@ -151,8 +136,8 @@ same_command words c d a b = one_command c d (same_head (word_of c) (word_of d) 
 
 -- what is made is not refused
 kept : (c : Command) (input : List ℕ) (r : Refusal) → IsMade c input → Refuses c input r → ⊥
-kept command.Step input r h k = script_kept command.Step input h.0 h.1 r h.2.script h.2.table h.2.served k
-kept command.Weave input r h k = script_kept command.Weave input h.0 h.1 r h.2.script h.2.table h.2.served k
+kept command.Step input r h k = script_kept command.Step input h.0 h.1 r h.2.script h.2.served k
+kept command.Weave input r h k = script_kept command.Weave input h.0 h.1 r h.2.script h.2.served k
 kept command.Show input r h k = table_kept input h.0 r h.1 k
 kept command.Build input r h (WrongLine none line wrong fault) = none h.0 (has_text h.0 h.1.value) h.1.text_is
 

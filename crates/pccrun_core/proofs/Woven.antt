@@ -35,9 +35,9 @@ use Rattle.channel_plain.specs.TraceText.{trace_text}
 use Rattle.channel_plain.specs.Weaving.{Readings, reads, unread}
 use Rattle.channel_plain.specs.Wholes.{IsWhole}
 use Rattle.channel_plain.specs.WordRuns.{WordRun, flown}
-use Rattle.pccrun_core.specs.Openings.{head_of}
-use Rattle.pccrun_core.specs.SetUp.{IsPromptCall}
-use Rattle.pccrun_core.specs.Weaving.{AreReadings, IsWoven, asked_by, side_of}
+use Rattle.pcc_script.specs.declared.scenario.OpenLine.{OpenLine}
+use Rattle.pcc_setup.specs.Openings.{head_of}
+use Rattle.pccrun_core.specs.Weaving.{AreReadings, IsCall, IsWoven, asked_by, side_of}
 use Rattle.pcc_wiring.specs.Wirings.{wiring_with}
 
 -- ---- readings
@@ -113,7 +113,7 @@ pending_flown false o = refl
 -- ---- the calls
 
 -- each line looks at least once
-least_of : (ls : List Line) → AllByRecursion IsPromptCall ls → AllByRecursion IsAction ls → (i : ℕ) (c : Asked) → slice_get (map asked_by ls) i ≡ Some c → 0 < c.polls
+least_of : (ls : List Line) → AllByRecursion IsCall ls → AllByRecursion IsAction ls → (i : ℕ) (c : Asked) → slice_get (map asked_by ls) i ≡ Some c → 0 < c.polls
 least_of [] h k i c e = absurd cc
 least_of (line.Call worker subspace code bytes polls hold ∷ ls) h k zero c e = let least : 1 ≤ polls = k.0.4.some in let same : polls ≡ c.polls = polls_are e in omega arith
   where
@@ -124,32 +124,34 @@ least_of (line.Read worker cpu polls hold ∷ ls) h k i c e = absurd h.0
 least_of (line.Set worker wish polls hold ∷ ls) h k i c e = absurd h.0
 least_of (line.Wait n ∷ ls) h k i c e = absurd h.0
 
-pub have_polls : (ls : List Line) (calls : List Asked) → AllByRecursion IsPromptCall ls → AllByRecursion IsAction ls → calls ≡ map asked_by ls → HavePolls calls
+pub have_polls : (ls : List Line) (calls : List Asked) → AllByRecursion IsCall ls → AllByRecursion IsAction ls → calls ≡ map asked_by ls → HavePolls calls
 have_polls ls calls h k e = subst HavePolls (sym e) (record { least = least_of ls h k })
 
 -- what is written is a trace and its journal
-pub is_woven : (s : Scenario) (t : Table) (u : Subspace) (letters : List Letter) (w : Wiring) (limits : Limits) (state : List ℕ) (begin end : PlainState) (clock0 clock : LineState) (calls : List Asked) (sides : List Side) (trace : List TraceLine) (rs text : List ℕ)
-    → slice_get t.subspaces 0 ≡ Some u → s.picks ≡ Some letters → length letters ≤ 65536 → w ≡ wiring_with 0 t.flags u → limits ≡ (head_of 0 u).limits → state ≡ 0 ∷ replicate (head_of 0 u).room 0
+pub is_woven : (s : Scenario) (t : Table) (o : OpenLine) (u : Subspace) (letters : List Letter) (w : Wiring) (limits : Limits) (state : List ℕ) (begin end : PlainState) (clock0 clock : LineState) (calls : List Asked) (sides : List Side) (trace : List TraceLine) (rs text : List ℕ)
+    → s.opens ≡ o ∷ [] → slice_get t.subspaces o.id ≡ Some u → s.picks ≡ Some letters → length letters ≤ 65536 → w ≡ wiring_with o.id t.flags u → limits ≡ (head_of o.id u).limits → state ≡ 0 ∷ replicate (head_of o.id u).room 0
     → IsNew w limits state begin → clock0 ≡ line_clock s → calls ≡ map asked_by s.actions → sides ≡ map side_of letters
     → Readings ticks_of line_tells clock0 rs clock → length rs ≤ length sides
     → WordRun bank_exec begin.ask.wiring begin.calls.limits begin.start (opening_of begin.ask.wiring) calls sides trace rs end.calls.records (flown end.ask.in_flight end.calls.sent) (exchanges_of_commands end.executed)
     → IsGood bank_exec end → IsWhole (opening_of begin.ask.wiring) calls end.calls.records → Stays begin end
-    → text ≡ trace_text trace ++ journal_text (head_of 0 u) end.calls.records (pending_by end.ask.in_flight end.calls.sent) → IsWoven s t text
-is_woven s t u letters w limits state begin end clock0 clock calls sides trace rs text first chosen few wired limited stated new clocked called sided readings bound run good whole stay is =
+    → text ≡ trace_text trace ++ journal_text (head_of o.id u) end.calls.records (pending_by end.ask.in_flight end.calls.sent) → IsWoven s t text
+is_woven s t o u letters w limits state begin end clock0 clock calls sides trace rs text alone first chosen few wired limited stated new clocked called sided readings bound run good whole stay is =
     let n : length (map side_of letters) ≡ length letters = length-map letters side_of in
     let m : length sides ≡ length (map side_of letters) = ap length sided in
-    let wires : begin.ask.wiring ≡ wiring_with 0 t.flags u = new.ask.0 ∙ wired in
-    let lims : begin.calls.limits ≡ (head_of 0 u).limits = ap (λ (k : CallBook). k.limits) new.calls ∙ limited in
-    let start : begin.start ≡ 0 ∷ replicate (head_of 0 u).room 0 = new.start ∙ stated in
+    let wires : begin.ask.wiring ≡ wiring_with o.id t.flags u = new.ask.0 ∙ wired in
+    let lims : begin.calls.limits ≡ (head_of o.id u).limits = ap (λ (k : CallBook). k.limits) new.calls ∙ limited in
+    let start : begin.start ≡ 0 ∷ replicate (head_of o.id u).room 0 = new.start ∙ stated in
     let R : Wiring × Limits × List ℕ × List Asked × List Side → Type 0 = λ z. WordRun bank_exec z.0 z.1 z.2 (opening_of z.0) z.3 z.4 trace rs end.calls.records (flown end.ask.in_flight end.calls.sent) (exchanges_of_commands end.executed) in
     let C : LineState → Type 0 = λ c. Readings ticks_of line_tells c rs clock in
-    let reports : end.ask.wiring.reports ≡ (head_of 0 u).reports = ap (λ (x : Wiring). x.reports) (stay.wiring ∙ wires) in
+    let reports : end.ask.wiring.reports ≡ (head_of o.id u).reports = ap (λ (x : Wiring). x.reports) (stay.wiring ∙ wires) in
     let L : Bool × List ℕ → Type 0 = λ z. Legal bank_exec z.0 z.1 (exchanges_of end.calls.records) in
     let W : Wiring × List Asked → Type 0 = λ z. IsWhole (opening_of z.0) z.1 end.calls.records in
     let K : Limits → Type 0 = λ l. WithinLimits l (times_of end.calls.records) (post_of (flown end.ask.in_flight end.calls.sent)) in
     record {
+      open_line = o;
+      opens = alone;
       subspace = u;
-      first = first;
+      structure = first;
       letters = letters;
       picks = chosen;
       trace = trace;
@@ -162,5 +164,5 @@ is_woven s t u letters w limits state begin end clock0 clock calls sides trace r
       legal = subst L (λ i. (reports i, (stay.start ∙ start) i)) good.legal;
       whole = subst W (λ i. (wires i, called i)) whole;
       limits = subst K (stay.limits ∙ lims) (limits_flown end.calls.limits (times_of end.calls.records) end.ask.in_flight end.calls.sent good.limits);
-      text_is = is ∙ ap (λ (p : _). trace_text trace ++ journal_text (head_of 0 u) end.calls.records p) (pending_flown end.ask.in_flight end.calls.sent);
+      text_is = is ∙ ap (λ (p : _). trace_text trace ++ journal_text (head_of o.id u) end.calls.records p) (pending_flown end.ask.in_flight end.calls.sent);
     }

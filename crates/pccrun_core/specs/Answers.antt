@@ -1,5 +1,5 @@
 -- What the program writes, and its status, by its words and by the bytes that it read.
-use Rattle.std.specs.Prelude.{◌≡◌, ◌≤◌, ℕ, ◌+◌, List, [], ◌∷◌, length, codes, Option, Some}
+use Rattle.std.specs.Prelude.{◌≡◌, ◌≤◌, ℕ, ◌+◌, List, [], ◌∷◌, length, codes, Option, Some, None}
 use Rattle.std.specs.Io.KnownBytes.{Consumes, IsAtEnd}
 use Rattle.pcc_bytes.specs.Bytes.{IsBytes}
 use Rattle.pcc_script.specs.declared.scenario.Scenario.{Scenario}
@@ -8,11 +8,13 @@ use Rattle.pcct_table.specs.ShowText.{show_text}
 use Rattle.pcct_codec.specs.Tables.{IsTableValue, TableBytes}
 use Rattle.pccrun_core.specs.declared.command.Command.{Command}
 use Rattle.pccrun_core.specs.declared.command.Command.TheVariants as command
-use Rattle.pccrun_core.specs.declared.refusal.Refusal.{Refusal}
-use Rattle.pccrun_core.specs.declared.refusal.Refusal.TheVariants as refusal
+use Rattle.pcc_setup.specs.declared.refusal.Refusal.{Refusal}
+use Rattle.pcc_setup.specs.declared.refusal.Refusal.TheVariants as refusal
 use Rattle.pccrun_core.specs.Histories.{AreHistories}
-use Rattle.pccrun_core.specs.Refusals.{IsScript, Refuses, refused_line}
-use Rattle.pccrun_core.specs.SetUp.{IsServedTable, run_of, step_text}
+use Rattle.pcc_setup.specs.RefusalText.{refused_line}
+use Rattle.pcc_setup.specs.SetUps.{IsSetUp}
+use Rattle.pccrun_core.specs.Refusals.{IsScript, Refuses}
+use Rattle.pccrun_core.specs.SetUp.{run_of, step_text, use_fault}
 use Rattle.pccrun_core.specs.Weaving.{IsWoven}
 
 -- ---- words
@@ -50,11 +52,15 @@ pub record ReadMore (left left' : Option (List ℕ)) : Type 0 where
 
 -- ---- what is made of it
 
--- a script and its table, which are served
+-- a scenario passes the checks of its set-up with this table, and the command can be used with it
+pub record ServedBy (c : Command) (s : Scenario) (t : Table) : Type 0 where
+  pub set_up : IsSetUp s t
+  pub used : use_fault c s ≡ None
+
+-- a script and its table, which a command runs
 pub record IsServedScript (c : Command) (input : List ℕ) (s : Scenario) (t : Table) : Type 0 where
   pub script : IsScript c input s
-  pub table : TableBytes s.table t
-  pub served : IsServedTable t
+  pub served : ServedBy c s t
 
 -- a text is that of a table
 pub record IsTextOf (t : Table) (text : List ℕ) : Type 0 where

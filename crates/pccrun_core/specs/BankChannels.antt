@@ -1,5 +1,8 @@
 -- A Bank's channel whose commands are executed in their calls.
-use Rattle.std.specs.Prelude.{◌≡◌, ◌≤◌, ℕ, ◌+◌, false, List, ◌∷◌, length, replicate, None}
+use Rattle.std.specs.Prelude.{◌≡◌, ◌≢◌, ◌≤◌, ℕ, ◌+◌, ◌-◌, ◌*◌, ◌^◌, ◌==◌, true, false, List, [], ◌∷◌, length, map, replicate, None}
+use Rattle.std.specs.List.{AllByRecursion, list_any}
+use Rattle.pcc_script.specs.declared.scenario.Line.{Line}
+use Rattle.pcc_script.specs.declared.scenario.Line.TheVariants as line
 use Rattle.pcc_history.specs.Devices.{bank_exec}
 use Rattle.pcc_history.specs.Channel.{over}
 use Rattle.pcc_io.specs.LineClocks.{LineState}
@@ -61,3 +64,27 @@ read_once b = record b { now = record b.now { taken = b.now.taken + 1 } }
 pub record IsAnswered (old : OpenBank) (call : Call) (new : OpenBank) (outcome : Outcome) : Type 0 where
   pub told : let a = answer_call (start_of old) call old.now in StandsFor a.now.records outcome a.reply
   pub left : new ≡ record old { now = (answer_call (start_of old) call old.now).now }
+
+-- ---- the Banks of a run, in the order of their lines
+
+-- its clock was moved up
+abbrev pub waited_bank : ℕ → OpenBank → OpenBank
+waited_bank n b = record b { now = record b.now { added = b.now.added + n } }
+
+abbrev pub ids_of : List OpenBank → List ℕ
+ids_of banks = map (λ b. b.head.id) banks
+
+-- no number stands twice
+abbrev pub AreDistinct : List ℕ → Type 0
+AreDistinct [] = Unit {0}
+AreDistinct (n ∷ ns) = AllByRecursion (λ m. n ≢ m) ns × AreDistinct ns
+
+-- it has given at most two readings a line, and its clock was moved up by at most the greatest number a line
+pub record IsEarly (lines : ℕ) (b : OpenBank) : Type 0 where
+  pub taken : b.now.taken ≤ 2 * lines
+  pub added : b.now.added ≤ (2 ^ 64 - 1) * lines
+
+-- a call is on one of these IDs
+abbrev pub IsOnOneOf : List ℕ → Line → Type 0
+IsOnOneOf ids (line.Call worker subspace code bytes polls hold) = list_any (λ id. id == subspace) ids ≡ true
+IsOnOneOf ids _ = Unit {0}

@@ -3,7 +3,6 @@ pub mod StepRun
 pub mod Histories
 pub mod ReplyText
 pub mod BankChannels
-pub mod Openings
 pub mod SetUp
 pub mod Weaving
 pub mod Refusals

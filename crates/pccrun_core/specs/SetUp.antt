@@ -1,27 +1,28 @@
 -- What a script opens, and what `step` prints for it.
-use Rattle.std.specs.Prelude.{◌≡◌, ℕ, ◌+◌, true, false, List, [], ◌∷◌, ◌++◌, length, Option, Some, None, slice_get}
-use Rattle.std.specs.List.{AllByRecursion, flat_map}
-use Rattle.pcct_table.specs.declared.subspace.Subspace.{Subspace}
+use Rattle.std.specs.Prelude.{◌≡◌, ℕ, ◌==◌, ◌&&◌, not, nat_lt, is_none, is_some, Bool, true, false, if◌then◌else◌, List, [], ◌∷◌, ◌++◌, length, slice_get, Option, Some, None}
+use Rattle.std.specs.List.{flat_map, list_all, list_any}
 use Rattle.pcct_table.specs.declared.table.Table.{Table}
 use Rattle.pcc_journal.specs.JournalText.{journal_text}
-use Rattle.pcc_script.specs.declared.scenario.Device.TheVariants.{Bank}
 use Rattle.pcc_script.specs.declared.scenario.Line.{Line}
 use Rattle.pcc_script.specs.declared.scenario.Line.TheVariants as line
 use Rattle.pcc_script.specs.declared.scenario.Scenario.{Scenario}
-use Rattle.pcc_script.specs.declared.scenario.Letter.{Letter}
+use Rattle.pcct_table.specs.declared.subspace.Subspace.{Subspace}
+use Rattle.pcc_setup.specs.declared.refusal.UseFault.{UseFault}
+use Rattle.pcc_setup.specs.declared.refusal.UseFault.TheVariants.{Bank, Many, Pick, Wait}
+use Rattle.pcc_setup.specs.Openings.{head_of}
+use Rattle.pcc_setup.specs.SetUps.{first_action, is_bank, opens_banks}
 use Rattle.pccrun_core.specs.declared.command.Command.{Command}
 use Rattle.pccrun_core.specs.declared.command.Command.TheVariants as command
 use Rattle.pccrun_core.specs.BankChannels.{bank_start}
 use Rattle.pccrun_core.specs.ReplyText.{replies_text}
 use Rattle.pccrun_core.specs.StepRun.{Channel, Run, ScriptClock, fresh, pending_of, step_run}
-use Rattle.pccrun_core.specs.Openings.{head_of, open_fault}
 
 -- ---- the opened subspaces
 
 abbrev pub clock_of : Scenario → ScriptClock
 clock_of s = record { start = s.start; step = s.step }
 
--- the channel of a structure, which nothing was asked yet; none where there is no structure
+-- the channel of a structure, which nothing was asked yet; none where there is no structure. Each has a clock of its own.
 abbrev pub channels_of : ScriptClock → ℕ → Option Subspace → List Channel
 channels_of clock id None = []
 channels_of clock id (Some s) = let start = bank_start (head_of id s) clock in record { start = start; now = fresh start } ∷ []
@@ -31,10 +32,6 @@ abbrev pub set_up_of : Scenario → Table → List Channel
 set_up_of s t = flat_map (λ o. channels_of (clock_of s) o.id (slice_get t.subspaces o.id)) s.opens
 
 -- ---- the text of `step`
-
--- the number of the first action's line, from 1
-abbrev pub first_action : Scenario → ℕ
-first_action s = 3 + length s.opens + length s.cpus + length s.caps
 
 abbrev pub run_of : Scenario → Table → Run
 run_of s t = step_run s.actions (set_up_of s t)
@@ -49,27 +46,41 @@ run_text first r = replies_text first r.replies ++ flat_map channel_journal r.ch
 unfoldable pub step_text : Scenario → Table → List ℕ
 step_text s t = run_text (first_action s) (run_of s t)
 
--- ---- what is served so far
+-- ---- what is built so far
 
--- a call on subspace 0 whose command is not held
-abbrev pub IsPromptCall : Line → Type 0
-IsPromptCall (line.Call worker subspace code bytes polls hold) = (subspace ≡ 0) × (hold ≡ 0)
-IsPromptCall _ = ⊥
+abbrev pub serves_hold : Command → ℕ → ℕ → Bool
+serves_hold command.Step polls hold = nat_lt hold polls
+serves_hold _ polls hold = true
 
--- one Bank on subspace 0, and calls that are not held
-pub record IsPromptScript (s : Scenario) : Type 0 where
-  pub opens : s.opens ≡ record { id = 0; device = Bank } ∷ []
-  pub cpus : s.cpus ≡ []
-  pub caps : s.caps ≡ []
-  pub actions : AllByRecursion IsPromptCall s.actions
+-- `call` and `wait` lines; the command of a call of `step` isn't held for as many turns as it has polls
+abbrev pub is_built_line : Command → Line → Bool
+is_built_line c (line.Call worker subspace code bytes polls hold) = serves_hold c polls hold
+is_built_line c (line.Wait n) = true
+is_built_line c (line.Read worker cpu polls hold) = false
+is_built_line c (line.Set worker wish polls hold) = false
 
--- `weave` takes the letters of the script, and no other command has some
-abbrev pub HasPicks : Command → Option (List Letter) → Type 0
-HasPicks command.Weave (Some letters) = Unit {0}
-HasPicks command.Weave None = ⊥
-HasPicks _ (Some letters) = ⊥
-HasPicks _ None = Unit {0}
+-- Banks alone, and such lines
+abbrev pub is_built : Command → Scenario → Bool
+is_built c s = opens_banks s && list_all (is_built_line c) s.actions
 
--- the first structure of a table can be opened
-abbrev pub IsServedTable : Table → Type 0
-IsServedTable t = open_fault 0 t ≡ None
+-- ---- what a command can be used with
+
+abbrev pub is_wait : Line → Bool
+is_wait (line.Wait n) = true
+is_wait _ = false
+
+-- `weave` wants one subspace, which is a Bank, letters, and no `wait` line
+abbrev pub weave_fault : Scenario → Option UseFault
+weave_fault s =
+    if not (length s.opens == 1) then Some Many
+    else if not (list_all (λ o. is_bank o.device) s.opens) then Some Bank
+    else if is_none s.picks then Some Pick
+    else if list_any is_wait s.actions then Some Wait
+    else None
+
+-- `step` wants no letters
+abbrev pub use_fault : Command → Scenario → Option UseFault
+use_fault command.Step s = if is_some s.picks then Some Pick else None
+use_fault command.Weave s = weave_fault s
+use_fault command.Show s = None
+use_fault command.Build s = None

@@ -26,7 +26,9 @@ use Rattle.channel_plain.specs.TraceText.{trace_text}
 use Rattle.channel_plain.specs.Wholes.{IsWhole}
 use Rattle.channel_plain.specs.WordRuns.{WordRun}
 use Rattle.pcc_wiring.specs.Wirings.{wiring_with}
-use Rattle.pccrun_core.specs.Openings.{head_of}
+use Rattle.pcc_setup.specs.declared.opening.Opened.{Opened}
+use Rattle.pcc_setup.specs.Openings.{head_of}
+use Rattle.pcc_script.specs.declared.scenario.OpenLine.{OpenLine}
 
 -- ---- the calls and the picks
 
@@ -45,11 +47,13 @@ side_of letter.P = side.Platform
 abbrev pub AreReadings : Scenario → List ℕ → Type 0
 AreReadings s readings = (k : ℕ) → k < length readings → get_or readings k 0 ≡ line_reading s.start s.step 0 k
 
--- The text is a trace and its journal. The trace is a run of single words on the first structure, for the calls and the letters of the script,
+-- The text is a trace and its journal. The trace is a run of single words on the one opened structure, for the calls and the letters of the script,
 -- and it leaves these records and this command in flight. They are a legal and whole history and keep the limits.
 pub record IsWoven (s : Scenario) (t : Table) (text : List ℕ) : Type 0 where
+  pub open_line : OpenLine
+  pub opens : s.opens ≡ open_line ∷ []
   pub subspace : Subspace
-  pub first : slice_get t.subspaces 0 ≡ Some subspace
+  pub structure : slice_get t.subspaces open_line.id ≡ Some subspace
   pub letters : List Letter
   pub picks : s.picks ≡ Some letters
   pub trace : List TraceLine
@@ -57,10 +61,25 @@ pub record IsWoven (s : Scenario) (t : Table) (text : List ℕ) : Type 0 where
   pub records : List Record
   pub sent : Option Sent
   pub executed : List Exchange
-  pub run : WordRun bank_exec (wiring_with 0 t.flags subspace) (head_of 0 subspace).limits (0 ∷ replicate (head_of 0 subspace).room 0) (replicate (head_of 0 subspace).room 0)
+  pub run : WordRun bank_exec (wiring_with open_line.id t.flags subspace) (head_of open_line.id subspace).limits (0 ∷ replicate (head_of open_line.id subspace).room 0) (replicate (head_of open_line.id subspace).room 0)
       (map asked_by s.actions) (map side_of letters) trace readings records sent executed
   pub read : AreReadings s readings
-  pub legal : Legal bank_exec (head_of 0 subspace).reports (0 ∷ replicate (head_of 0 subspace).room 0) (exchanges_of records)
-  pub whole : IsWhole (replicate (head_of 0 subspace).room 0) (map asked_by s.actions) records
-  pub limits : WithinLimits (head_of 0 subspace).limits (times_of records) (post_of sent)
-  pub text_is : text ≡ trace_text trace ++ journal_text (head_of 0 subspace) records (command_in sent)
+  pub legal : Legal bank_exec (head_of open_line.id subspace).reports (0 ∷ replicate (head_of open_line.id subspace).room 0) (exchanges_of records)
+  pub whole : IsWhole (replicate (head_of open_line.id subspace).room 0) (map asked_by s.actions) records
+  pub limits : WithinLimits (head_of open_line.id subspace).limits (times_of records) (post_of sent)
+  pub text_is : text ≡ trace_text trace ++ journal_text (head_of open_line.id subspace) records (command_in sent)
+
+-- ---- what is woven
+
+abbrev pub IsCall : Line → Type 0
+IsCall (line.Call worker subspace code bytes polls hold) = Unit {0}
+IsCall _ = ⊥
+
+-- a script opens this subspace alone
+pub record IsOpenedAlone (s : Scenario) (t : Table) (o : Opened) : Type 0 where
+  pub open_line : OpenLine
+  pub opens : s.opens ≡ open_line ∷ []
+  pub subspace : Subspace
+  pub structure : slice_get t.subspaces open_line.id ≡ Some subspace
+  pub head : o.head ≡ head_of open_line.id subspace
+  pub wiring : o.wiring ≡ wiring_with open_line.id t.flags subspace

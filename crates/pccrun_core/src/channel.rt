@@ -5,13 +5,14 @@ ghost use Rattle.pcc_history.specs.Channel.{both, object_after, over};
 ghost use Rattle.rate_limit.specs.RateLimits.{earliest_of};
 ghost use Rattle.pcc_exec.specs.Execution.{is_bad};
 ghost use Rattle.pccrun_core.specs.ReplyText.{IsPlaced};
-ghost use Rattle.pccrun_core.specs.StepRun.{is_bad_code};
-ghost use Rattle.pccrun_core.specs.BankChannels.{IsAnswered, new_bank};
+ghost use Rattle.pccrun_core.specs.StepRun.{is_bad_code, pending_of};
+ghost use Rattle.std.specs.Option.{option_copied};
+ghost use Rattle.pccrun_core.specs.BankChannels.{IsAnswered, new_bank, waited_bank};
 
 use crate::reply::Outcome;
 use pcc_exec::{Bank, ExecStatus};
 use pcc_io::{Bytes, Clock, LineClock, NoMemory};
-use pcc_journal::{Journal, JournalHead, Record, ReserveRefusal};
+use pcc_journal::{Journal, JournalHead, Pending, Record, ReserveRefusal};
 use pcc_steps::whole_call;
 use rate_limit::{Limits, Times, earliest};
 use std::alloc::Global;
@@ -117,6 +118,36 @@ impl BankChannel {
         })
     }
 
+    /// The ID of its subspace.
+    pub fn id(&self) -> u8
+        ensures { result ≡ self.now.head.id }
+    {
+        self.head.id
+    }
+
+    /// The head of its journal.
+    pub fn head(&self) -> &JournalHead
+        ensures { result.now ≡ self.now.head }
+    {
+        &self.head
+    }
+
+    /// The command in flight: none, since each is executed in its call.
+    pub fn pending(&self) -> Option<&Pending>
+        ensures { option_copied result ≡ pending_of self.now.now.in_flight }
+    {
+        let _ = &self.head;
+        None
+    }
+
+    /// Moves its clock up by `n` microseconds.
+    pub fn wait(&mut self, n: u64)
+        requires { self.old.now.added + n < 2 ^ 128 }
+        ensures { self.new ≡ waited_bank n self.old }
+    {
+        self.clock.add(n);
+    }
+
     /// The records, the first one first.
     pub fn records(&self) -> &[Record]
         ensures { result.now ≡ self.now.now.records }
@@ -141,6 +172,7 @@ impl BankChannel {
             → IsAnswered self.old (record { caller = caller; code = code; bytes = bytes.now; polls = polls; hold = hold }) self.new outcome) }
         ensures placed { IfOk result (IsPlaced (length self.new.now.records)) }
         ensures readings { self.new.now.taken ≤ self.old.now.taken + 2 }
+        ensures added { self.new.now.added ≡ self.old.now.added }
         ensures head { self.new.head ≡ self.old.head }
         ensures err { OnErr result (self.new ≡ self.old) }
     {
@@ -170,6 +202,7 @@ impl BankChannel {
             → IsAnswered self.old (record { caller = caller; code = code; bytes = bytes.now; polls = polls; hold = hold }) self.new outcome) }
         ensures placed { IfOk result (IsPlaced (length self.new.now.records)) }
         ensures readings { self.new.now.taken ≤ self.old.now.taken + 2 }
+        ensures added { self.new.now.added ≡ self.old.now.added }
         ensures head { self.new.head ≡ self.old.head }
         ensures err { OnErr result (self.new ≡ self.old) }
     {

@@ -1,10 +1,9 @@
 //! The top call of the program: all that it does over a source and a sink that are handed in.
 #![tactic(auto)]
 
+mod banks;
 mod channel;
 mod command;
-mod opening;
-mod refusal;
 mod reply;
 mod script;
 mod served;

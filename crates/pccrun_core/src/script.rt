@@ -1,83 +1,81 @@
-//! A script with its table, as far as `step` and `weave` serve it.
-ghost use Rattle.std.specs.Prelude.{◌≤◌, ◌↔◌, IsTrue, length, IfOk, MatchResult};
+//! A script with what it opens, as far as `step` and `weave` serve it.
+ghost use Rattle.std.specs.Prelude.{◌≡◌, IfOk, MatchResult};
 ghost use Rattle.pcc_script.specs.Limits.{IsWithin};
-ghost use Rattle.pccrun_core.specs.Answers.{IsServedScript, input_limit};
-ghost use Rattle.pccrun_core.specs.Refusals.{IsRefusedFor, IsScript, ScriptRefused};
-ghost use Rattle.pcct_table.specs.declared.subspace.Subspace.{Subspace};
-ghost use Rattle.pccrun_core.specs.Openings.{IsOpened};
-ghost use Rattle.pccrun_core.specs.SetUp.{HasPicks, IsPromptScript};
+ghost use Rattle.pcct_table.specs.declared.table.Table.{Table};
+ghost use Rattle.pcc_setup.specs.Openings.{opened_by};
+ghost use Rattle.pcc_setup.specs.RefusalText.{IsRefusedFor};
+ghost use Rattle.pcc_setup.specs.SetUps.{IsSetUp};
+ghost use Rattle.pccrun_core.specs.Answers.{IsServedScript, ServedBy};
+ghost use Rattle.pccrun_core.specs.Refusals.{IsScript, NotServed, ScriptRefused};
 
 use crate::command::Command;
-use crate::opening::{Opened, open_structure};
-use crate::refusal::{CommandError, Refusal};
-use crate::served::is_prompt_script;
-use crate::tables::whole_table;
+use crate::served::{is_built, use_fault};
 use pcc_script::{Scenario, ScriptError, scenario_from, within_limits};
-use pcct_table::Table;
+use pcc_setup::{InputError, OpenedList, Refusal, SetUp, checked_set_up};
 use std::alloc::Global;
 
-/// The ID of the subspace that a served script opens.
-const FIRST: u8 = 0;
-
-/// A script that is served, its table, and the subspace that it opens, the table's first.
+/// A script that is served, and what it opens.
 #[derive(Drop)]
 pub struct Served {
     pub scenario: Scenario,
-    pub table: Table,
-    pub opened: Opened,
+    pub opened: OpenedList,
 }
 
-// Whether a script has letters exactly where the command takes them.
-fn has_picks(command: Command, scenario: &Scenario) -> bool
-    ensures { IsTrue result ↔ HasPicks command scenario.now.picks }
-{
-    match command {
-        Command::Weave => scenario.picks.is_some(),
-        _ => scenario.picks.is_none(),
-    }
-}
-
-// Whether the command serves a script as far as its table allows.
-fn serves(command: Command, scenario: &Scenario) -> bool
-    ensures { IsTrue result ↔ (IsPromptScript scenario.now × HasPicks command scenario.now.picks) }
-{
-    is_prompt_script(scenario) && has_picks(command, scenario)
-}
-
-// The scenario that a text spells, where the command serves it as far as its table allows.
-fn script_of(alloc: Global, command: Command, text: &[u8]) -> Result<Scenario, CommandError>
-    requires { length text.now ≤ input_limit }
+// The scenario that a text spells, where all that it asks of the command is built.
+fn script_of(alloc: Global, command: Command, text: &[u8]) -> Result<Scenario, InputError>
     ensures { MatchResult result (λ s. IsScript command text.now s × IsWithin s) (IsRefusedFor (ScriptRefused command text.now)) }
 {
     within_limits();
     match scenario_from(alloc, text) {
         Ok(scenario) => {
-            if serves(command, &scenario) {
+            if is_built(command, &scenario) {
                 Ok(scenario)
             } else {
-                Err(CommandError::Refused(Refusal::Unbuilt))
+                Err(InputError::Refused(Refusal::Unbuilt))
             }
         }
-        Err(ScriptError::NoMemory) => Err(CommandError::NoMemory),
-        Err(ScriptError::Fault { .. }) => Err(CommandError::Refused(Refusal::Unbuilt)),
+        Err(ScriptError::NoMemory) => Err(InputError::NoMemory),
+        Err(ScriptError::Fault { line, kind }) => {
+            Err(InputError::Refused(Refusal::Script { line, kind }))
+        }
+    }
+}
+
+// What a script that passes the checks of its set-up opens, where the command can be used with it.
+#[tactic(auto, using(crate::proofs::Refused::used_by, crate::proofs::Refused::not_used))]
+fn used(command: Command, scenario: &Scenario, set_up: SetUp) -> Result<OpenedList, InputError>
+    requires { (t : Table) × IsSetUp scenario.now t × (set_up.opened ≡ opened_by t scenario.now.opens) }
+    ensures { MatchResult result (λ os. (t : Table) × ServedBy command scenario.now t × (os ≡ opened_by t scenario.now.opens)) (IsRefusedFor (NotServed command scenario.now)) }
+{
+    match use_fault(command, scenario) {
+        Some(fault) => Err(InputError::Refused(Refusal::Use(fault))),
+        None => Ok(set_up.opened),
+    }
+}
+
+// What a script opens, where the command can be used with it.
+#[tactic(auto, using(crate::proofs::Refused::not_set_up))]
+fn opened(alloc: Global, command: Command, scenario: &Scenario) -> Result<OpenedList, InputError>
+    requires { IsWithin scenario.now }
+    ensures { MatchResult result (λ os. (t : Table) × ServedBy command scenario.now t × (os ≡ opened_by t scenario.now.opens)) (IsRefusedFor (NotServed command scenario.now)) }
+{
+    match checked_set_up(alloc, scenario) {
+        Ok(set_up) => used(command, scenario, set_up),
+        Err(error) => Err(error),
     }
 }
 
 /// The script that a text spells, where the command serves it.
-pub fn served_script(alloc: Global, command: Command, text: &[u8]) -> Result<Served, CommandError>
-    requires { length text.now ≤ input_limit }
-    ensures script { MatchResult result (λ x. IsServedScript command text.now x.scenario x.table) (IsRefusedFor (ScriptRefused command text.now)) }
-    ensures opened { IfOk result (λ x. (s : Subspace) × IsOpened 0 x.table s x.opened) }
+#[tactic(auto, using(crate::proofs::Refused::not_served, crate::proofs::Refused::is_served))]
+pub fn served_script(alloc: Global, command: Command, text: &[u8]) -> Result<Served, InputError>
+    ensures script { MatchResult result (λ x. (t : Table) × IsServedScript command text.now x.scenario t × (x.opened ≡ opened_by t x.scenario.opens)) (IsRefusedFor (ScriptRefused command text.now)) }
     ensures within { IfOk result (λ x. IsWithin x.scenario) }
 {
-    let scenario = script_of(alloc, command, text)?;
-    let table = whole_table(alloc, scenario.table.as_slice())?;
-    match open_structure(&table, FIRST) {
-        Ok(opened) => Ok(Served {
-            scenario,
-            table,
-            opened,
-        }),
-        Err(fault) => Err(CommandError::Refused(Refusal::Open { id: FIRST, fault })),
+    match script_of(alloc, command, text) {
+        Ok(scenario) => match opened(alloc, command, &scenario) {
+            Ok(opened) => Ok(Served { scenario, opened }),
+            Err(error) => Err(error),
+        },
+        Err(error) => Err(error),
     }
 }

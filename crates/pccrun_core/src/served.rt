@@ -1,45 +1,88 @@
-//! Whether a script is one that the program serves so far.
-ghost use Rattle.std.specs.Prelude.{◌≡◌, ◌↔◌, ◌∷◌, [], IsTrue};
-ghost use Rattle.std.specs.List.{AllByRecursion};
-ghost use Rattle.pccrun_core.specs.SetUp.{IsPromptCall, IsPromptScript};
+//! Whether a script is one that a command serves so far, and can be used with.
+ghost use Rattle.std.specs.Prelude.{◌≡◌, Some, None};
+ghost use Rattle.std.specs.List.{list_all, list_any};
+ghost use Rattle.pcc_setup.specs.SetUps.{is_bank};
+ghost use Rattle.pccrun_core.specs.SetUp.{is_built, is_built_line, is_wait, serves_hold, use_fault, weave_fault};
 
-use pcc_script::{Actions, Device, Line, Opens, Scenario};
+use crate::command::Command;
+use pcc_script::{Line, Scenario};
+use pcc_setup::{UseFault, are_banks, opens_banks};
 
-// Whether one Bank is opened, on subspace 0.
-fn opens_one_bank(opens: &Opens) -> bool
-    ensures { IsTrue result ↔ (opens.now ≡ record { id = 0; device = Device.Bank } ∷ []) }
+fn serves_hold(command: Command, polls: u32, hold: u32) -> bool
+    ensures { result ≡ serves_hold command polls hold }
 {
-    opens.len() == 1 && opens.at(0).id == 0 && matches!(opens.at(0).device, Device::Bank)
+    match command {
+        Command::Step => hold < polls,
+        Command::Weave | Command::Show | Command::Build => true,
+    }
 }
 
-fn is_prompt_call(action: &Line) -> bool
-    ensures { IsTrue result ↔ IsPromptCall action.now }
+fn is_built_line(command: Command, action: &Line) -> bool
+    ensures { result ≡ is_built_line command action.now }
 {
     match action {
-        Line::Call { subspace, hold, .. } => *subspace == 0 && *hold == 0,
-        _ => false,
+        Line::Call { polls, hold, .. } => serves_hold(command, *polls, *hold),
+        Line::Wait { .. } => true,
+        Line::Read { .. } | Line::Set { .. } => false,
     }
 }
 
-// Whether each action is a call that isn't held.
-#[tactic(auto, using(crate::proofs::Actions::prompt_start, crate::proofs::Actions::prompt_more, crate::proofs::Actions::prompt_stop, crate::proofs::Actions::prompt_end))]
-fn are_prompt_calls(actions: &Actions) -> bool
-    ensures { IsTrue result ↔ AllByRecursion IsPromptCall actions.now }
+fn are_built(command: Command, actions: &[Line]) -> bool
+    ensures { result ≡ list_all (is_built_line command) actions.now }
 {
-    for i in 0..actions.len() {
-        if !is_prompt_call(actions.at(i)) {
-            return false;
+    actions.iter().all(|action| is_built_line(command, action))
+}
+
+/// Whether all that a script asks of a command is built.
+pub fn is_built(command: Command, scenario: &Scenario) -> bool
+    ensures { result ≡ is_built command scenario.now }
+{
+    opens_banks(scenario) && are_built(command, scenario.actions.as_slice())
+}
+
+fn is_wait(action: &Line) -> bool
+    ensures { result ≡ is_wait action.now }
+{
+    matches!(action, Line::Wait { .. })
+}
+
+fn have_wait(actions: &[Line]) -> bool
+    ensures { result ≡ list_any is_wait actions.now }
+{
+    actions.iter().any(|action| is_wait(action))
+}
+
+fn weave_fault(scenario: &Scenario) -> Option<UseFault>
+    ensures { result ≡ weave_fault scenario.now }
+{
+    if scenario.opens.len() != 1 {
+        return Some(UseFault::Many);
+    }
+    if !are_banks(scenario.opens.as_slice()) {
+        return Some(UseFault::Bank);
+    }
+    if scenario.picks.is_none() {
+        return Some(UseFault::Pick);
+    }
+    if have_wait(scenario.actions.as_slice()) {
+        return Some(UseFault::Wait);
+    }
+    None
+}
+
+/// Why a command can't be used with a script, if it can't.
+pub fn use_fault(command: Command, scenario: &Scenario) -> Option<UseFault>
+    ensures { result ≡ use_fault command scenario.now }
+{
+    match command {
+        Command::Step => {
+            if scenario.picks.is_some() {
+                Some(UseFault::Pick)
+            } else {
+                None
+            }
         }
+        Command::Weave => weave_fault(scenario),
+        Command::Show | Command::Build => None,
     }
-    true
-}
-
-/// Whether a script opens one Bank on subspace 0, and calls it with commands that are not held.
-pub fn is_prompt_script(scenario: &Scenario) -> bool
-    ensures { IsTrue result ↔ IsPromptScript scenario.now }
-{
-    opens_one_bank(&scenario.opens)
-        && scenario.cpus.len() == 0
-        && scenario.caps.len() == 0
-        && are_prompt_calls(&scenario.actions)
 }

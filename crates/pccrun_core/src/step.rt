@@ -1,109 +1,132 @@
 //! The command `step`: the lines of a script are run in one thread, and their replies and the journals are printed.
-ghost use Rattle.std.specs.Prelude.{◌≡◌, ◌≤◌, ◌<◌, ◌++◌, ◌+◌, ◌^◌, [], ◌∷◌, Some, length, slice_get, IfOk, MatchResult, OnOk};
-ghost use Rattle.std.specs.List.{AllByRecursion};
+ghost use Rattle.std.specs.Prelude.{◌≡◌, ◌≤◌, ◌<◌, ◌++◌, ◌+◌, ◌^◌, [], ◌∷◌, ℕ, true, length, map, IfOk, MatchResult, OnOk};
+ghost use Rattle.std.specs.List.{AllByRecursion, flat_map, list_all};
 ghost use Rattle.pcc_script.specs.Limits.{IsAction, IsWithin};
-ghost use Rattle.pcct_table.specs.declared.subspace.Subspace.{Subspace};
 ghost use Rattle.pcct_table.specs.declared.table.Table.{Table};
-ghost use Rattle.pccrun_core.specs.Answers.{Makes, input_limit};
-ghost use Rattle.pccrun_core.specs.BankChannels.{channel_of};
+ghost use Rattle.pcc_setup.specs.Openings.{opened_by};
+ghost use Rattle.pcc_setup.specs.RefusalText.{IsRefusedFor};
+ghost use Rattle.pccrun_core.specs.Answers.{Makes};
+ghost use Rattle.pccrun_core.specs.BankChannels.{AreDistinct, IsEarly, IsOnOneOf, channel_of, ids_of};
 ghost use Rattle.pccrun_core.specs.ReplyText.{replies_text};
 ghost use Rattle.pccrun_core.specs.StepRun.{step_run, turn_of};
-ghost use Rattle.pccrun_core.specs.Refusals.{IsRefusedFor, Refuses};
-ghost use Rattle.pccrun_core.specs.SetUp.{IsPromptCall, IsPromptScript, step_text};
-ghost use Rattle.pccrun_core.specs.Openings.{head_of};
+ghost use Rattle.pccrun_core.specs.Refusals.{Refuses};
+ghost use Rattle.pccrun_core.specs.SetUp.{channel_journal, is_built, is_built_line, step_text};
+ghost use Rattle.pcc_setup.specs.SetUps.{IsSetUp};
+ghost use Rattle.pccrun_core.specs.declared.command.Command.TheVariants as command;
 
+use crate::banks::{open_banks, place_of, wait_all};
 use crate::channel::BankChannel;
 use crate::command::Command;
-use crate::refusal::CommandError;
 use crate::reply::put_reply;
 use crate::script::served_script;
 use pcc_io::NoMemory;
-use pcc_journal::{JournalHead, put_journal};
+use pcc_journal::put_journal;
 use pcc_script::{Actions, Line, Scenario};
+use pcc_setup::{InputError, OpenedList, first_action};
 use std::alloc::Global;
 
-/// The line of the first action in a served script, behind a `table`, a `clock` and an `open` line.
-const FIRST_ACTION: u64 = 4;
-
 // Runs a line, and puts its reply at the end.
-#[tactic(auto, using(crate::proofs::Steps::turn_is))]
+#[tactic(auto, using(crate::proofs::BankLists::wait_fits))]
 fn run_line(
     alloc: Global,
     out: &mut Vec<u8>,
-    bank: &mut BankChannel,
+    banks: &mut Vec<BankChannel>,
     line: u64,
     action: &Line,
 ) -> Result<(), NoMemory>
     requires within { IsAction action.now }
-    requires served { IsPromptCall action.now }
-    requires first { bank.old.head.id ≡ 0 }
-    requires early { bank.old.now.taken < 2 ^ 63 }
-    ensures reply { OnOk result (let t = turn_of action.now (channel_of bank.old ∷ []) in out.new.items ≡ out.old.items ++ replies_text line (t.reply ∷ [])) }
-    ensures bank { OnOk result (let t = turn_of action.now (channel_of bank.old ∷ []) in t.channels ≡ channel_of bank.new ∷ []) }
-    ensures readings { bank.new.now.taken ≤ bank.old.now.taken + 2 }
-    ensures head { bank.new.head ≡ bank.old.head }
+    requires served { is_built_line command.Step action.now ≡ true }
+    requires named { IsOnOneOf (ids_of banks.old.items) action.now }
+    requires distinct { AreDistinct (ids_of banks.old.items) }
+    requires early { AllByRecursion (IsEarly 65536) banks.old.items }
+    ensures reply { OnOk result (let t = turn_of action.now (map channel_of banks.old.items) in out.new.items ≡ out.old.items ++ replies_text line (t.reply ∷ [])) }
+    ensures banks { OnOk result (let t = turn_of action.now (map channel_of banks.old.items) in t.channels ≡ map channel_of banks.new.items) }
+    ensures heads { OnOk result (map (λ b. b.head) banks.new.items ≡ map (λ b. b.head) banks.old.items) }
+    ensures readings { (count : ℕ) → AllByRecursion (IsEarly count) banks.old.items → AllByRecursion (IsEarly (count + 1)) banks.new.items }
 {
     match action {
         Line::Call {
             worker,
+            subspace,
             code,
             bytes,
             ..
         } => {
-            let outcome = bank.call(alloc, *worker, *code, bytes.as_slice())?;
-            put_reply(out, line, outcome, bank.records())
+            let place = place_of(banks, *subspace);
+            let outcome = banks[place].call(alloc, *worker, *code, bytes.as_slice())?;
+            put_reply(out, line, outcome, banks[place].records())
+        }
+        Line::Wait { n } => {
+            wait_all(banks, *n);
+            Ok(())
         }
         _ => unreachable!(),
     }
 }
 
 // Runs lines from a number on, and puts their replies at the end.
-#[tactic(auto, using(crate::proofs::Steps::going_start, crate::proofs::Steps::going_more, crate::proofs::Steps::going_end))]
+#[tactic(auto, using(crate::proofs::Steps::going_start, crate::proofs::Steps::going_more, crate::proofs::Steps::going_end, crate::proofs::BankLists::named_still, crate::proofs::BankLists::distinct_still, crate::proofs::BankLists::early_still))]
 fn run_lines(
     alloc: Global,
     out: &mut Vec<u8>,
-    bank: &mut BankChannel,
+    banks: &mut Vec<BankChannel>,
     first: u64,
     actions: &Actions,
 ) -> Result<(), NoMemory>
     requires within { AllByRecursion IsAction actions.now }
     requires few { length actions.now ≤ 65536 }
-    requires low { first < 2 ^ 32 }
-    requires served { AllByRecursion IsPromptCall actions.now }
-    requires id { bank.old.head.id ≡ 0 }
-    requires early { bank.old.now.taken ≡ 0 }
-    ensures replies { OnOk result (let r = step_run actions.now (channel_of bank.old ∷ []) in out.new.items ≡ out.old.items ++ replies_text first r.replies) }
-    ensures bank { OnOk result (let r = step_run actions.now (channel_of bank.old ∷ []) in r.channels ≡ channel_of bank.new ∷ []) }
-    ensures head { bank.new.head ≡ bank.old.head }
+    requires low { first < 2 ^ 33 }
+    requires served { list_all (is_built_line command.Step) actions.now ≡ true }
+    requires named { AllByRecursion (IsOnOneOf (ids_of banks.old.items)) actions.now }
+    requires distinct { AreDistinct (ids_of banks.old.items) }
+    requires early { AllByRecursion (IsEarly 0) banks.old.items }
+    ensures replies { OnOk result (let r = step_run actions.now (map channel_of banks.old.items) in out.new.items ≡ out.old.items ++ replies_text first r.replies) }
+    ensures banks { OnOk result (let r = step_run actions.now (map channel_of banks.old.items) in r.channels ≡ map channel_of banks.new.items) }
 {
     for i in 0..actions.len() {
-        run_line(alloc, out, bank, first + i as u64, actions.at(i))?;
+        run_line(alloc, out, banks, first + i as u64, actions.at(i))?;
     }
     Ok(())
 }
 
-// The text of `step` for a served script that opens the subspace of this head.
-#[tactic(auto, unfolding(crate::specs::SetUp::step_text))]
-fn run_text(alloc: Global, scenario: &Scenario, head: &JournalHead) -> Result<Vec<u8>, NoMemory>
+// Puts the journals at the end, in the order of the lines that opened them.
+fn put_journals(out: &mut Vec<u8>, banks: &[BankChannel]) -> Result<(), NoMemory>
+    ensures { OnOk result (out.new.items ≡ out.old.items ++ flat_map channel_journal (map channel_of banks.now)) }
+{
+    for place in 0..banks.len() {
+        let bank = &banks[place];
+        put_journal(out, bank.head(), bank.records(), bank.pending())?;
+    }
+    Ok(())
+}
+
+// The text of `step` for a served script.
+#[tactic(auto, unfolding(crate::specs::SetUp::step_text), using(crate::proofs::Serving::banks_named, crate::proofs::Serving::banks_distinct, crate::proofs::Serving::banks_early, crate::proofs::Serving::lines_few, crate::proofs::Serving::built_lines))]
+fn run_text(alloc: Global, scenario: &Scenario, opened: &OpenedList) -> Result<Vec<u8>, NoMemory>
     requires within { IsWithin scenario.now }
-    requires prompt { IsPromptScript scenario.now }
-    requires first { head.now.id ≡ 0 }
-    ensures { IfOk result (λ v. (t : Table) (s : Subspace) → slice_get t.subspaces 0 ≡ Some s → head.now ≡ head_of 0 s → v.items ≡ step_text scenario.now t) }
+    requires built { is_built command.Step scenario.now ≡ true }
+    requires set_up { (t : Table) × IsSetUp scenario.now t × (opened.now ≡ opened_by t scenario.now.opens) }
+    ensures { IfOk result (λ v. (t : Table) → opened.now ≡ opened_by t scenario.now.opens → v.items ≡ step_text scenario.now t) }
 {
     let mut out = Vec::new(alloc);
-    let mut bank = BankChannel::new(alloc, *head, scenario.start, scenario.step)?;
-    run_lines(alloc, &mut out, &mut bank, FIRST_ACTION, &scenario.actions)?;
-    put_journal(&mut out, head, bank.records(), None)?;
+    let mut banks = open_banks(alloc, scenario, opened)?;
+    run_lines(
+        alloc,
+        &mut out,
+        &mut banks,
+        first_action(scenario) as u64,
+        &scenario.actions,
+    )?;
+    put_journals(&mut out, &banks)?;
     Ok(out)
 }
 
-/// The replies and the journal of the script that a text spells.
-pub fn step(alloc: Global, text: &[u8]) -> Result<Vec<u8>, CommandError>
-    requires { length text.now ≤ input_limit }
+/// The replies and the journals of the script that a text spells.
+pub fn step(alloc: Global, text: &[u8]) -> Result<Vec<u8>, InputError>
     ensures { MatchResult result (λ v. Makes Command.Step text.now v.items) (IsRefusedFor (Refuses Command.Step text.now)) }
 {
     match served_script(alloc, Command::Step, text) {
-        Ok(served) => Ok(run_text(alloc, &served.scenario, &served.opened.head)?),
+        Ok(served) => Ok(run_text(alloc, &served.scenario, &served.opened)?),
         Err(error) => Err(error),
     }
 }

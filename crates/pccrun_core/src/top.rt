@@ -4,17 +4,18 @@ ghost use Rattle.std.specs.String.{string_bytes};
 ghost use Rattle.std.specs.Io.KnownBytes.{Appends, Keeps};
 ghost use Rattle.pcc_causes.specs.Causes.{AppendsPrefix, Rose};
 ghost use Rattle.pccrun_core.specs.Answers.{Answers, AsksFor, IsServedInput, Makes, input_limit};
-ghost use Rattle.pccrun_core.specs.Refusals.{HasLine, IsRefusedFor, Refuses, refused_line};
+ghost use Rattle.pcc_setup.specs.RefusalText.{HasLine, IsRefusedFor, refused_line};
+ghost use Rattle.pccrun_core.specs.Refusals.{Refuses};
 ghost use Rattle.pccrun_core.specs.Statuses.{code_of};
 ghost use Rattle.pccrun_core.specs.declared.command.Command.{Command};
 ghost use Rattle.pccrun_core.specs.declared.top.Stop.TheVariants.{NoMemory as OutOfMemory};
 
 use crate::command::{Command, command_of, usage};
-use crate::refusal::{CommandError, Refusal, refused_line};
 use crate::step::step;
 use crate::tables::{build, show};
 use crate::weave::weave;
 use pcc_io::{NoMemory, ReadEnd, Sink, Source, WriteFault, read_to_end, write_whole};
+use pcc_setup::{InputError, Refusal, refused_line};
 use std::alloc::Global;
 
 /// How many bytes of input are read at most.
@@ -68,7 +69,7 @@ fn copy_of(alloc: Global, text: &[u8]) -> Result<Vec<u8>, NoMemory>
 }
 
 // What a command makes of its whole input.
-fn made(alloc: Global, command: Command, input: &[u8]) -> Result<Vec<u8>, CommandError>
+fn made(alloc: Global, command: Command, input: &[u8]) -> Result<Vec<u8>, InputError>
     requires { length input.now ≤ input_limit }
     ensures { MatchResult result (λ v. Makes command input.now v.items) (IsRefusedFor (Refuses command input.now)) }
 {
@@ -105,8 +106,8 @@ fn answer_to<S: Source>(alloc: Global, words: &[String], source: &mut S) -> Resu
             status: Status::Done,
             text,
         }),
-        Err(CommandError::Refused(refusal)) => refused(alloc, refusal),
-        Err(CommandError::NoMemory) => Err(Stop::NoMemory),
+        Err(InputError::Refused(refusal)) => refused(alloc, refusal),
+        Err(InputError::NoMemory) => Err(Stop::NoMemory),
     }
 }
 

@@ -2,29 +2,28 @@
 ghost use Rattle.std.specs.Prelude.{◌≡◌, Some, IfOk, MatchResult, map, length, ◌≤◌};
 ghost use Rattle.std.specs.List.{AllByRecursion};
 ghost use Rattle.pcc_script.specs.Limits.{IsWithin};
-ghost use Rattle.pccrun_core.specs.Answers.{Makes, input_limit};
-ghost use Rattle.pccrun_core.specs.Refusals.{IsRefusedFor, Refuses};
-ghost use Rattle.pccrun_core.specs.SetUp.{IsPromptCall, IsPromptScript};
-ghost use Rattle.pccrun_core.specs.Openings.{IsOpened};
-ghost use Rattle.pcct_table.specs.declared.subspace.Subspace.{Subspace};
-ghost use Rattle.pccrun_core.specs.Weaving.{IsWoven, asked_by, side_of};
+ghost use Rattle.pccrun_core.specs.Answers.{Makes};
+ghost use Rattle.pcc_setup.specs.RefusalText.{IsRefusedFor};
+ghost use Rattle.pccrun_core.specs.Refusals.{Refuses};
+ghost use Rattle.pcct_table.specs.declared.table.Table.{Table};
+ghost use Rattle.pcc_steps.specs.Wires.{IsRight};
+ghost use Rattle.pccrun_core.specs.Weaving.{IsCall, IsOpenedAlone, IsWoven, asked_by, side_of};
 
 use crate::command::Command;
-use crate::opening::Opened;
-use crate::refusal::CommandError;
 use crate::script::{Served, served_script};
 use channel_plain::{Asked, Plain, Side, weave_lines};
 use pcc_exec::Bank;
 use pcc_io::{Bytes, LineClock, NoMemory};
 use pcc_journal::put_journal;
 use pcc_script::{Actions, Letter, Line, Picks, Scenario};
-use pcct_table::Table;
+use pcc_setup::{InputError, Opened};
+use pcc_wiring::right_wirings;
 use std::alloc::Global;
 
 // The calls of the lines.
 #[tactic(auto, using(crate::proofs::Weaves::mapped_more, crate::proofs::Weaves::mapped_all))]
 fn calls_of(alloc: Global, actions: &Actions) -> Result<Vec<Asked>, NoMemory>
-    requires { AllByRecursion IsPromptCall actions.now }
+    requires { AllByRecursion IsCall actions.now }
     ensures { IfOk result (λ v. v.items ≡ map asked_by actions.now) }
 {
     let mut calls = Vec::new(alloc);
@@ -35,7 +34,7 @@ fn calls_of(alloc: Global, actions: &Actions) -> Result<Vec<Asked>, NoMemory>
 }
 
 fn call_of(alloc: Global, action: &Line) -> Result<Asked, NoMemory>
-    requires { IsPromptCall action.now }
+    requires { IsCall action.now }
     ensures { IfOk result (λ c. c ≡ asked_by action.now) }
 {
     match action {
@@ -76,19 +75,18 @@ fn sides_of(alloc: Global, picks: &Picks) -> Result<Vec<Side>, NoMemory>
     Ok(sides)
 }
 
-// The trace and the journal of a served script, whose table's first structure is opened so.
+// The trace and the journal of a served script, which opens this subspace alone.
 fn woven_text(
     alloc: Global,
     scenario: &Scenario,
     picks: &Picks,
-    table: &Table,
     opened: &Opened,
 ) -> Result<Vec<u8>, NoMemory>
     requires within { IsWithin scenario.now }
-    requires prompt { IsPromptScript scenario.now }
+    requires calls { AllByRecursion IsCall scenario.now.actions }
     requires picks { scenario.now.picks ≡ Some picks.now }
-    requires opened { (s : Subspace) × IsOpened 0 table.now s opened.now }
-    ensures { IfOk result (λ v. IsWoven scenario.now table.now v.items) }
+    requires right { IsRight opened.now.wiring }
+    ensures { IfOk result (λ v. (t : Table) → IsOpenedAlone scenario.now t opened.now → IsWoven scenario.now t v.items) }
 {
     let calls = calls_of(alloc, &scenario.actions)?;
     let sides = sides_of(alloc, picks)?;
@@ -111,17 +109,15 @@ fn woven_text(
 }
 
 /// The trace and the journal of the script that a text spells.
-pub fn weave(alloc: Global, text: &[u8]) -> Result<Vec<u8>, CommandError>
-    requires { length text.now ≤ input_limit }
+pub fn weave(alloc: Global, text: &[u8]) -> Result<Vec<u8>, InputError>
     ensures { MatchResult result (λ v. Makes Command.Weave text.now v.items) (IsRefusedFor (Refuses Command.Weave text.now)) }
 {
-    let Served {
-        scenario,
-        table,
-        opened,
-    } = served_script(alloc, Command::Weave, text)?;
-    match &scenario.picks {
-        Some(picks) => Ok(woven_text(alloc, &scenario, picks, &table, &opened)?),
-        None => unreachable!(),
+    right_wirings();
+    match served_script(alloc, Command::Weave, text) {
+        Ok(Served { scenario, opened }) => match &scenario.picks {
+            Some(picks) => Ok(woven_text(alloc, &scenario, picks, opened.at(0))?),
+            None => unreachable!(),
+        },
+        Err(error) => Err(error),
     }
 }

@@ -3,5 +3,4 @@ use Rattle.pccrun_core.proofs.step.step.Goals as goal
 
 pub returns-in_ok-run_text-in-Ok : goal.returns-in_ok-run_text-in-Ok
 returns-in_ok-run_text-in-Ok c =
-    stepped c.args.text.now c.in-Ok.served.scenario c.in-Ok.served.table c.in-Ok.ensures.opened.0 c.in_ok-run_text-in-Ok.field-0.items
-    c.in-Ok.ensures.script c.in-Ok.ensures.opened.1.structure (c.in_ok-run_text-in-Ok.ensures c.in-Ok.served.table c.in-Ok.ensures.opened.0 c.in-Ok.ensures.opened.1.structure c.in-Ok.ensures.opened.1.head)
+    stepped c.args.text.now c.in-Ok.served.scenario c.in-Ok.served.opened c.in_ok-run_text-in-Ok.field-0.items c.in-Ok.ensures.script c.in_ok-run_text-in-Ok.ensures

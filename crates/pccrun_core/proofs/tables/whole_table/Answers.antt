@@ -1,9 +1,0 @@
-use Rattle.std.proofs.Common.{rules}
-use Rattle.pccrun_core.proofs.Refused.{followed, wrong}
-use Rattle.pccrun_core.proofs.tables.whole_table.Goals as goal
-
-pub returns-then-len-bytes : goal.returns-then-len-bytes
-returns-then-len-bytes c = (followed c.args.bytes.now c.in-Ok.len c.in-Ok.table c.in-Ok.ensures.found.1 c.if-len-bytes.true, tt)
-
-pub returns-else-eq : goal.returns-else-eq
-returns-else-eq c = wrong c.args.bytes.now c.in-Err.fault c.in-Err.ensures.exact (search rules) (search rules)
