@@ -1,112 +1,136 @@
 use crate::{
     ActionFault, InputError, OpenFault, Refusal, SetUpError, UseFault, checked_set_up,
-    first_action, refused_line, set_up, whole_table,
+    first_action, opens_banks, refused_line, set_up, whole_table,
 };
 use pcc_io::Bytes;
-use pcc_script::{
-    Actions, CapLines, Device, Line, OpenLine, Opens, Packages, Scenario, ScriptKind,
-};
+use pcc_script::{ScriptKind, scenario_from, within_limits};
+use pcc_text::put_hex;
 use pcc_wiring::{Overlap, Role, WiringFault};
 use pcct_codec::{ONE_GENERIC_SUBSPACE, TableFault};
 use pcct_table::BuildKind;
 use std::alloc::Global;
 use std::test::Fail;
 
-// A script with this table that opens Banks with these IDs and calls one subspace.
-fn scenario(alloc: Global, table: &[u8], ids: &[u8], called: u32) -> Result<Scenario, Fail> {
-    let mut opens = Opens::new(alloc);
-    for id in ids {
-        opens.push(OpenLine {
-            id: *id,
-            device: Device::Bank,
-        })?;
-    }
-    let mut actions = Actions::new(alloc);
-    actions.push(Line::Call {
-        worker: 0,
-        subspace: called,
-        code: 17,
-        bytes: Bytes::new(alloc),
-        polls: 1,
-        hold: 0,
-    })?;
-    Ok(Scenario {
-        table: Bytes::from_vec(Vec::from_slice(alloc, table)?),
-        start: 0,
-        step: 10,
-        opens,
-        cpus: Packages::new(alloc),
-        caps: CapLines::new(alloc),
-        actions,
-        picks: None,
-    })
+// The text of a script with this table and these lines behind the clock's.
+fn script(alloc: Global, table: &[u8], lines: &[u8]) -> Result<Vec<u8>, Fail> {
+    let mut text = Vec::from_slice(alloc, b"table ")?;
+    put_hex(&mut text, table)?;
+    text.extend_from_slice(b"\nclock 0 10\n")?;
+    text.extend_from_slice(lines)?;
+    Ok(text)
 }
 
-fn refusal(alloc: Global, scenario: &Scenario) -> Option<InputError> {
-    match checked_set_up(alloc, scenario) {
-        Ok(_) => None,
-        Err(error) => Some(error),
+fn error_of(alloc: Global, text: &[u8]) -> Option<InputError> {
+    within_limits();
+    match scenario_from(alloc, text) {
+        Ok(scenario) => checked_set_up(alloc, &scenario).err(),
+        Err(_) => None,
+    }
+}
+
+fn opened_count(alloc: Global, text: &[u8]) -> Option<usize> {
+    within_limits();
+    match scenario_from(alloc, text) {
+        Ok(scenario) => match checked_set_up(alloc, &scenario) {
+            Ok(set_up) => Some(set_up.opened.len()),
+            Err(_) => None,
+        },
+        Err(_) => None,
+    }
+}
+
+fn first_action_of(alloc: Global, text: &[u8]) -> Option<u32> {
+    within_limits();
+    match scenario_from(alloc, text) {
+        Ok(scenario) => Some(first_action(&scenario)),
+        Err(_) => None,
+    }
+}
+
+fn line_told(alloc: Global, text: &[u8]) -> Option<Bytes> {
+    within_limits();
+    match scenario_from(alloc, text) {
+        Ok(scenario) => {
+            if opens_banks(&scenario) {
+                match set_up(alloc, &scenario) {
+                    Err(SetUpError::Refused { text }) => Some(text),
+                    _ => None,
+                }
+            } else {
+                None
+            }
+        }
+        Err(_) => None,
     }
 }
 
 #[test]
 fn one_subspace_is_opened(rt: HostRuntime) -> Result<(), Fail> {
     let alloc = rt.alloc();
-    let script = scenario(alloc, &ONE_GENERIC_SUBSPACE, &[0], 0)?;
-    assert_eq!(rt; first_action(&script), 4);
-    match set_up(alloc, &script) {
-        Ok(set_up) => {
-            assert_eq!(rt; set_up.opened.len(), 1);
-            let opened = set_up.opened.at(0);
-            assert_eq!(rt; opened.head.room, 16);
-            assert_eq!(rt; opened.head.reports, true);
-            assert_eq!(rt; opened.wiring.kind, 0);
-            assert_eq!(rt; opened.image.len(), 0);
-        }
-        Err(_) => assert!(rt; false),
-    }
+    let text = script(
+        alloc,
+        &ONE_GENERIC_SUBSPACE,
+        b"open 0 bank\ncall 0 0 17 - 1 0\n",
+    )?;
+    assert_eq!(rt; first_action_of(alloc, &text), Some(4));
+    assert_eq!(rt; opened_count(alloc, &text), Some(1));
     Ok(())
 }
 
 #[test]
 fn the_first_check_that_fails(rt: HostRuntime) -> Result<(), Fail> {
     let alloc = rt.alloc();
-    let twice = scenario(alloc, &ONE_GENERIC_SUBSPACE, &[0, 0], 3)?;
-    let none = scenario(alloc, &ONE_GENERIC_SUBSPACE, &[1, 0], 0)?;
-    let called = scenario(alloc, &ONE_GENERIC_SUBSPACE, &[0], 3)?;
-    let short = scenario(alloc, &ONE_GENERIC_SUBSPACE[..100], &[1], 3)?;
-    let rows = [
+    let rows: [(&[u8], &[u8], Refusal); 4] = [
         (
-            &twice,
+            &ONE_GENERIC_SUBSPACE,
+            b"open 0 bank\nopen 0 bank\ncall 0 3 17 - 1 0\n",
             Refusal::Open {
                 id: 0,
                 fault: OpenFault::OpenedTwice,
             },
         ),
         (
-            &none,
+            &ONE_GENERIC_SUBSPACE,
+            b"open 1 bank\nopen 0 bank\n",
             Refusal::Open {
                 id: 1,
                 fault: OpenFault::NoSubspace,
             },
         ),
         (
-            &called,
+            &ONE_GENERIC_SUBSPACE,
+            b"open 0 bank\ncall 0 3 17 - 1 0\n",
             Refusal::Action {
                 line: 4,
                 fault: ActionFault::NotBank,
             },
         ),
-        (&short, Refusal::Table(TableFault::Short { at: 100 })),
+        (
+            &ONE_GENERIC_SUBSPACE[..100],
+            b"open 1 bank\n",
+            Refusal::Table(TableFault::Short { at: 100 }),
+        ),
     ];
-    for (script, expected) in rows {
-        assert_eq!(rt; refusal(alloc, script), Some(InputError::Refused(expected)));
+    for (table, lines, expected) in rows {
+        let text = script(alloc, table, lines)?;
+        assert_eq!(rt; error_of(alloc, &text), Some(InputError::Refused(expected)));
     }
-    match set_up(alloc, &called) {
-        Err(SetUpError::Refused { text }) => {
-            assert_eq!(rt; text.as_slice(), b"refused line 4 not bank\n".as_slice());
+    Ok(())
+}
+
+#[test]
+fn a_set_up_tells_its_line(rt: HostRuntime) -> Result<(), Fail> {
+    let alloc = rt.alloc();
+    let text = script(
+        alloc,
+        &ONE_GENERIC_SUBSPACE,
+        b"open 0 bank\ncall 0 3 17 - 1 0\n",
+    )?;
+    match line_told(alloc, &text) {
+        Some(line) => {
+            assert_eq!(rt; line.as_slice(), b"refused line 4 not bank\n".as_slice());
         }
-        _ => assert!(rt; false),
+        None => assert!(rt; false),
     }
     Ok(())
 }
