@@ -14,3 +14,6 @@ pub use refusal::{InputError, Refusal, UseFault};
 pub use setup::{SetUp, SetUpError, checked_set_up, first_action, set_up};
 pub use table::whole_table;
 pub use text::refused_line;
+
+#[cfg(test)]
+mod tests;

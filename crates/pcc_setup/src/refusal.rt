@@ -44,7 +44,7 @@ pub enum Refusal {
     Meet(Overlap),
     /// The command can't be used with the script.
     Use(UseFault),
-    /// A script that no part of the program serves yet.
+    /// A script that asks the command for something that isn't built yet.
     Unbuilt,
 }
 

@@ -1,5 +1,5 @@
 -- Memories meet exactly where the later of both bases lies in both.
-use Rattle.std.proofs.Common.{◌≡◌, ◌↔◌, ◌<◌, ◌≤◌, ℕ, suc, max, nat_lt, IsTrue, refl, subst, arith}
+use Rattle.std.proofs.Common.{◌↔◌, ◌<◌, ℕ, max, arith}
 use Rattle.pcc_wiring.specs.Overlaps.{Meet, base_of, end_of}
 
 pub meet_is : (a b : ℕ × ℕ × ℕ) → ((max (base_of a) (base_of b) < end_of a) × (max (base_of a) (base_of b) < end_of b)) ↔ Meet a b

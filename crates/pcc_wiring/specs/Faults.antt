@@ -3,7 +3,7 @@ use Rattle.std.specs.Prelude.{◌≡◌, ℕ, ◌==◌, ◌&&◌, ◌||◌, not,
 use Rattle.pcc_gas.specs.declared.address.Gas.{Gas}
 use Rattle.pcc_steps.specs.declared.wiring.Wiring.{Wiring}
 use Rattle.pcct_table.specs.declared.subspace.Subspace.{Subspace}
-use Rattle.pcct_table.specs.Subspaces.{kind_of, memory_len_of}
+use Rattle.pcct_table.specs.Subspaces.{memory_len_of}
 use Rattle.pcc_wiring.specs.declared.fault.Asks.{Asks}
 use Rattle.pcc_wiring.specs.declared.fault.Asks.TheVariants.{System, Platform}
 use Rattle.pcc_wiring.specs.declared.fault.Role.{Role}

@@ -1,5 +1,5 @@
 -- The registers of a structure by what they are for (ACPI 6.5, 14.1.3 to 14.1.7).
-use Rattle.std.specs.Prelude.{ℕ, Option, Some, None}
+use Rattle.std.specs.Prelude.{ℕ, Some, None}
 use Rattle.pcct_table.specs.declared.subspace.Subspace.{Subspace}
 use Rattle.pcct_table.specs.declared.subspace.Subspace.TheVariants.{Generic, HwReduced1, HwReduced2, Initiator, Responder, HwRegister}
 use Rattle.pcct_table.specs.declared.extended.Type34.{Type34}

@@ -1,7 +1,6 @@
 -- Why inputs are refused, and that no served input is.
-use Rattle.std.proofs.Common.{◌≡◌, ◌≢◌, ℕ, ◌+◌, ◌<◌, ◌≤◌, true, false, List, [], ◌++◌, length, take, drop, refl, sym, ap, ◌∙◌, subst, append_assoc, arith, Result, Ok, Err}
-use Rattle.std.specs.Prelude.{IsErrAnd, MatchResult, OnOk, Some, None}
-use Rattle.std.proofs.lemmas.List.{append-nil, length-append, length-drop, length-take, take-append-drop}
+use Rattle.std.proofs.Common.{◌≡◌, ℕ, true, false, List, sym, subst, Result, Ok, Err}
+use Rattle.std.specs.Prelude.{IsErrAnd, MatchResult, Some, None}
 use Rattle.pcc_script.specs.Faults.{IsReadAs}
 use Rattle.pcc_script.specs.Text.{IsScenario, script_text, statements_of}
 use Rattle.pcc_script.specs.declared.scenario.Scenario.{Scenario}
@@ -14,12 +13,6 @@ use Rattle.pcct_table.specs.declared.build.BuildKind.{BuildKind}
 use Rattle.pcct_table.specs.declared.table.Table.{Table}
 use Rattle.pcct_table.specs.ShowFaults.{IsReadAs as TableReadAs, TextWrong}
 use Rattle.pcct_table.specs.ShowText.{HasText, show_text}
-use Rattle.pcct_codec.specs.declared.fault.TableFault.{TableFault}
-use Rattle.pcct_codec.specs.declared.fault.TableFault.TheVariants.{Short, Signature, LengthOutside, Revision, TooMany, Overrun, SubspaceType, SubspaceLength, Checksum, ReadFault, NoMemory}
-use Rattle.pcct_codec.specs.Faults.{FaultIs, Right, decision, told_length}
-use Rattle.pcct_codec.specs.Tables.{TableBytes}
-use Rattle.pcct_codec.proofs.Decisions.{right_source}
-use Rattle.pcct_codec.proofs.Headers.{one_table, told_more, told_table}
 use Rattle.pccrun_core.specs.declared.command.Command.{Command}
 use Rattle.pcc_setup.specs.declared.refusal.InputError.{InputError}
 use Rattle.pcc_setup.specs.declared.refusal.InputError.TheVariants as error

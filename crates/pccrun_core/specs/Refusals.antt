@@ -1,5 +1,5 @@
 -- Why an input is refused.
-use Rattle.std.specs.Prelude.{◌≡◌, ℕ, true, false, List, Some, None}
+use Rattle.std.specs.Prelude.{◌≡◌, ℕ, true, false, List, Some}
 use Rattle.pcc_script.specs.Text.{IsScenario, script_text}
 use Rattle.pcc_script.specs.Faults.{TextWrong as ScriptWrong}
 use Rattle.pcc_script.specs.declared.fault.ScriptKind.{ScriptKind}
@@ -25,7 +25,7 @@ pub record IsSpelled (text : List ℕ) (s : Scenario) : Type 0 where
   pub spelled : text ≡ script_text s
   pub scenario : IsScenario s
 
--- a text spells a scenario that no command needs a later part of the program for
+-- a text spells a scenario, and all that it asks of the command is built
 pub record IsScript (c : Command) (text : List ℕ) (s : Scenario) : Type 0 where
   pub spells : IsSpelled text s
   pub built : is_built c s ≡ true

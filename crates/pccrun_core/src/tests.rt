@@ -60,14 +60,23 @@ fn words_of(alloc: Global, text: &str) -> Result<Vec<String>, NoMemory> {
 fn texts_of_scripts(rt: HostRuntime) -> Result<(), Fail> {
     let alloc = rt.alloc();
     let words = words_of(alloc, "step")?;
-    let rows: [(&[u8], u8, &[u8]); 7] = [
+    let rows: [(&[u8], u8, &[u8]); 8] = [
         (SWAPS, 0, SWAPPED),
         (REFUSALS, 0, REFUSED),
-        (b"clock 0 10\nopen 0 bank\ncall 0 0 16 01 3 1\n", 3, UNBUILT),
-        (b"clock 0 10\nopen 1 bank\n", 3, UNBUILT),
-        (b"clock 0 10\nopem 0 bank\n", 3, UNBUILT),
-        (b"clock 0 10\nopen 0 bank\nwait 1\n", 3, UNBUILT),
-        (b"clock 0 10\nopen 0 bank", 3, UNBUILT),
+        (b"clock 0 10\nopen 0 bank\ncall 0 0 16 01 3 3\n", 3, UNBUILT),
+        (b"clock 0 10\nopen 0 cppc -\n", 3, UNBUILT),
+        (
+            b"clock 0 10\nopen 1 bank\n",
+            3,
+            b"refused open 1 no subspace\n",
+        ),
+        (b"clock 0 10\nopem 0 bank\n", 3, b"refused line 3 unknown\n"),
+        (b"clock 0 10\nopen 0 bank", 3, b"refused line 3 newline\n"),
+        (
+            b"clock 0 10\nopen 0 bank\ncall 0 1 17 - 1 0\n",
+            3,
+            b"refused line 4 not bank\n",
+        ),
     ];
     for (rest, status, text) in rows {
         let mut source = MemSource::new(alloc, &script(alloc, rest)?, 100, &[])?;
@@ -173,7 +182,10 @@ fn the_table_of_a_script_is_tested_behind_its_lines(rt: HostRuntime) -> Result<(
             b"table 50\nclock 0 10\nopen 0 bank\n",
             b"refused table short 1\n",
         ),
-        (b"table 50\nclock 0 10\nopen 1 bank\n", UNBUILT),
+        (
+            b"table 50\nclock 0 10\nopen 1 bank\n",
+            b"refused table short 1\n",
+        ),
         (
             b"table 50434354300000000\
             25a50434352554e4558414d504c45310100000054455354010000000000000000000000000000\
@@ -320,6 +332,73 @@ end 0\n",
             script.extend_from_slice(part)?;
         }
         assert_eq!(rt; ended(alloc, words, &script, text)?, Some(status));
+    }
+    Ok(())
+}
+
+// Two structures of type 0 whose memories lie apart.
+const TWO_SUBSPACES: &[u8] =
+    b"table 50434354ac000000027250434352554e4558414d504c4531010000005445535401000000000000000000000000000000003e00000000000000000080\
+000000001800000000000000002000030000d0fe00000000feffffff000000000100000000000000e8030000000000000000003e0000000000000010\
+0080000000001800000000000000002000030000d0fe00000000feffffff000000000100000000000000e8030000000000000000\n";
+
+const BOTH: &[u8] =
+    b"5 ok 00000000000000000000000000000000\n6 ok 00000000000000000000000000000000\n\
+journal 1 type 0 bank room 16 turnaround 0 rate 0 errors yes\n\
+record 0 caller 0 code 17 ok post 0 done 10 timely in 00000000000000000000000000000000 out 00000000000000000000000000000000\n\
+end 1\njournal 0 type 0 bank room 16 turnaround 0 rate 0 errors yes\n\
+record 0 caller 0 code 17 ok post 0 done 10 timely in 00000000000000000000000000000000 out 00000000000000000000000000000000\n\
+end 0\n";
+
+// A wait moves both clocks, and each clock counts its own readings.
+const WAITED: &[u8] =
+    b"5 ok 00000000000000000000000000000000\n7 ok 00000000000000000000000000000000\n\
+journal 0 type 0 bank room 16 turnaround 0 rate 0 errors yes\n\
+record 0 caller 0 code 17 ok post 0 done 10 timely in 00000000000000000000000000000000 out 00000000000000000000000000000000\nend 0\n\
+journal 1 type 0 bank room 16 turnaround 0 rate 0 errors yes\n\
+record 0 caller 0 code 17 ok post 100 done 110 timely in 00000000000000000000000000000000 out 00000000000000000000000000000000\nend 1\n";
+
+#[test]
+fn several_subspaces(rt: HostRuntime) -> Result<(), Fail> {
+    let alloc = rt.alloc();
+    let rows: [(&str, &[u8], u8, &[u8]); 6] = [
+        (
+            "step",
+            b"open 1 bank\nopen 0 bank\ncall 0 0 17 - 1 0\ncall 0 1 17 - 1 0\n",
+            0,
+            BOTH,
+        ),
+        (
+            "step",
+            b"open 0 bank\nopen 1 bank\ncall 0 0 17 - 1 0\nwait 100\ncall 0 1 17 - 1 0\n",
+            0,
+            WAITED,
+        ),
+        (
+            "step",
+            b"open 1 bank\nopen 1 bank\n",
+            3,
+            b"refused open 1 opened twice\n",
+        ),
+        ("step", b"open 0 bank\npick o\n", 3, b"refused use pick\n"),
+        (
+            "weave",
+            b"open 0 bank\nopen 1 bank\npick o\n",
+            3,
+            b"refused use many\n",
+        ),
+        (
+            "weave",
+            b"open 0 bank\nwait 1\npick o\n",
+            3,
+            b"refused use wait\n",
+        ),
+    ];
+    for (word, rest, status, text) in rows {
+        let mut script = Vec::from_slice(alloc, TWO_SUBSPACES)?;
+        script.extend_from_slice(b"clock 0 10\n")?;
+        script.extend_from_slice(rest)?;
+        assert_eq!(rt; ended(alloc, word, &script, text)?, Some(status));
     }
     Ok(())
 }

@@ -1,4 +1,4 @@
-use Rattle.std.proofs.Common.{◌≡◌, ◌<◌, ℕ}
+use Rattle.std.proofs.Common.{◌<◌, ℕ}
 use Rattle.pcc_wiring.specs.Overlaps.{Meet, at}
 use Rattle.pcc_wiring.proofs.overlap.first_before.Given as goal
 

@@ -1,5 +1,3 @@
-use Rattle.std.proofs.Common.{◌≡◌, IfOk}
-use Rattle.pcc_steps.specs.Wires.{IsRight}
 use Rattle.pcc_wiring.proofs.Rights.{is_told_right}
 use Rattle.pcc_wiring.proofs.wiring.wiring_of.Goals as goal
 

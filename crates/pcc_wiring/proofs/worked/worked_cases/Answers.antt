@@ -1,5 +1,4 @@
-use Rattle.std.proofs.Common.{◌≡◌, ◌≤◌, ◌<◌, arith}
-use Rattle.pcc_wiring.specs.Overlaps.{Meet}
+use Rattle.std.proofs.Common.{arith}
 use Rattle.pcc_wiring.proofs.worked.worked_cases.Goals as goal
 
 pub returns-clause-one_byte : goal.returns-clause-one_byte

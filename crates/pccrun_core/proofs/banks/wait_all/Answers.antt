@@ -1,4 +1,4 @@
-use Rattle.std.proofs.Common.{◌≡◌, ◌<◌, length, arith}
+use Rattle.std.proofs.Common.{◌<◌, length, arith}
 use Rattle.pccrun_core.proofs.BankLists.{moved_more}
 use Rattle.pccrun_core.proofs.banks.wait_all.Goals as goal
 

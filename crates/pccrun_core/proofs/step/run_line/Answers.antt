@@ -1,4 +1,4 @@
-use Rattle.std.proofs.Common.{◌≡◌, ◌∙◌, ap, subst}
+use Rattle.std.proofs.Common.{◌∙◌, ap, subst}
 use Rattle.std.proofs.lemmas.List.{get_or-set_same}
 use Rattle.pcc_script.specs.Limits.{IsAction}
 use Rattle.pccrun_core.specs.BankChannels.{OpenBank}

@@ -1,4 +1,3 @@
-use Rattle.std.proofs.Common.{◌∙◌, sym}
 use Rattle.pccrun_core.proofs.Serving.{banks_distinct, banks_early, banks_named, text_is}
 use Rattle.pccrun_core.proofs.step.run_text.Goals as goal
 
