@@ -1,6 +1,6 @@
 -- The answering machine's word steps, one after the other, with the device's turn.
-use Rattle.std.proofs.Common.{◌≡◌, ◌≢◌, ◌⊎◌, inl, inr, ⊎_elim, ℕ, suc, ◌+◌, ◌-◌, ◌*◌, ◌/◌, ◌%◌, ◌^◌, ◌<◌, ◌≤◌, Bool, true, false, eqb, List, [], ◌∷◌, ◌++◌, length, drop, refl, sym, ap, ◌∙◌, subst, arith, length-append, length-drop}
-use Rattle.std.specs.Prelude.{Option, Some, None, get_or}
+use Rattle.std.proofs.Common.{◌≡◌, ◌≢◌, ℕ, ◌+◌, ◌-◌, ◌*◌, ◌/◌, ◌%◌, ◌^◌, ◌<◌, ◌≤◌, Bool, true, false, eqb, List, [], ◌∷◌, ◌++◌, length, drop, refl, sym, ap, ◌∙◌, subst, arith, length-append, length-drop}
+use Rattle.std.specs.Prelude.{Option, Some, None}
 use Rattle.std.proofs.lemmas.List.{append-nil}
 use Rattle.pcc_history.specs.Devices.{Device}
 use Rattle.pcc_history.specs.Channel.{Exchange}
@@ -16,10 +16,10 @@ use Rattle.pcc_steps.specs.declared.answer.AnswerOutcome.{AnswerOutcome}
 use Rattle.pcc_steps.specs.declared.answer.AnswerOutcome.TheVariants.{Idle, Served}
 use Rattle.pcc_steps.specs.Wires.{style_of, heads_of, block_of, tells_error, four_by}
 use Rattle.pcc_steps.specs.Runs.{Run, ends, loads, stores, swaps, executes, Within, AnswerEnd}
-use Rattle.pcc_steps.specs.Walk.{answer_left, answer_after, Takes, Gives}
+use Rattle.pcc_steps.specs.Walk.{answer_left, answer_after, Gives}
 use Rattle.pcc_steps.specs.Asking.{has_more}
-use Rattle.pcc_steps.specs.Answering.{Answer, AnswerOk, IsAnswerStepping, answer_begun, answer_next, answer_fed, answer_told, answer_fed_at, answer_told_at, after_ack, after_take, after_error, after_reply, after_close, after_done, done_stage, after_update, update_stage, asks_notify, take_on, take_told, load_on, reply_on, served_at, ran_with, answer_code}
-use Rattle.pcc_steps.specs.Agree.{act, Finds, Core, Asker, Answerer, Agree, Pose, free, writing, cleared, waiting, reading, Turn, replying, Fits, pose, turn_at, settle, settle_at, answerer_fed, answerer_stepped}
+use Rattle.pcc_steps.specs.Answering.{Answer, AnswerOk, IsAnswerStepping, answer_begun, answer_next, answer_fed, answer_told, answer_fed_at, answer_told_at, after_ack, after_take, after_error, after_reply, after_close, after_done, done_stage, update_stage, asks_notify, take_on, take_told, load_on, reply_on, ran_with, answer_code}
+use Rattle.pcc_steps.specs.Agree.{act, Finds, Core, Asker, Answerer, Agree, Pose, free, writing, cleared, waiting, reading, replying, Fits, pose, turn_at, settle, settle_at, answerer_fed}
 use Rattle.pcc_steps.specs.Laws.{AnswerBeginAgrees, AnswerStepAgrees}
 use Rattle.pcc_steps.proofs.AnswerWalks.{answers_by_table, answer_steps_by_table, executes_by_table}
 use Rattle.pcc_steps.proofs.Bounds.{answers_within}

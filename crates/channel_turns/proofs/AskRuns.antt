@@ -1,7 +1,6 @@
 -- The asking machine's word steps, one after the other.
-use Rattle.std.proofs.Common.{◌≡◌, ◌≢◌, ℕ, suc, ◌+◌, ◌-◌, ◌^◌, ◌<◌, ◌≤◌, Bool, true, false, List, [], ◌∷◌, ◌++◌, length, refl, sym, ap, ◌∙◌, subst, arith}
+use Rattle.std.proofs.Common.{◌≡◌, ◌≢◌, ℕ, ◌+◌, ◌-◌, ◌^◌, ◌<◌, ◌≤◌, Bool, true, false, List, length, refl, sym, ap, ◌∙◌, subst, arith}
 use Rattle.std.specs.Prelude.{Option, Some, None, get_or}
-use Rattle.pcc_history.specs.Devices.{Device}
 use Rattle.pcc_history.specs.Channel.{Exchange}
 use Rattle.pcc_steps.specs.declared.wiring.Wiring.{Wiring}
 use Rattle.pcc_steps.specs.declared.wiring.Style.{Style}
@@ -14,8 +13,8 @@ use Rattle.pcc_steps.specs.declared.ask.AskOutcome.TheVariants.{Posted, Clear, D
 use Rattle.pcc_steps.specs.Wires.{style_of, block_of, sees_done, tells_error, acknowledges}
 use Rattle.pcc_steps.specs.Runs.{Run, ends, loads, stores, swaps, executes, Within}
 use Rattle.pcc_steps.specs.Walk.{ask_left, ask_after, Takes}
-use Rattle.pcc_steps.specs.Asking.{Ask, AskOk, IsAskRunning, ask_begun, ask_looking, ask_next, ask_fed, ask_told, ask_fed_at, has_more, after_block, after_update, after_mark, after_bell, after_look, store_on, look_on, read_on, block_on, line_on, lowered_on}
-use Rattle.pcc_steps.specs.Agree.{act, Finds, Asker, Answerer, Agree, done_after, clears_after}
+use Rattle.pcc_steps.specs.Asking.{Ask, AskOk, Flies, PostsLeft, ask_stepped, look_told, IsAskRunning, ask_begun, ask_looking, ask_next, ask_fed, ask_told, ask_fed_at, has_more, after_block, after_update, after_mark, after_bell, after_look, store_on, look_on, read_on, block_on, line_on, lowered_on}
+use Rattle.pcc_steps.specs.Agree.{act, Finds, Agree, done_after, clears_after}
 use Rattle.pcc_steps.proofs.Agreement.{ask_step_agrees}
 use Rattle.pcc_steps.proofs.AskWalks.{asks_by_table, looks_by_table, posts_by_table}
 use Rattle.pcc_steps.proofs.Bounds.{looks_within, posts_within}
@@ -66,9 +65,9 @@ done_same (Some Clear) done a n = refl
 done_same (Some (Drained e)) done a n = refl
 
 -- by the value that it finds
-stepped : (ws : List ℕ) (a : Ask) (v : ℕ) → a.stage ≢ AskRest → AskOk a → v ≡ found (ask_next a) ws → v < 2 ^ 64 → AskSteps ws a (act (ask_next a) ws) (ask_fed a v) (ask_told a v)
-stepped ws a v runs ok e small = let told : Option AskOutcome = ask_told a v in let z : Ask = ask_fed_at a.stage a v in let b : Ask = ask_fed a v in
-    let f : feeds.Fed a.stage a b told = feeds.stepped a.stage a z told b.steps (feeds.fed a.stage a v (feeds.not_rest a.stage runs) ok.flies) in record {
+stepped : (ws : List ℕ) (a : Ask) (v : ℕ) → a.stage ≢ AskRest → Flies a.stage a.in_flight → v ≡ found (ask_next a) ws → v < 2 ^ 64 → AskSteps ws a (act (ask_next a) ws) (ask_fed a v) (ask_told a v)
+stepped ws a v runs flies e small = let told : Option AskOutcome = ask_told a v in let z : Ask = ask_fed_at a.stage a v in let b : Ask = ask_fed a v in
+    let f : feeds.Fed a.stage a b told = feeds.stepped a.stage a z told b.steps (feeds.fed a.stage a v (feeds.not_rest a.stage runs) flies) in record {
       keeps = λ exec start done clears y g. (
         clears_after told clears,
         subst (λ (l : List Exchange). Agree exec start (act (ask_next a) ws) (record { m = b; done = l; clears = clears_after told clears }) y) (sym (done_same told done z b.steps))
@@ -88,7 +87,7 @@ stepped ws a v runs ok e small = let told : Option AskOutcome = ask_told a v in 
 
 pub step_goes : (ws : List ℕ) (a : Ask) (ws' : List ℕ) (b : Ask) (told : Option AskOutcome) → a.stage ≢ AskRest → AskStep ws a ws' b told → AskSteps ws a ws' b told
 step_goes ws a ws' b told runs h = let v : ℕ = found (ask_next a) ws in
-    subst (λ (z : List ℕ × (Ask × Option AskOutcome)). AskSteps ws a z.0 z.1.0 z.1.1) (λ i. (sym h.words i, (sym h.machine i, sym h.told_is i))) (stepped ws a v runs h.right refl h.small)
+    subst (λ (z : List ℕ × (Ask × Option AskOutcome)). AskSteps ws a z.0 z.1.0 z.1.1) (λ i. (sym h.words i, (sym h.machine i, sym h.told_is i))) (stepped ws a v runs h.right.flies refl h.small)
 
 -- ---- some steps
 
@@ -258,18 +257,35 @@ post_within a b code bytes n e k ok = let x : Ask = ask_begun a code bytes in
     (subst (Within (block_of a.wiring + 7)) (sym (posts_by_table a code bytes)) (posts_within a.wiring code x.sent ((subst AskOk e ok).sized.sent)))
 
 -- the load of completion, with which a look begins
-pub first_steps : (a b c : Ask) (ws ws' : List ℕ) (o : Option AskOutcome) → b ≡ ask_looking a → AskStep ws b ws' c o → AskSteps ws (ask_looking a) ws' c o
-first_steps a b c ws ws' o e s = step_goes ws (ask_looking a) ws' c o (λ q. cc) (subst (λ (x : Ask). AskStep ws x ws' c o) e s)
+pub first_steps : (a b c : Ask) (ws : List ℕ) (v : ℕ) (o : Option AskOutcome) → b ≡ ask_looking a → a.in_flight ≡ true → v ≡ get_or ws 0 0 → v < 2 ^ 64 → c ≡ ask_fed b v → o ≡ ask_told b v → AskSteps ws (ask_looking a) ws c o
+first_steps a b c ws v o e flies found_is small ec eo = let x : Ask = ask_looking a in
+    subst (λ (z : Ask × Option AskOutcome). AskSteps ws x ws z.0 z.1) (λ i. (sym (ec ∙ ap (λ (y : Ask). ask_fed y v) e) i, sym (eo ∙ ap (λ (y : Ask). ask_told y v) e) i)) (stepped ws x v (λ q. cc) flies found_is small)
 
-pub look_within : (a b c : Ask) (ws ws' : List ℕ) (n : ℕ) → b ≡ ask_looking a → AskStep ws b ws' c None → n ≡ block_of c.wiring → Within (n + 5) (ask_left c)
-look_within a b c ws ws' n e s k = let x : Ask = ask_looking a in let t : AskStep ws x ws' c None = subst (λ (x : Ask). AskStep ws x ws' c None) e s in
-    let m : ℕ = block_of a.wiring in let same : c.wiring ≡ a.wiring = (first_steps a b c ws ws' None e s).wiring in
+goes_on : (b : Bool) → look_told b ≡ None → b ≡ true
+goes_on true e = refl
+goes_on false e = absurd (cc e)
+
+posts_of : (tells : Bool) (posts : ℕ) → PostsLeft (after_look tells) posts → posts ≤ 4096
+posts_of true posts h = h
+posts_of false posts h = h
+
+-- a look that goes on was right before
+seen_right : (a : Ask) (v : ℕ) → sees_done a.wiring v ≡ true → a.in_flight ≡ true → a.looks < a.budget → AskOk (ask_fed (ask_looking a) v) → AskOk (ask_looking a)
+seen_right a v seen flies left h = let x : Ask = ask_looking a in
+    let ok : AskOk (ask_stepped (look_on true v x)) = subst (λ (b : Bool). AskOk (ask_stepped (look_on b v x))) seen h in
+    record { wired = ok.wired; sized = ok.sized; place = tt; flies = flies; looks = left; posts = posts_of (tells_error a.wiring) a.posts ok.posts; kept = ok.kept; mask = ok.mask; id = ok.id; code = ok.code }
+
+pub look_within : (a b c : Ask) (ws : List ℕ) (v n : ℕ) (o : Option AskOutcome) → b ≡ ask_looking a → a.in_flight ≡ true → a.looks < a.budget → v ≡ get_or ws 0 0 → v < 2 ^ 64 → c ≡ ask_fed b v → o ≡ ask_told b v → o ≡ None → n ≡ block_of c.wiring → AskOk c → Within (n + 5) (ask_left c)
+look_within a b c ws v n o e flies left found_is small ec eo none k ok = let x : Ask = ask_looking a in let m : ℕ = block_of a.wiring in
+    let same : c.wiring ≡ a.wiring = (first_steps a b c ws v o e flies found_is small ec eo).wiring in
+    let fed : c ≡ ask_fed x v = ec ∙ ap (λ (y : Ask). ask_fed y v) e in
+    let told : ask_told x v ≡ None = sym (eo ∙ ap (λ (y : Ask). ask_told y v) e) ∙ none in
+    let right : AskOk x = seen_right a v (goes_on (sees_done a.wiring v) told) flies left (subst AskOk fed ok) in
     let i : m + 6 - 1 ≡ n + 5 = let q : n ≡ m = k ∙ ap block_of same in omega (arith, q) in
-    subst (λ (z : ℕ × Ask). Within z.0 (ask_left z.1)) (λ j. (i j, sym t.machine j))
-    (rest_of (m + 6) x (found (ask_next x) ws) t.right (λ q. cc) (sym t.told_is) (subst (Within (m + 6)) (sym (looks_by_table a)) (looks_within a.wiring)))
+    subst (λ (z : ℕ × Ask). Within z.0 (ask_left z.1)) (λ j. (i j, sym fed j)) (rest_of (m + 6) x v right (λ q. cc) told (subst (Within (m + 6)) (sym (looks_by_table a)) (looks_within a.wiring)))
 
-pub look_steps : (a b c d : Ask) (ws ws1 ws2 : List ℕ) (o : AskOutcome) → b ≡ ask_looking a → AskStep ws b ws1 c None → AskSteps ws1 c ws2 d (Some o) → AskSteps ws (ask_looking a) ws2 d (Some o)
-look_steps a b c d ws ws1 ws2 o e s h = more ws ws1 ws2 (ask_looking a) c d (Some o) (first_steps a b c ws ws1 None e s) h
+pub look_steps : (a c d : Ask) (ws ws' : List ℕ) (o : AskOutcome) → AskSteps ws (ask_looking a) ws c None → AskSteps ws c ws' d (Some o) → AskSteps ws (ask_looking a) ws' d (Some o)
+look_steps a c d ws ws' o h k = more ws ws ws' (ask_looking a) c d (Some o) h k
 
-pub look_long : (a b c : Ask) (ws ws' : List ℕ) → b ≡ ask_looking a → AskStep ws b ws' c None → length ws ≡ 8 + block_of a.wiring → length ws' ≡ 8 + block_of c.wiring
-look_long a b c ws ws' e s long = let h : AskSteps ws (ask_looking a) ws' c None = first_steps a b c ws ws' None e s in h.long ∙ long ∙ ap (λ (w : Wiring). 8 + block_of w) (sym h.wiring)
+pub look_long : (a c : Ask) (ws : List ℕ) (o : Option AskOutcome) → AskSteps ws (ask_looking a) ws c o → length ws ≡ 8 + block_of a.wiring → length ws ≡ 8 + block_of c.wiring
+look_long a c ws o h long = long ∙ ap (λ (w : Wiring). 8 + block_of w) (sym h.wiring)

@@ -1,6 +1,6 @@
 -- What a call is answered.
-use Rattle.std.proofs.Common.{◌≡◌, ◌≢◌, ℕ, ◌+◌, ◌-◌, ◌^◌, ◌<◌, ◌≤◌, min, Bool, true, false, cond, List, [], ◌∷◌, ◌++◌, length, refl, sym, ap, ◌∙◌, subst, arith, length-append}
-use Rattle.std.specs.Prelude.{Option, Some, None, Result, Ok, Err, IfOk, ◌==◌, ◌&&◌, nat_lt, nat_le, slice_get}
+use Rattle.std.proofs.Common.{◌≡◌, ℕ, ◌+◌, ◌-◌, ◌^◌, ◌<◌, ◌≤◌, Bool, true, false, cond, List, [], ◌∷◌, ◌++◌, length, refl, sym, ap, ◌∙◌, subst, arith, length-append}
+use Rattle.std.specs.Prelude.{Option, Some, None, Result, Ok, Err, IfOk, ◌&&◌, nat_lt, nat_le, slice_get}
 use Rattle.std.specs.Option.{is_some}
 use Rattle.std.proofs.lemmas.Bool.Decides.{nat_tests}
 use Rattle.std.proofs.lemmas.Grind.{common_steps}
@@ -8,22 +8,21 @@ use Rattle.std.proofs.lemmas.Option.{slice_get-get_or}
 use Rattle.std.proofs.Math.Seq.{get_or-append_seam}
 use Rattle.pcc_causes.specs.Clock.{line_reading}
 use Rattle.pcc_history.specs.Devices.{Device}
-use Rattle.pcc_history.specs.Channel.{Object, exchange_of, object_after, over}
+use Rattle.pcc_history.specs.Channel.{object_after, over}
 use Rattle.rate_limit.specs.RateLimits.{earliest_of}
 use Rattle.pcc_io.specs.declared.items.NoMemory.{NoMemory}
 use Rattle.pcc_journal.specs.declared.record.Record.{Record}
 use Rattle.pcc_journal.specs.declared.record.Pending.{Pending}
-use Rattle.pcc_journal.specs.declared.text.JournalHead.{JournalHead}
 use Rattle.pcc_journal.specs.Records.{times_of}
 use Rattle.channel_turns.specs.declared.outcome.CallRefusal.{CallRefusal}
 use Rattle.channel_turns.specs.declared.outcome.CallRefusal.TheVariants as refusal
 use Rattle.channel_turns.specs.declared.outcome.Outcome.{Outcome}
 use Rattle.channel_turns.specs.declared.outcome.Outcome.TheVariants as outcome
-use Rattle.channel_turns.specs.Replies.{Reply, Done, BadCode, TooLong, JournalFull, StillPending, TooSoon, TimedOut}
-use Rattle.channel_turns.specs.Outcomes.{IsPlaced, StandsFor}
-use Rattle.channel_turns.specs.ChannelRuns.{Answered, Call, ChannelStart, ChannelState, InFlight, after_post, answer_behind, answer_call, answer_unless, completed, count_in_flight, exchange_with, has_byte_codes, journal_limit, next_reading, post_call, record_of, refusal_of}
+use Rattle.channel_turns.specs.Replies.{Done, BadCode, TooLong, JournalFull}
+use Rattle.channel_turns.specs.Outcomes.{StandsFor}
+use Rattle.channel_turns.specs.ChannelRuns.{Answered, Call, ChannelStart, ChannelState, answer_behind, answer_call, answer_unless, completed, count_in_flight, exchange_with, has_byte_codes, journal_limit, next_reading, post_call, record_of, refusal_of}
 use Rattle.channel_turns.specs.EndsStates.{Awaited, EndsState, ReadyState, Readied, ReadiedBy, Sent, awaited, awaited_by, budgeted, count_flying, counted, drained, earliest_post, is_flying, is_lost, posted, ready_refusal, reading_of, reply_of, start_of}
-use Rattle.channel_turns.specs.Calls.{IsAnswered, IsLate, IsPosted, OpenChannel, Stays, flight_of, now_of, open_channel, start_by}
+use Rattle.channel_turns.specs.Calls.{IsAnswered, IsLate, IsPosted, OpenChannel, Stays, flight_of, now_of, open_channel}
 
 -- ---- counts of readings
 

@@ -1,15 +1,14 @@
 -- Polls, one after the other.
-use Rattle.std.proofs.Common.{◌≡◌, ◌≢◌, ℕ, ◌+◌, ◌-◌, ◌<◌, ◌≤◌, Bool, true, false, cond, List, [], ◌∷◌, ◌++◌, length, refl, sym, ap, ◌∙◌, subst, arith}
+use Rattle.std.proofs.Common.{◌≡◌, ℕ, ◌+◌, ◌-◌, ◌<◌, ◌≤◌, Bool, true, false, cond, length, refl, sym, ap, ◌∙◌, subst, arith}
 use Rattle.std.specs.Prelude.{Option, Some, None, nat_lt, not, ◌==◌}
 use Rattle.std.proofs.lemmas.Bool.Decides.{nat_tests}
 use Rattle.pcc_history.specs.Devices.{Device}
 use Rattle.pcc_steps.specs.Agree.{flying}
 use Rattle.channel_turns.specs.ChannelRuns.{journal_limit}
-use Rattle.channel_turns.specs.EndsStates.{Awaited, EndsState, Looked, Sent, Turned, awaited, awaited_by, count_waiting, drained, executed_in, is_flying, is_lost, looked, looked_by, rings, turned}
+use Rattle.channel_turns.specs.EndsStates.{Awaited, EndsState, Looked, Sent, Turned, awaited, awaited_by, count_waiting, drained, executed_in, is_flying, looked, rings, turned}
 use Rattle.channel_turns.specs.declared.outcome.Look.{Look}
 use Rattle.channel_turns.specs.declared.outcome.Look.TheVariants as look
 use Rattle.channel_turns.specs.declared.outcome.Turn.{Turn}
-use Rattle.channel_turns.specs.declared.outcome.Turn.TheVariants as turn
 use Rattle.channel_turns.proofs.Tellings.{looked_clear}
 
 unexecuted : (b : Bool) → not b ≡ true → b ≡ false

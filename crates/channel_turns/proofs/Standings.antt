@@ -1,5 +1,5 @@
 -- What whole runs make of a channel between two calls.
-use Rattle.std.proofs.Common.{◌≡◌, ◌≢◌, ◌⊎◌, inl, inr, ⊎_elim, ℕ, suc, ◌+◌, ◌^◌, ◌<◌, ◌≤◌, Bool, true, false, List, [], ◌∷◌, ◌++◌, length, take, drop, refl, sym, ap, ◌∙◌, subst, arith, length-append, length-drop}
+use Rattle.std.proofs.Common.{◌≡◌, ⊎_elim, ℕ, suc, ◌+◌, ◌^◌, ◌<◌, ◌≤◌, Bool, true, false, List, [], ◌∷◌, ◌++◌, length, take, drop, refl, sym, ap, ◌∙◌, subst, arith, length-append, length-drop}
 use Rattle.std.specs.Prelude.{Option, Some, None, Result, Ok, Err, OnOk, OnErr, get_or, max, not}
 use Rattle.std.proofs.lemmas.List.{map-append, append-nil, drop_all, take_all}
 use Rattle.std.proofs.Math.Seq.{get_or-append_seam, take-append_seam}
@@ -7,33 +7,30 @@ use Rattle.pcc_bytes.specs.Bytes.{IsBytes}
 use Rattle.pcc_exec.specs.Execution.{IsSpace, Leaves}
 use Rattle.shmem_header.specs.Spelling.{words_of}
 use Rattle.pcc_history.specs.Devices.{Device}
-use Rattle.pcc_history.specs.Channel.{Exchange, both, exchange_of, over}
+use Rattle.pcc_history.specs.Channel.{Exchange, exchange_of, over}
 use Rattle.pcc_history.specs.Histories.{Legal, state_after}
 use Rattle.pcc_io.specs.LineClocks.{LineState}
 use Rattle.pcc_journal.specs.WithSpare.{WithSpare}
 use Rattle.pcc_journal.specs.declared.record.Record.{Record}
-use Rattle.pcc_journal.specs.declared.record.Pending.{Pending}
 use Rattle.pcc_journal.specs.declared.text.JournalHead.{JournalHead}
 use Rattle.pcc_journal.specs.Records.{exchanges_of, exchange_of_record}
 use Rattle.pcc_steps.specs.declared.wiring.Wiring.{Wiring}
-use Rattle.pcc_steps.specs.declared.wiring.Style.{Style}
 use Rattle.pcc_steps.specs.declared.ask.AskStage.{AskStage}
 use Rattle.pcc_steps.specs.declared.ask.AskStage.TheVariants.{AskRest}
 use Rattle.pcc_steps.specs.declared.ask.AskOutcome.TheVariants.{Posted, Clear, Drained}
 use Rattle.pcc_steps.specs.declared.answer.AnswerStage.{AnswerStage}
 use Rattle.pcc_steps.specs.declared.answer.AnswerStage.TheVariants.{AnswerRest}
-use Rattle.pcc_steps.specs.declared.answer.AnswerOutcome.{AnswerOutcome}
 use Rattle.pcc_steps.specs.declared.answer.AnswerOutcome.TheVariants.{Idle, Served}
 use Rattle.pcc_steps.specs.Wires.{style_of, block_of, opening_header, opening_word, opening_words, sees_done}
 use Rattle.pcc_steps.specs.Asking.{Ask, AskOk, IsNewAsk, ask_begun, ask_budgeted, ask_looking}
 use Rattle.pcc_steps.specs.Answering.{Answer, AnswerOk, IsNewAnswer}
-use Rattle.pcc_steps.specs.Agree.{flying, Core, Others, Asker, Answerer, Agree, Agreed, Pose, Turn, quiet, resting, pose_at, turn_at, Fits, Waits, Row, IsDone, flight, answered, closed, done_after}
+use Rattle.pcc_steps.specs.Agree.{flying, Core, Asker, Answerer, Agree, Agreed, quiet, resting, pose_at, turn_at, Fits, Row, IsDone, flight, answered, closed}
 use Rattle.pcc_steps.proofs.Agreement.{budget_agrees, device_stays, look_begin_agrees, post_begin_agrees, starts_agreed}
 use Rattle.pcc_steps.proofs.Bits.{finished_set}
 use Rattle.channel_turns.specs.EndsStates.{EndsState, Sent, is_flying, reply_of, rings, executed_in}
 use Rattle.channel_turns.specs.declared.flight.Flight.{Flight}
-use Rattle.channel_turns.specs.WordRuns.{AskSteps, AnswerKeeps, HasExecuted, HistoryIs, LineWas}
-use Rattle.channel_turns.specs.Standing.{HasMemory, Plain, Carries, IsHeadOf, Stands, answerer_of, asker_of, seen, waiting, waits}
+use Rattle.channel_turns.specs.WordRuns.{AskSteps, AnswerKeeps, HasExecuted, LineWas}
+use Rattle.channel_turns.specs.Standing.{HasMemory, Plain, Carries, IsHeadOf, Stands, answerer_of, asker_of, seen, waits}
 
 -- the doorbell line
 abbrev pub line_at : Bool → ℕ

@@ -1,19 +1,18 @@
 -- What each call makes of the ends, and tells.
-use Rattle.std.proofs.Common.{◌≡◌, ◌≢◌, ℕ, ◌+◌, ◌-◌, ◌<◌, ◌≤◌, nat_eq, Bool, true, false, cond, List, [], ◌∷◌, ◌++◌, length, refl, sym, ap, ◌∙◌, subst, arith}
+use Rattle.std.proofs.Common.{◌≡◌, ◌≢◌, ℕ, ◌+◌, ◌-◌, Bool, true, false, cond, List, [], ◌∷◌, ◌++◌, length, refl, sym, ap, ◌∙◌, arith}
 use Rattle.std.specs.Prelude.{Option, Some, None, nat_lt, not, ◌==◌}
 use Rattle.std.proofs.lemmas.Bool.Decides.{nat_tests}
 use Rattle.pcc_causes.specs.Clock.{line_reading}
 use Rattle.pcc_history.specs.Devices.{Device}
-use Rattle.pcc_history.specs.Channel.{Exchange, Object, exchange_of, over}
+use Rattle.pcc_history.specs.Channel.{Exchange, over}
 use Rattle.pcc_history.specs.Histories.{state_after}
 use Rattle.pcc_io.specs.LineClocks.{LineState}
 use Rattle.pcc_journal.specs.WithSpare.{WithSpare}
 use Rattle.pcc_journal.specs.declared.record.Record.{Record}
-use Rattle.pcc_journal.specs.declared.record.Pending.{Pending}
 use Rattle.pcc_journal.specs.declared.text.JournalHead.{JournalHead}
 use Rattle.pcc_journal.specs.Records.{exchange_of_record, exchanges_of}
 use Rattle.channel_turns.specs.ChannelRuns.{journal_limit, record_of}
-use Rattle.channel_turns.specs.EndsStates.{EndsState, Looked, ReadyState, Sent, Turned, count_waiting, counted, drained, executed_in, is_lost, looked, looked_by, posted, read_once, reading_of, reply_of, rings, turned}
+use Rattle.channel_turns.specs.EndsStates.{EndsState, ReadyState, Sent, count_waiting, counted, drained, executed_in, is_lost, looked, looked_by, posted, reading_of, reply_of, rings, turned}
 use Rattle.channel_turns.specs.declared.outcome.Look.TheVariants as look
 use Rattle.channel_turns.specs.declared.outcome.Turn.TheVariants as turn
 use Rattle.channel_turns.specs.Standing.{Plain, seen}

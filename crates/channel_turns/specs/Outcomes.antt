@@ -1,5 +1,5 @@
 -- What the calls tell stands for replies.
-use Rattle.std.specs.Prelude.{◌≡◌, ◌<◌, ℕ, List, Option, Some, slice_get}
+use Rattle.std.specs.Prelude.{◌≡◌, ◌<◌, ℕ, List, Some, slice_get}
 use Rattle.pcc_journal.specs.declared.record.Record.{Record}
 use Rattle.channel_turns.specs.Replies.{Reply, Done, BadCode, TooLong, JournalFull, StillPending, TooSoon, TimedOut}
 use Rattle.channel_turns.specs.declared.outcome.Outcome.{Outcome}

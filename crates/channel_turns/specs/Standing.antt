@@ -1,7 +1,7 @@
 -- What holds of the words and both machines between two calls, and what is seen of them.
 use Rattle.std.specs.Prelude.{◌≡◌, ◌<◌, ◌+◌, ℕ, Bool, true, false, List, [], ◌∷◌, ◌++◌, length, Option, Some, None}
 use Rattle.pcc_history.specs.Devices.{Device}
-use Rattle.pcc_history.specs.Channel.{Exchange, Object}
+use Rattle.pcc_history.specs.Channel.{Exchange}
 use Rattle.pcc_history.specs.Histories.{state_after}
 use Rattle.pcc_io.specs.LineClocks.{LineState}
 use Rattle.pcc_journal.specs.WithSpare.{WithSpare}

@@ -20,6 +20,9 @@ use pcc_steps::{
     answer_next, answer_start, answering_laws, ask_begin, ask_feed, ask_look, ask_next,
 };
 
+/// The place of the word that says whether a command is complete, with whose load a look begins.
+const COMPLETION: usize = 0;
+
 // ---- the asking machine
 
 // The next word step.
@@ -80,9 +83,11 @@ pub(crate) fn look_run(words: &mut [u64], ask: &mut AskState) -> AskOutcome
     ensures clear { result ≡ Clear → sees_done ask.old.wiring (get_or words.old 0 0) ≡ false }
 {
     ask_look(ask);
-    if let Some(outcome) = ask_step(words, ask) {
+    if let Some(outcome) = ask_feed(ask, words[COMPLETION]) {
         return outcome;
     }
+    // The look goes on, and so the machine is right.
+    ask_next(ask);
     let most = ask.wiring().block() + 5;
     finish_ask(words, ask, most)
 }

@@ -41,23 +41,24 @@ fn wired() -> Wiring
     }
 }
 
+const HEAD: JournalHead = JournalHead {
+    id: 0,
+    kind: 0,
+    cppc: false,
+    room: 16,
+    limits: Limits {
+        turnaround: 0,
+        per_minute: 0,
+    },
+    reports: true,
+};
+
 // A Bank on it, with a clock of 10 microseconds a reading.
 fn channel(alloc: Global) -> Result<TurnChannel<Bank>, NoMemory>
     ensures { IfOk result (λ c. c.now.taken ≡ 0) }
 {
-    let head = JournalHead {
-        id: 0,
-        kind: 0,
-        cppc: false,
-        room: 16,
-        limits: Limits {
-            turnaround: 0,
-            per_minute: 0,
-        },
-        reports: true,
-    };
     let bank = Bank::new(alloc, 16)?;
-    TurnChannel::new(alloc, head, wired(), bank, &[0; 16], 0, 10)
+    TurnChannel::new(alloc, HEAD, wired(), bank, &[0; 16], 0, 10)
 }
 
 const ONE: [u8; 16] = [1, 0, 0, 0, 0, 0, 0, 0, 0, 0, 0, 0, 0, 0, 0, 0];
@@ -119,4 +120,18 @@ fn calls_that_are_refused(rt: HostRuntime) {
     channel.wait(100);
     assert!(rt; channel.call(alloc, 0, 17, &[], 1, 0) == Ok(Outcome::Done { place: 0 }));
     assert!(rt; channel.records()[0].post == 100 && channel.records()[0].done == 110);
+}
+
+#[test]
+fn both_ends_at_rest(rt: HostRuntime) {
+    let alloc = rt.alloc();
+    let bank = Bank::new(alloc, 16).expect(&rt, "memory");
+    let mut ends = PlainEnds::new(alloc, HEAD, wired(), bank, &[0; 16], 0, 10).expect(
+        &rt, "memory",
+    );
+    ends.hold(1);
+    assert!(rt; ends.turn() == Turn::Held { left: 0 });
+    assert!(rt; ends.turn() == Turn::Idle);
+    assert!(rt; ends.left() == 0 && !ends.in_flight() && !ends.given_up());
+    assert!(rt; ends.journal().len() == 0 && ends.head().room == 16);
 }

@@ -1,5 +1,4 @@
-use Rattle.std.proofs.Common.{rules}
-use Rattle.channel_turns.proofs.AnswerRuns.{run_idle, run_served, run_goes_on, run_long, run_within}
+use Rattle.channel_turns.proofs.AnswerRuns.{run_idle, run_served, run_long, run_within}
 use Rattle.channel_turns.proofs.runs.answer_run.Goals as goal
 
 pub returns-in-Some-clause-keeps : goal.returns-in-Some-clause-keeps

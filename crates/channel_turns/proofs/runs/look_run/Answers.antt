@@ -1,15 +1,19 @@
-use Rattle.std.proofs.Common.{rules}
+use Rattle.std.proofs.Common.{rules, ◌<◌, ◌^◌, ℕ, refl}
+use Rattle.std.specs.Prelude.{None, get_or}
 use Rattle.channel_turns.proofs.AskRuns.{first_steps, look_long, look_steps, look_within}
 use Rattle.channel_turns.proofs.runs.look_run.Goals as goal
 
 pub returns-in-Some-clause-steps : goal.returns-in-Some-clause-steps
-returns-in-Some-clause-steps c = first_steps c.args.ask.now c.ask_look.new.ask c.ask_step.new.ask c.args.words.now c.ask_step.new.words _ c.ask_look.ensures c.in-Some.ensures
+returns-in-Some-clause-steps c = first_steps c.args.ask.now c.ask_look.new.ask c.ask_feed.new.ask c.args.words.now (get_or c.args.words.now 0 0) _ c.ask_look.ensures c.requires.flies refl (search rules) c.in-Some.ensures.state c.in-Some.ensures.told
 
 pub finish_ask-requires-clause-long : goal.finish_ask-requires-clause-long
-finish_ask-requires-clause-long c = look_long c.args.ask.now c.ask_look.new.ask c.ask_step.new.ask c.args.words.now c.ask_step.new.words c.ask_look.ensures c.in_default.ensures c.requires.long
+finish_ask-requires-clause-long c = let v : ℕ = get_or c.args.words.now 0 0 in let small : v < 2 ^ 64 = search rules in
+    look_long c.args.ask.now c.ask_feed.new.ask c.args.words.now None (first_steps c.args.ask.now c.ask_look.new.ask c.ask_feed.new.ask c.args.words.now v None c.ask_look.ensures c.requires.flies refl small c.in_default.ensures.state c.in_default.ensures.told) c.requires.long
 
 pub finish_ask-requires-clause-within : goal.finish_ask-requires-clause-within
-finish_ask-requires-clause-within c = λ ok. look_within c.args.ask.now c.ask_look.new.ask c.ask_step.new.ask c.args.words.now c.ask_step.new.words c.block-most.result c.ask_look.ensures c.in_default.ensures (search rules)
+finish_ask-requires-clause-within c = let v : ℕ = get_or c.args.words.now 0 0 in let small : v < 2 ^ 64 = search rules in
+    λ ok. look_within c.args.ask.now c.ask_look.new.ask c.ask_feed.new.ask c.args.words.now v c.block-most.result None c.ask_look.ensures c.requires.flies c.requires.left refl small c.in_default.ensures.state c.in_default.ensures.told refl (search rules) ok
 
 pub returns-clause-steps : goal.returns-clause-steps
-returns-clause-steps c = look_steps c.args.ask.now c.ask_look.new.ask c.ask_step.new.ask c.finish_ask.new.ask c.args.words.now c.ask_step.new.words c.finish_ask.new.words c.finish_ask.result c.ask_look.ensures c.in_default.ensures c.finish_ask.ensures.steps
+returns-clause-steps c = let v : ℕ = get_or c.args.words.now 0 0 in let small : v < 2 ^ 64 = search rules in
+    look_steps c.args.ask.now c.ask_feed.new.ask c.finish_ask.new.ask c.args.words.now c.finish_ask.new.words c.finish_ask.result (first_steps c.args.ask.now c.ask_look.new.ask c.ask_feed.new.ask c.args.words.now v None c.ask_look.ensures c.requires.flies refl small c.in_default.ensures.state c.in_default.ensures.told) c.finish_ask.ensures.steps

@@ -1,9 +1,8 @@
-use Rattle.std.proofs.Common.{rules, ◌≡◌, ◌≢◌, ◌<◌, ◌+◌, ℕ, Bool, List, ◌++◌, length, take, drop, refl, sym, ap, ◌∙◌, subst, true, false}
+use Rattle.std.proofs.Common.{rules, ◌≡◌, ◌<◌, ℕ, List, ◌++◌, length, take, drop, refl, sym, ap, ◌∙◌, subst, true, false}
 use Rattle.std.specs.Prelude.{Option, Some, None, get_or}
 use Rattle.pcc_causes.specs.Clock.{line_reading}
 use Rattle.pcc_journal.specs.Records.{exchange_of_record}
-use Rattle.pcc_steps.specs.declared.ask.AskOutcome.{AskOutcome}
-use Rattle.pcc_steps.specs.declared.ask.AskOutcome.TheVariants.{Posted, Clear, Drained}
+use Rattle.pcc_steps.specs.declared.ask.AskOutcome.TheVariants.{Clear, Drained}
 use Rattle.pcc_steps.specs.Wires.{sees_done}
 use Rattle.pcc_steps.specs.Asking.{ask_looking}
 use Rattle.channel_turns.specs.declared.flight.Flight.{Flight}

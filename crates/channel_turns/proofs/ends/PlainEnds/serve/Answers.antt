@@ -1,12 +1,12 @@
-use Rattle.std.proofs.Common.{rules, ◌≡◌, ◌≢◌, ◌+◌, ℕ, List, ◌++◌, length, take, drop, sym, ap, ◌∙◌, subst, true, false, refl}
+use Rattle.std.proofs.Common.{rules, ◌≡◌, ◌≢◌, ◌+◌, ℕ, List, ◌++◌, length, take, drop, sym, ap, ◌∙◌, subst, true, refl}
 use Rattle.std.specs.Prelude.{Option, Some}
 use Rattle.pcc_steps.specs.declared.answer.AnswerOutcome.TheVariants.{Idle, Served}
 use Rattle.channel_turns.specs.ChannelRuns.{journal_limit}
-use Rattle.channel_turns.specs.EndsStates.{EndsState, Sent, Turned, count_waiting, executed_in, turned}
+use Rattle.channel_turns.specs.EndsStates.{EndsState, Sent, count_waiting, turned}
 use Rattle.channel_turns.specs.declared.outcome.Turn.TheVariants as turn
 use Rattle.channel_turns.specs.WordRuns.{AnswerKeeps, LineWas}
 use Rattle.channel_turns.specs.Standing.{Plain, seen, sent_of}
-use Rattle.channel_turns.proofs.Standings.{device_room, idle_rings, idle_stands, served_rings, served_stands, whole_words, with_words}
+use Rattle.channel_turns.proofs.Standings.{device_room, idle_stands, served_rings, served_stands, whole_words, with_words}
 use Rattle.channel_turns.proofs.Tellings.{turned_on}
 use Rattle.channel_turns.proofs.ends.PlainEnds.serve.Goals as goal
 

@@ -1,5 +1,4 @@
-use Rattle.std.proofs.Common.{rules, ◌≡◌, ◌≤◌, ℕ, List, length, sym, subst}
-use Rattle.channel_turns.specs.EndsStates.{ReadyState}
+use Rattle.std.proofs.Common.{rules, ◌≡◌, ◌≤◌, length}
 use Rattle.channel_turns.proofs.Standings.{front_bytes}
 use Rattle.channel_turns.proofs.ready.Ready.new.Goals as goal
 
