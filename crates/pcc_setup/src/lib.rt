@@ -11,7 +11,7 @@ mod text;
 pub use action::{ActionFault, are_banks, opens_banks};
 pub use opening::{OpenFault, Opened, OpenedList};
 pub use refusal::{InputError, Refusal, UseFault};
-pub use setup::{SetUp, SetUpError, checked_set_up, first_action, set_up};
+pub use setup::{SetUp, SetUpError, checked_set_up, first_action, set_up, set_up_laws};
 pub use table::whole_table;
 pub use text::refused_line;
 

@@ -1,7 +1,9 @@
 //! The checks of a script's set-up, one after the other.
 ghost use Rattle.std.specs.Prelude.{◌≡◌, true, MatchResult, length};
 ghost use Rattle.pcc_script.specs.Limits.{IsWithin};
+ghost use Rattle.pcc_script.specs.declared.scenario.Scenario.{Scenario};
 ghost use Rattle.pcct_table.specs.declared.table.Table.{Table};
+ghost use Rattle.pcc_setup.specs.declared.refusal.Refusal.{Refusal};
 ghost use Rattle.pcct_codec.specs.Tables.{TableBytes};
 ghost use Rattle.pcc_setup.specs.Openings.{AllOpen, opened_by};
 ghost use Rattle.pcc_setup.specs.RefusalText.{IsRefusedFor};
@@ -120,3 +122,8 @@ pub fn set_up(alloc: Global, scenario: &Scenario) -> Result<SetUp, SetUpError>
         Err(InputError::NoMemory) => Err(SetUpError::NoMemory),
     }
 }
+
+/// A script that passes all checks with a table isn't refused for one. It does nothing.
+pub fn set_up_laws()
+    ensures { (s : Scenario) (t : Table) (r : Refusal) → IsSetUp s t → SetUpRefused s r → ⊥ }
+{}

@@ -1,5 +1,5 @@
 -- Several opened subspaces: a call is answered by the channel with its ID, and each journal is that of a run on its channel alone.
-use Rattle.std.proofs.Common.{◌≡◌, ◌≢◌, ℕ, ◌+◌, ◌<◌, Bool, true, false, cond, ◌||◌, List, [], ◌∷◌, ◌++◌, length, get_or, map, set, take, drop, zero, suc, refl, sym, ap, ◌∙◌, subst, inl, inr, arith}
+use Rattle.std.proofs.Common.{◌≡◌, ◌≢◌, ℕ, ◌<◌, Bool, true, false, cond, ◌||◌, List, [], ◌∷◌, ◌++◌, length, get_or, map, set, take, drop, zero, suc, refl, sym, ap, ◌∙◌, subst, inl, inr, arith}
 use Rattle.std.specs.Prelude.{Option, Some, None, ◌==◌, ◌&&◌, slice_get}
 use Rattle.std.specs.List.{AllByRecursion, find, flat_map}
 use Rattle.std.specs.Option.{option_map}
@@ -18,7 +18,7 @@ use Rattle.pcc_setup.specs.declared.action.ActionFault.TheVariants.{NotBank}
 use Rattle.pcc_setup.specs.declared.opening.Opened.{Opened}
 use Rattle.pcc_setup.specs.Openings.{AllOpen, opened_by, opened_with, opens_id, structure_fault}
 use Rattle.pcc_setup.specs.SetUps.{action_fault, is_bank, opens_bank}
-use Rattle.pccrun_core.specs.BankChannels.{AreDistinct, OpenBank, channel_of, new_bank, start_of}
+use Rattle.pccrun_core.specs.BankChannels.{AreDistinct, OpenBank, channel_of, new_bank, start_of, waited_bank}
 use Rattle.pccrun_core.specs.Histories.{AreHistories, IsHistory, asked_by, asked_on}
 use Rattle.pccrun_core.specs.Replies.{Reply}
 use Rattle.pccrun_core.specs.SetUp.{channels_of, clock_of, run_of, set_up_of}
@@ -175,11 +175,7 @@ bank_call_at call bs i b apart e =
     call_at call (map channel_of bs) i (channel_of b) (subst AreDistinct (sym ids) apart) (map_at channel_of bs i b e)
     ∙ ap (λ (v : List Channel). record { reply = Some (answer_call (start_of b) call b.now).reply; channels = v }) (sym (map-set channel_of bs i next))
 
--- the clock of a Bank is moved up
-abbrev pub moved_up : ℕ → OpenBank → OpenBank
-moved_up n b = record b { now = record b.now { added = b.now.added + n } }
-
-pub banks_waited : (n : ℕ) (bs : List OpenBank) → map (waited n) (map channel_of bs) ≡ map channel_of (map (moved_up n) bs)
+pub banks_waited : (n : ℕ) (bs : List OpenBank) → map (waited n) (map channel_of bs) ≡ map channel_of (map (waited_bank n) bs)
 banks_waited n [] = refl
 banks_waited n (b ∷ bs) = ap (λ (v : List Channel). waited n (channel_of b) ∷ v) (banks_waited n bs)
 

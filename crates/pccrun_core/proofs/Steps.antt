@@ -1,18 +1,11 @@
 -- The lines of a served script, one after the other.
-use Rattle.std.proofs.Common.{◌≡◌, ℕ, ◌+◌, ◌<◌, ◌≤◌, true, eqb, List, [], ◌∷◌, ◌++◌, length, drop, get_or, refl, sym, ap, ◌∙◌, arith}
+use Rattle.std.proofs.Common.{◌≡◌, ℕ, ◌+◌, ◌<◌, ◌≤◌, List, [], ◌∷◌, ◌++◌, length, drop, get_or, refl, sym, ap, ◌∙◌, arith}
 use Rattle.std.specs.Prelude.{Option, Some, None}
-use Rattle.std.proofs.lemmas.Bool.Decides.{nat_tests}
 use Rattle.std.proofs.lemmas.List.{append_assoc, append-nil, drop_all, drop_more}
 use Rattle.pcc_script.specs.declared.scenario.Line.{Line}
 use Rattle.pccrun_core.specs.Replies.{Reply}
 use Rattle.pccrun_core.specs.ReplyText.{replies_text, reply_text}
-use Rattle.pccrun_core.specs.StepRun.{Call, Channel, Run, answer_call, call_on, step_run, turn_of}
-use Rattle.pccrun_core.specs.BankChannels.{OpenBank, channel_of, start_of}
-
--- a call on the subspace of a Bank that stands alone
-pub turn_is : (b : OpenBank) (id : ℕ) (call : Call) → b.head.id ≡ id
-    → call_on id call (channel_of b ∷ []) ≡ (let a = answer_call (start_of b) call b.now in record { reply = Some a.reply; channels = channel_of (record b { now = a.now }) ∷ [] })
-turn_is b id call e = let same : eqb b.head.id id ≡ true = grind (arith, nat_tests) in rw same refl
+use Rattle.pccrun_core.specs.StepRun.{Channel, Run, step_run, turn_of}
 
 -- lines that are run up to one of them: what is put and what the rest will put make the replies of all, and the rest leaves what all leave
 pub record Going (first : ℕ) (lines : List Line) (begin : List Channel) (before : List ℕ) (i : ℕ) (now : List Channel) (put : List ℕ) : Type 0 where

@@ -4,6 +4,7 @@
 mod banks;
 mod channel;
 mod command;
+mod laws;
 mod reply;
 mod script;
 mod served;
@@ -13,6 +14,7 @@ mod top;
 mod weave;
 mod worked;
 
+pub use laws::run_laws;
 pub use top::{Finished, run};
 pub use worked::worked_runs;
 
