@@ -9,14 +9,13 @@ ghost use Rattle.channel_turns.specs.EndsStates.{IsReadied, budgeted, command_of
 ghost use Rattle.channel_turns.specs.Standing.{IsHeadOf};
 ghost use Rattle.channel_turns.specs.declared.outcome.CallRefusal.TheVariants as refusal;
 
-use crate::clock::MovedClock;
 use crate::flight::{Flight, count_waiting, execute, lose};
 use crate::outcome::{CallRefusal, Look, Turn};
 use crate::ready::{Ready, fit};
 use crate::runs::{answer_run, look_run, post_run};
 use channel_plain::opening_words;
 use pcc_exec::Executor;
-use pcc_io::NoMemory;
+use pcc_io::{Clock, LineClock, NoMemory};
 use pcc_journal::{Journal, JournalHead, MAX_ITEMS, Pending};
 use pcc_steps::{AnswerOutcome, AnswerState, AskOutcome, AskState, Wiring, ask_budget};
 use rate_limit::earliest;
@@ -40,7 +39,7 @@ pub struct PlainEnds<E: Executor> {
     device: E,
     first: Snapshot<E>,
     opening: Snapshot<Vec<u8>>,
-    clock: MovedClock,
+    clock: LineClock,
     journal: Journal,
     flight: Option<Flight>,
     hold: u32,
@@ -89,7 +88,7 @@ impl<E: Executor> PlainEnds<E> {
             device,
             first,
             opening: Snapshot::of(&space),
-            clock: MovedClock::new(start, step),
+            clock: LineClock::new(start, step),
             journal: Journal::new(alloc),
             flight: None,
             hold: 0,

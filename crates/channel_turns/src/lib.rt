@@ -2,7 +2,6 @@
 //! call of a script's line over them (ACPI 6.5, chapter 14).
 #![tactic(auto)]
 
-mod clock;
 mod ends;
 mod flight;
 mod outcome;

@@ -3,7 +3,7 @@
 ghost use Rattle.std.specs.Prelude.{◌≡◌, ◌≤◌, ◌<◌, ◌+◌, ◌^◌, true, None, length, IfOk, OnErr};
 ghost use Rattle.std.specs.Option.{option_copied};
 ghost use Rattle.pcc_steps.specs.Wires.{IsRight};
-ghost use Rattle.channel_turns.specs.ChannelRuns.{pending_of};
+ghost use Rattle.channel_turns.specs.ChannelRuns.{journal_limit, pending_of};
 ghost use Rattle.channel_turns.specs.Calls.{IsAnswered, IsLate, IsPosted, IsRefused, new_channel, waited};
 ghost use Rattle.channel_turns.specs.EndsStates.{awaited, rings};
 ghost use Rattle.channel_turns.specs.Outcomes.{IsPlaced};
@@ -67,9 +67,12 @@ impl<E: Executor> TurnChannel<E> {
 
     /// The records, the first one first.
     pub fn records(&self) -> &[Record]
-        ensures { result.now ≡ self.now.now.records }
+        ensures items { result.now ≡ self.now.now.records }
+        ensures few { length result.now ≤ journal_limit }
     {
-        self.ends.journal().as_slice()
+        let journal = self.ends.journal();
+        journal.len();
+        journal.as_slice()
     }
 
     /// The command in flight.

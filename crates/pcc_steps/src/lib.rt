@@ -1,11 +1,10 @@
-//! Both ends of a channel, one word step at a time, and a whole call on a device in one step.
+//! Both ends of a channel, one word step at a time.
 #![tactic(auto)]
 
 mod answer;
 mod ask;
 mod block;
 mod laws;
-mod whole;
 mod wiring;
 
 pub use answer::{
@@ -19,7 +18,6 @@ pub use laws::{
     answering_laws, answering_tables, asked_laws, asking_laws, asking_tables, device_laws,
     history_laws,
 };
-pub use whole::whole_call;
 pub use wiring::{Action, Style, Wiring};
 
 #[cfg(test)]

@@ -91,9 +91,9 @@ returns-in-Some g c = let x = c.self.inside in let p : Plain = record { words = 
     let reply = drain_reply exec is_state room_of x.head x.clock first opening p q x.journal cs x.hold c.in-Drained.error left steps k in
     let entry : c.recorded-entry.result ≡ record { caller = f.command.caller; code = f.command.code; input = f.command.input; error = c.in-Drained.error; output = q.ask.space; post = f.command.post; done = c.now-done.result; late = is_lost cs } = c.recorded-entry.ensures ∙ ap (λ (o : List ℕ). record { caller = f.command.caller; code = f.command.code; input = f.command.input; error = c.in-Drained.error; output = o; post = f.command.post; done = c.now-done.result; late = is_lost cs }) c.space.ensures in
     let none : c.take.new.self ≡ None = c.in-Some.ensures.after in
-    let reads : c.now-done.result ≡ line_reading x.clock.start x.clock.step x.clock.added x.clock.taken = c.now-done.ensures.reading in
+    let reads : c.now-done.result ≡ line_reading x.clock.start x.clock.step x.clock.added x.clock.taken = c.now-done.ensures.exact in
     let read : c.recorded-entry.result ≡ record { caller = f.command.caller; code = f.command.code; input = f.command.input; error = c.in-Drained.error; output = q.ask.space; post = f.command.post; done = line_reading x.clock.start x.clock.step x.clock.added x.clock.taken; late = is_lost cs } = entry ∙ ap (λ (n : ℕ). record { caller = f.command.caller; code = f.command.code; input = f.command.input; error = c.in-Drained.error; output = q.ask.space; post = f.command.post; done = n; late = is_lost cs }) reads in
     let was : record { now = seen exec x.head x.clock first opening p x.journal (Some cs) x.hold; told = look.Clear 0 } ≡ record { now = c.args.self.now; told = look.Clear 0 } = ap (λ (o : Option Flight). record { now = seen exec x.head x.clock first opening p x.journal (sent_of o) x.hold; told = look.Clear 0 }) (sym ef) ∙ ap (λ (z : EndsState). record { now = z; told = look.Clear 0 }) c.self.view_is in
     subst (λ (o : Option Flight). record { now = seen exec x.head c.now-done.new.self first opening q c.append.new.self (sent_of o) x.hold; told = look.Drained c.len-place.result (is_lost cs) } ≡ looked exec c.args.self.now) (sym none)
     (subst (λ (z : Looked). record { now = seen exec x.head c.now-done.new.self first opening q c.append.new.self None x.hold; told = look.Drained c.len-place.result (is_lost cs) } ≡ looked exec z.now) was
-    (drained_is exec x.head x.clock first opening p q x.journal c.append.new.self cs x.hold c.len-place.result (is_lost cs) c.in-Drained.error c.now-done.new.self c.recorded-entry.result reply.0 reply.1 read c.now-done.ensures.rest c.append.ensures.items c.append.ensures.spare steps.budget steps.looks c.len-place.ensures.value refl))
+    (drained_is exec x.head x.clock first opening p q x.journal c.append.new.self cs x.hold c.len-place.result (is_lost cs) c.in-Drained.error c.now-done.new.self c.recorded-entry.result reply.0 reply.1 read (c.now-done.ensures.rest ∙ ap (λ (n : ℕ). record x.clock { taken = n }) c.now-done.ensures.count) c.append.ensures.items c.append.ensures.spare steps.budget steps.looks c.len-place.ensures.value refl))
