@@ -1,5 +1,5 @@
 -- The checks of a set-up, one behind the other, and that a script that passes them isn't refused.
-use Rattle.std.proofs.Common.{◌≡◌, ℕ, ◌+◌, ◌-◌, ◌^◌, ◌<◌, ◌≤◌, List, [], length, refl, sym, ap, ◌∙◌, subst, arith}
+use Rattle.std.proofs.Common.{◌≡◌, ℕ, ◌+◌, List, length, sym, subst}
 use Rattle.std.specs.Prelude.{Option, Some, None, slice_get, take}
 use Rattle.std.proofs.lemmas.Option.{slice_get_within}
 use Rattle.pcct_codec.proofs.Headers.{one_table}
@@ -8,7 +8,6 @@ use Rattle.pcct_table.specs.declared.table.Table.{Table}
 use Rattle.pcct_codec.specs.Tables.{TableBytes}
 use Rattle.pcc_script.specs.declared.scenario.Line.{Line}
 use Rattle.pcc_script.specs.declared.scenario.Scenario.{Scenario}
-use Rattle.pcc_script.specs.Limits.{IsWithin}
 use Rattle.pcc_wiring.specs.declared.overlap.Overlap.{Overlap}
 use Rattle.pcc_wiring.specs.Overlaps.{AreApart, IsFirstOverlap}
 use Rattle.pcc_setup.specs.declared.action.ActionFault.{ActionFault}

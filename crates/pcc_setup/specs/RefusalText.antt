@@ -1,5 +1,5 @@
 -- The one line that tells why an input is refused.
-use Rattle.std.specs.Prelude.{◌≡◌, ℕ, List, [], ◌∷◌, ◌++◌, codes}
+use Rattle.std.specs.Prelude.{ℕ, List, [], ◌∷◌, ◌++◌, codes}
 use Rattle.pcc_text.specs.Pieces.{Spelled, Words, Decimal, spelled}
 use Rattle.pcc_script.specs.declared.fault.ScriptKind.{ScriptKind}
 use Rattle.pcc_script.specs.declared.fault.ScriptKind.TheVariants as script
@@ -7,6 +7,7 @@ use Rattle.pcct_table.specs.declared.build.BuildKind.{BuildKind}
 use Rattle.pcct_table.specs.declared.build.BuildKind.TheVariants as kind
 use Rattle.pcct_codec.specs.declared.fault.TableFault.{TableFault}
 use Rattle.pcct_codec.specs.declared.fault.TableFault.TheVariants.{Short, Signature, LengthOutside, Revision, TooMany, Overrun, SubspaceType, SubspaceLength, Checksum, ReadFault, NoMemory}
+use Rattle.cpc_package.specs.PackageText.{kind_text}
 use Rattle.pcc_wiring.specs.declared.fault.Role.{Role}
 use Rattle.pcc_wiring.specs.declared.fault.Role.TheVariants as role
 use Rattle.pcc_wiring.specs.declared.fault.WiringFault.{WiringFault}
@@ -96,6 +97,8 @@ refusal_pieces (refusal.TableText line wrong) = line_pieces line (kind_word wron
 refusal_pieces (refusal.Action line fault) = line_pieces line (action_word fault)
 refusal_pieces (refusal.Table fault) = Words (codes "table ") ∷ fault_pieces fault
 refusal_pieces (refusal.Trailing at) = Words (codes "table trailing ") ∷ Decimal at ∷ []
+refusal_pieces (refusal.Package fault) = Words (codes "package ") ∷ Words (kind_text fault.kind) ∷ Words (codes " ") ∷ Decimal fault.entry ∷ Words (codes " ") ∷ Decimal fault.at ∷ []
+refusal_pieces (refusal.PackageTrailing at) = Words (codes "package trailing ") ∷ Decimal at ∷ []
 refusal_pieces (refusal.Open id fault) = Words (codes "open ") ∷ Decimal id ∷ Words (codes " ") ∷ open_pieces fault
 refusal_pieces (refusal.Meet found) = Words (codes "overlap ") ∷ Decimal found.a ∷ Words (codes " ") ∷ Decimal found.b ∷ []
 refusal_pieces (refusal.Use fault) = Words (codes "use ") ∷ Words (use_word fault) ∷ []

@@ -4,6 +4,7 @@ ghost use Rattle.pcc_setup.specs.declared.refusal.InputError.TheVariants.{NoMemo
 
 use crate::action::ActionFault;
 use crate::opening::OpenFault;
+use cpc_package::CpcFault;
 use pcc_io::NoMemory;
 use pcc_script::ScriptKind;
 use pcc_wiring::Overlap;
@@ -38,6 +39,10 @@ pub enum Refusal {
     Table(TableFault),
     /// Bytes stand behind a table, from this place on.
     Trailing { at: usize },
+    /// The bytes begin with no package: the first thing that is wrong.
+    Package(CpcFault),
+    /// Bytes stand behind a package, from this place on.
+    PackageTrailing { at: usize },
     /// The subspace with this ID can't be opened.
     Open { id: u8, fault: OpenFault },
     /// The memories of two opened subspaces meet.

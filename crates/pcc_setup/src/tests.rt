@@ -2,6 +2,7 @@ use crate::{
     ActionFault, InputError, OpenFault, Refusal, SetUpError, UseFault, checked_set_up,
     first_action, opens_banks, refused_line, set_up, whole_table,
 };
+use cpc_package::{CpcFault, CpcKind};
 use pcc_io::Bytes;
 use pcc_script::{ScriptKind, scenario_from, within_limits};
 use pcc_text::put_hex;
@@ -155,7 +156,7 @@ fn lines_of_refusals(rt: HostRuntime) -> Result<(), Fail> {
     let register = WiringFault::RegisterWidth {
         role: Role::Acknowledge,
     };
-    let rows: [(Refusal, &[u8]); 10] = [
+    let rows: [(Refusal, &[u8]); 12] = [
         (Refusal::Long, b"refused long\n"),
         (
             Refusal::Script {
@@ -185,6 +186,18 @@ fn lines_of_refusals(rt: HostRuntime) -> Result<(), Fail> {
                 found: 62,
             }),
             b"refused table size 48 2 62\n",
+        ),
+        (
+            Refusal::Package(CpcFault {
+                entry: 7,
+                at: 38,
+                kind: CpcKind::NotRegister,
+            }),
+            b"refused package not register 7 38\n",
+        ),
+        (
+            Refusal::PackageTrailing { at: 279 },
+            b"refused package trailing 279\n",
         ),
         (
             Refusal::Open {

@@ -8,6 +8,7 @@ ghost use Rattle.pcc_setup.specs.RefusalText.{HasLine, IsTold, action_word, faul
 use crate::action::ActionFault;
 use crate::opening::OpenFault;
 use crate::refusal::{Refusal, UseFault};
+use cpc_package::CpcFault;
 use pcc_io::NoMemory;
 use pcc_script::ScriptKind;
 use pcc_text::{Piece, put, put_pieces};
@@ -213,6 +214,23 @@ fn put_use(out: &mut Vec<u8>, fault: UseFault) -> Result<(), NoMemory>
     put_pieces(out, &[Piece::Text(b"use "), Piece::Text(word)])
 }
 
+fn put_package(out: &mut Vec<u8>, fault: CpcFault) -> Result<(), NoMemory>
+    ensures { OnOk result (out.new.items ≡ out.old.items ++ spelled (refusal_pieces (refusal.Package fault))) }
+{
+    let kind = fault.kind.text();
+    put_pieces(
+        out,
+        &[
+            Piece::Text(b"package "),
+            Piece::Text(kind),
+            Piece::Text(b" "),
+            Piece::Number(fault.entry as u64),
+            Piece::Text(b" "),
+            Piece::Number(fault.at as u64),
+        ],
+    )
+}
+
 fn put_refusal(out: &mut Vec<u8>, refusal: Refusal) -> Result<(), NoMemory>
     requires { HasLine refusal }
     ensures { OnOk result (out.new.items ≡ out.old.items ++ spelled (refusal_pieces refusal)) }
@@ -229,6 +247,11 @@ fn put_refusal(out: &mut Vec<u8>, refusal: Refusal) -> Result<(), NoMemory>
         Refusal::Trailing { at } => put_pieces(
             out,
             &[Piece::Text(b"table trailing "), Piece::Number(at as u64)],
+        ),
+        Refusal::Package(fault) => put_package(out, fault),
+        Refusal::PackageTrailing { at } => put_pieces(
+            out,
+            &[Piece::Text(b"package trailing "), Piece::Number(at as u64)],
         ),
         Refusal::Open { id, fault } => put_open(out, id, fault),
         Refusal::Meet(found) => put_overlap(out, found),

@@ -1,4 +1,4 @@
-use Rattle.std.proofs.Common.{◌≡◌, ℕ, ◌+◌, ap, subst}
+use Rattle.std.proofs.Common.{ℕ, ◌+◌, ap, subst}
 use Rattle.pcc_wiring.specs.Overlaps.{AreApart}
 use Rattle.pcc_setup.proofs.Checks.{wrong_action}
 use Rattle.pcc_setup.proofs.setup.finish.Goals as goal

@@ -8,3 +8,6 @@ pub returns-in_ok-put-in-Table : goal.returns-in_ok-put-in-Table
 unfolding spelled
 returns-in_ok-put-in-Table c =
     rw c.in-Table.is (put_behind c.put_fault.result c.args.out.now.items c.put.new.out.items c.put_fault.new.out.items (codes "table ") (spelled (fault_pieces c.in-Table.fault)) c.in_ok-put-in-Table.ensures c.put_fault.ensures)
+
+pub returns-in-PackageTrailing : goal.returns-in-PackageTrailing
+returns-in-PackageTrailing c = rw c.in-PackageTrailing.is c.put_pieces-in-PackageTrailing.ensures
