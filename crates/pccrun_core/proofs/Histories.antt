@@ -16,8 +16,9 @@ use Rattle.rate_limit.proofs.Law.{exact as post_exact, completed as completion_k
 use Rattle.std.proofs.lemmas.Bool.{ltb-false}
 use Rattle.pcc_script.specs.declared.scenario.Line.{Line}
 use Rattle.pcc_script.specs.declared.scenario.Line.TheVariants as line
-use Rattle.pccrun_core.specs.Replies.{Reply, BadCode, TooLong, JournalFull}
-use Rattle.pccrun_core.specs.StepRun.{Answered, Call, Channel, ChannelStart, ChannelState, InFlight, Turn, Run, after_post, answer_behind, answer_call, answer_unless, completed, exchange_with, fresh, next_reading, post_call, post_of, record_of, refusal_of, step_run, turn_of}
+use Rattle.channel_turns.specs.Replies.{Reply, BadCode, TooLong, JournalFull}
+use Rattle.channel_turns.specs.ChannelRuns.{Answered, Call, Channel, ChannelStart, ChannelState, InFlight, after_post, answer_behind, answer_call, answer_unless, completed, exchange_with, fresh, next_reading, post_call, post_of, record_of, refusal_of}
+use Rattle.pccrun_core.specs.StepRun.{Turn, Run, step_run, turn_of}
 use Rattle.pccrun_core.specs.Histories.{AreHistories, IsHistory, asked_by, asked_on, is_posted}
 
 -- ---- histories that grow

@@ -46,7 +46,7 @@ text_wrong text line kind only h = WrongLine (λ t has is. never line kind (only
 -- ---- scripts
 
 -- not all that a scenario asks for is built
-pub not_built : (cmd : Command) (text : List ℕ) (s : Scenario) → IsScenario s → text ≡ script_text s → is_built cmd s ≡ false → ScriptRefused cmd text refusal.Unbuilt × Unit {0}
+pub not_built : (cmd : Command) (text : List ℕ) (s : Scenario) → IsScenario s → text ≡ script_text s → is_built s ≡ false → ScriptRefused cmd text refusal.Unbuilt × Unit {0}
 not_built cmd text s scenario spelled none = (NotBuilt s (record { spelled = spelled; scenario = scenario }) none, tt)
 
 -- a text with a fault is no scenario's
@@ -63,7 +63,7 @@ one_scenario text s u h k =
     is_only text (Ok s) u (reads_again text (statements_of s) h.scenario.right h.scenario.whole h.spelled) k.scenario k.spelled
 
 -- a scenario that isn't served
-pub not_served : (cmd : Command) (text : List ℕ) (s : Scenario) (e : InputError) → IsScript cmd text s → IsRefusedFor (NotServed cmd s) e → IsRefusedFor (ScriptRefused cmd text) e
+pub not_served : (cmd : Command) (text : List ℕ) (s : Scenario) (e : InputError) → IsScript text s → IsRefusedFor (NotServed cmd s) e → IsRefusedFor (ScriptRefused cmd text) e
 not_served cmd text s (error.Refused r) h k = (Unserved s h r k.0, k.1)
 not_served cmd text s error.NoMemory h k = tt
 
@@ -73,7 +73,7 @@ used_by cmd s os h none = (h.0, record { set_up = h.1; used = none }, h.2)
 pub not_used : (cmd : Command) (s : Scenario) (os : List Opened) (fault : UseFault) → ((t : Table) × IsSetUp s t × (os ≡ opened_by t s.opens)) → use_fault cmd s ≡ Some fault → NotServed cmd s (refusal.Use fault) × Unit {0}
 not_used cmd s os fault h is = (ByUse h.0 h.1 fault is, tt)
 
-pub is_served : (cmd : Command) (text : List ℕ) (s : Scenario) (os : List Opened) → IsScript cmd text s → ((t : Table) × ServedBy cmd s t × (os ≡ opened_by t s.opens)) → (t : Table) × IsServedScript cmd text s t × (os ≡ opened_by t s.opens)
+pub is_served : (cmd : Command) (text : List ℕ) (s : Scenario) (os : List Opened) → IsScript text s → ((t : Table) × ServedBy cmd s t × (os ≡ opened_by t s.opens)) → (t : Table) × IsServedScript cmd text s t × (os ≡ opened_by t s.opens)
 is_served cmd text s os h k = (k.0, record { script = h; served = k.1 }, k.2)
 
 pub not_set_up : (cmd : Command) (s : Scenario) (e : InputError) → IsRefusedFor (SetUpRefused s) e → IsRefusedFor (NotServed cmd s) e
@@ -81,12 +81,12 @@ not_set_up cmd s (error.Refused r) k = (BySetUp r k.0, k.1)
 not_set_up cmd s error.NoMemory k = tt
 
 -- a served script is not refused
-pub script_kept : (cmd : Command) (text : List ℕ) (s : Scenario) (t : Table) (r : Refusal) → IsScript cmd text s → ServedBy cmd s t → ScriptRefused cmd text r → ⊥
+pub script_kept : (cmd : Command) (text : List ℕ) (s : Scenario) (t : Table) (r : Refusal) → IsScript text s → ServedBy cmd s t → ScriptRefused cmd text r → ⊥
 script_kept cmd text s t r h served (WrongScript none line kind wrong) = none s h.spells
 script_kept cmd text s t r h served (NotBuilt u spells none) =
     let same : u ≡ s = one_scenario text u s spells h.spells in
-    let built : is_built cmd s ≡ true = h.built in
-    let not_ : is_built cmd s ≡ false = subst (λ (v : Scenario). is_built cmd v ≡ false) same none in
+    let built : is_built s ≡ true = h.built in
+    let not_ : is_built s ≡ false = subst (λ (v : Scenario). is_built v ≡ false) same none in
     absurd cc
 script_kept cmd text s t r h served (Unserved u k q (BySetUp p refused)) =
     let same : u ≡ s = one_scenario text u s k.spells h.spells in

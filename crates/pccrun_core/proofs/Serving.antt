@@ -14,10 +14,12 @@ use Rattle.pcc_setup.specs.declared.action.ActionFault.TheVariants.{NotBank}
 use Rattle.pcc_setup.specs.declared.opening.Opened.{Opened}
 use Rattle.pcc_setup.specs.Openings.{AllOpen, fault_by, head_of, line_fault, opened_by, opened_with, structure_fault}
 use Rattle.pcc_setup.specs.SetUps.{IsSetUp, action_fault, first_action, is_bank, opens_bank, opens_banks}
-use Rattle.pccrun_core.specs.declared.command.Command.{Command}
 use Rattle.pccrun_core.specs.declared.command.Command.TheVariants as command
-use Rattle.pccrun_core.specs.BankChannels.{AreDistinct, IsEarly, IsOnOneOf, OpenBank, channel_of, ids_of, new_bank}
+use Rattle.channel_turns.specs.Calls.{OpenChannel}
+use Rattle.pccrun_core.specs.BankChannels.{AreDistinct, IsEarly, IsOnOneOf, IsWired, channel_of, ids_of, new_bank}
 use Rattle.pcc_setup.specs.declared.refusal.UseFault.TheVariants.{Bank, Many, Pick, Wait}
+use Rattle.pcc_steps.specs.Wires.{IsRight}
+use Rattle.pcc_wiring.specs.declared.fault.Asks.{Asks}
 use Rattle.pcc_wiring.specs.declared.fault.Asks.TheVariants.{System}
 use Rattle.pcc_wiring.specs.declared.fault.WiringFault.{WiringFault}
 use Rattle.pcc_wiring.specs.Faults.{fault_of}
@@ -26,16 +28,17 @@ use Rattle.pccrun_core.specs.Answers.{IsServedScript, Makes, ServedBy}
 use Rattle.pccrun_core.specs.ReplyText.{replies_text}
 use Rattle.pccrun_core.specs.SetUp.{channel_journal, clock_of, is_built, is_built_line, is_wait, run_text, set_up_of, step_text, weave_fault}
 use Rattle.pccrun_core.specs.Weaving.{IsCall, IsOpenedAlone, IsWoven}
-use Rattle.pccrun_core.specs.StepRun.{Channel, step_run}
-use Rattle.pccrun_core.proofs.Several.{id_of, opens_apart, set_up_ids, set_up_opened}
+use Rattle.channel_turns.specs.ChannelRuns.{Channel}
+use Rattle.pccrun_core.specs.StepRun.{step_run}
+use Rattle.pccrun_core.proofs.Several.{id_of, open_rest, opens_apart, set_up_ids, set_up_opened}
 
 -- ---- the Banks of a script
 
-abbrev pub AreBanksOf : Scenario → List Opened → List OpenBank → Type 0
+abbrev pub AreBanksOf : Scenario → List Opened → List OpenChannel → Type 0
 AreBanksOf s os bs = bs ≡ map (λ o. new_bank o.head (clock_of s)) os
 
 -- their IDs are those of the lines
-ids_are : (s : Scenario) (t : Table) (bs : List OpenBank) → AllOpen t s.opens (length s.opens) → AreBanksOf s (opened_by t s.opens) bs → ids_of bs ≡ map (λ o. o.id) s.opens
+ids_are : (s : Scenario) (t : Table) (bs : List OpenChannel) → AllOpen t s.opens (length s.opens) → AreBanksOf s (opened_by t s.opens) bs → ids_of bs ≡ map (λ o. o.id) s.opens
 ids_are s t bs h e =
     ap ids_of e ∙ each (opened_by t s.opens) ∙ sym (ap (map id_of) (set_up_opened s t)) ∙ set_up_ids (clock_of s) t s.opens h
   where
@@ -43,7 +46,7 @@ ids_are s t bs h e =
     each [] = refl
     each (o ∷ os) = ap (λ (v : List ℕ). o.head.id ∷ v) (each os)
 
-pub channels_are : (s : Scenario) (t : Table) (bs : List OpenBank) → AreBanksOf s (opened_by t s.opens) bs → map channel_of bs ≡ set_up_of s t
+pub channels_are : (s : Scenario) (t : Table) (bs : List OpenChannel) → AreBanksOf s (opened_by t s.opens) bs → map channel_of bs ≡ set_up_of s t
 channels_are s t bs e = ap (map channel_of) e ∙ each (opened_by t s.opens) ∙ sym (set_up_opened s t)
   where
     each : (os : List Opened) → map channel_of (map (λ (o : Opened). new_bank o.head (clock_of s)) os) ≡ map (λ (o : Opened). channel_of (new_bank o.head (clock_of s))) os
@@ -73,17 +76,17 @@ each_line : (P : Line → Type 0) (ls : List Line) → ((i : ℕ) (l : Line) →
 each_line P [] h = tt
 each_line P (l ∷ ls) h = (h zero l (omega arith) refl, each_line P ls (λ i x lt e. h (suc i) x (omega (arith, lt)) e))
 
-pub banks_named : (s : Scenario) (os : List Opened) (bs : List OpenBank) → ((t : Table) × IsSetUp s t × (os ≡ opened_by t s.opens)) → AreBanksOf s os bs → AllByRecursion (IsOnOneOf (ids_of bs)) s.actions
+pub banks_named : (s : Scenario) (os : List Opened) (bs : List OpenChannel) → ((t : Table) × IsSetUp s t × (os ≡ opened_by t s.opens)) → AreBanksOf s os bs → AllByRecursion (IsOnOneOf (ids_of bs)) s.actions
 banks_named s os bs h e =
     let ids : ids_of bs ≡ map (λ o. o.id) s.opens = ids_are s h.0 bs h.1.all_open (e ∙ ap (map (λ (o : Opened). new_bank o.head (clock_of s))) h.2) in
     subst (λ (v : List ℕ). AllByRecursion (IsOnOneOf v) s.actions) (sym ids) (each_line (IsOnOneOf (map (λ o. o.id) s.opens)) s.actions (λ i l lt at. named s l (h.1.named i l lt at)))
 
-pub banks_distinct : (s : Scenario) (os : List Opened) (bs : List OpenBank) → ((t : Table) × IsSetUp s t × (os ≡ opened_by t s.opens)) → AreBanksOf s os bs → AreDistinct (ids_of bs)
+pub banks_distinct : (s : Scenario) (os : List Opened) (bs : List OpenChannel) → ((t : Table) × IsSetUp s t × (os ≡ opened_by t s.opens)) → AreBanksOf s os bs → AreDistinct (ids_of bs)
 banks_distinct s os bs h e =
     let ids : ids_of bs ≡ map (λ o. o.id) s.opens = ids_are s h.0 bs h.1.all_open (e ∙ ap (map (λ (o : Opened). new_bank o.head (clock_of s))) h.2) in
     subst AreDistinct (sym ids) (opens_apart h.0 s.opens h.1.all_open)
 
-pub banks_early : (s : Scenario) (os : List Opened) (bs : List OpenBank) → AreBanksOf s os bs → AllByRecursion (IsEarly 0) bs
+pub banks_early : (s : Scenario) (os : List Opened) (bs : List OpenChannel) → AreBanksOf s os bs → AllByRecursion (IsEarly 0) bs
 banks_early s os bs e = subst (AllByRecursion (IsEarly 0)) (sym e) (all os)
   where
     all : (os : List Opened) → AllByRecursion (IsEarly 0) (map (λ (o : Opened). new_bank o.head (clock_of s)) os)
@@ -97,11 +100,11 @@ both_of : (a b : Bool) → (a && b) ≡ true → b ≡ true
 both_of true b e = e
 both_of false b e = absurd cc
 
-pub built_lines : (c : Command) (s : Scenario) → is_built c s ≡ true → list_all (is_built_line c) s.actions ≡ true
-built_lines c s h = both_of (opens_banks s) (list_all (is_built_line c) s.actions) h
+pub built_lines : (s : Scenario) → is_built s ≡ true → list_all is_built_line s.actions ≡ true
+built_lines s h = both_of (opens_banks s) (list_all is_built_line s.actions) h
 
 -- what `step` prints for it
-pub text_is : (s : Scenario) (t : Table) (os : List Opened) (bs after : List OpenBank) (none put text : List ℕ) (first : ℕ) → os ≡ opened_by t s.opens → AreBanksOf s os bs → first ≡ first_action s → none ≡ []
+pub text_is : (s : Scenario) (t : Table) (os : List Opened) (bs after : List OpenChannel) (none put text : List ℕ) (first : ℕ) → os ≡ opened_by t s.opens → AreBanksOf s os bs → first ≡ first_action s → none ≡ []
     → put ≡ none ++ replies_text first (step_run s.actions (map channel_of bs)).replies → (step_run s.actions (map channel_of bs)).channels ≡ map channel_of after
     → text ≡ put ++ flat_map channel_journal (map channel_of after) → text ≡ step_text s t
 unfolding step_text
@@ -146,6 +149,20 @@ there : (m : Option Subspace) → structure_fault false m ≡ None → (u : Subs
 there None e = absurd cc
 there (Some u) e = (u, refl, no_wiring_fault (fault_of System u) e)
 
+-- both ends can work with what it opens
+abbrev AreRight : Type 0
+AreRight = (asks : Asks) (id flags : ℕ) (s : Subspace) → fault_of asks s ≡ None → IsRight (wiring_with id flags s)
+
+opened_wired : AreRight → (t : Table) (opens : List OpenLine) → AllOpen t opens (length opens) → AllByRecursion IsWired (opened_by t opens)
+opened_wired right t [] h = tt
+opened_wired right t (o ∷ os) h =
+    let u = there (slice_get t.subspaces o.id) (h zero o (omega arith) refl) in
+    let here : IsWired (record { head = head_of o.id u.0; wiring = wiring_with o.id t.flags u.0; image = [] }) = record { right = right System o.id t.flags u.0 u.2; head = record { kind = refl; room = refl; reports = refl } } in
+    rw u.1 (here, opened_wired right t os (open_rest t o os h))
+
+pub wired : AreRight → (s : Scenario) (os : List Opened) → ((t : Table) × IsSetUp s t × (os ≡ opened_by t s.opens)) → AllByRecursion IsWired os
+wired right s os h = subst (AllByRecursion IsWired) (sym h.2) (opened_wired right h.0 s.opens h.1.all_open)
+
 -- the one subspace that it opens
 abbrev pub Alone : Scenario → Table → List Opened → Type 0
 Alone s t os = (x : Opened) × (os ≡ x ∷ []) × (h : IsOpenedAlone s t x) × (fault_of System h.subspace ≡ None)
@@ -172,14 +189,14 @@ pub some_opened : (s : Scenario) (t : Table) (os : List Opened) → Alone s t os
 some_opened s t os a = let n : length os ≡ 1 = ap length a.1 in omega (arith, n)
 
 -- it has calls alone
-pub calls_alone : (s : Scenario) (t : Table) → ServedBy command.Weave s t → is_built command.Weave s ≡ true → AllByRecursion IsCall s.actions
-calls_alone s t h built = go s.actions (built_lines command.Weave s built) (weave_passes s h.used).has_no_wait
+pub calls_alone : (s : Scenario) (t : Table) → ServedBy command.Weave s t → is_built s ≡ true → AllByRecursion IsCall s.actions
+calls_alone s t h built = go s.actions (built_lines s built) (weave_passes s h.used).has_no_wait
   where
     or_false : (a b : Bool) → (a || b) ≡ false → b ≡ false
     or_false true b e = absurd cc
     or_false false b e = e
 
-    go : (ls : List Line) → list_all (is_built_line command.Weave) ls ≡ true → list_any is_wait ls ≡ false → AllByRecursion IsCall ls
+    go : (ls : List Line) → list_all is_built_line ls ≡ true → list_any is_wait ls ≡ false → AllByRecursion IsCall ls
     go [] a b = tt
     go (line.Call worker subspace code bytes polls hold ∷ ls) a b = (tt, go ls a b)
     go (line.Read worker cpu polls hold ∷ ls) a b = absurd cc

@@ -1,5 +1,5 @@
 -- Several opened subspaces: a call is answered by the channel with its ID, and each journal is that of a run on its channel alone.
-use Rattle.std.proofs.Common.{◌≡◌, ◌≢◌, ℕ, ◌<◌, Bool, true, false, cond, ◌||◌, List, [], ◌∷◌, ◌++◌, length, get_or, map, set, take, drop, zero, suc, refl, sym, ap, ◌∙◌, subst, inl, inr, arith}
+use Rattle.std.proofs.Common.{◌≡◌, ◌≢◌, ℕ, ◌+◌, ◌-◌, ◌^◌, ◌<◌, min, Bool, true, false, cond, ◌||◌, List, [], ◌∷◌, ◌++◌, length, get_or, map, set, take, drop, zero, suc, refl, sym, ap, ◌∙◌, subst, inl, inr, arith}
 use Rattle.std.specs.Prelude.{Option, Some, None, ◌==◌, ◌&&◌, slice_get}
 use Rattle.std.specs.List.{AllByRecursion, find, flat_map}
 use Rattle.std.specs.Option.{option_map}
@@ -18,11 +18,14 @@ use Rattle.pcc_setup.specs.declared.action.ActionFault.TheVariants.{NotBank}
 use Rattle.pcc_setup.specs.declared.opening.Opened.{Opened}
 use Rattle.pcc_setup.specs.Openings.{AllOpen, opened_by, opened_with, opens_id, structure_fault}
 use Rattle.pcc_setup.specs.SetUps.{action_fault, is_bank, opens_bank}
-use Rattle.pccrun_core.specs.BankChannels.{AreDistinct, OpenBank, channel_of, new_bank, start_of, waited_bank}
+use Rattle.channel_turns.specs.Calls.{OpenChannel, start_by}
+use Rattle.pcc_history.specs.Devices.{bank_exec}
+use Rattle.pccrun_core.specs.BankChannels.{AreDistinct, channel_of, new_bank, waited_bank}
 use Rattle.pccrun_core.specs.Histories.{AreHistories, IsHistory, asked_by, asked_on}
-use Rattle.pccrun_core.specs.Replies.{Reply}
+use Rattle.channel_turns.specs.Replies.{Reply}
 use Rattle.pccrun_core.specs.SetUp.{channels_of, clock_of, run_of, set_up_of}
-use Rattle.pccrun_core.specs.StepRun.{Call, Channel, ChannelStart, Run, ScriptClock, Turn, answer_call, call_on, fresh, step_run, turn_of, waited}
+use Rattle.channel_turns.specs.ChannelRuns.{Call, Channel, ChannelStart, ScriptClock, answer_call, fresh}
+use Rattle.pccrun_core.specs.StepRun.{Run, Turn, call_on, step_run, turn_of, waited}
 use Rattle.pccrun_core.proofs.Histories.{run_histories}
 
 -- ---- lists
@@ -167,17 +170,20 @@ found_place id (d ∷ ds) c e = at (d.start.head.id == id) refl e (found_place i
     at false test is later = let found : (i : ℕ) × (slice_get ds i ≡ Some c) × (c.start.head.id ≡ id) = later is in (suc found.0, found.1, found.2)
 
 -- the same of Banks: a call on one of them, and a wait
-pub bank_call_at : (call : Call) (bs : List OpenBank) (i : ℕ) (b : OpenBank) → AreDistinct (map (λ b. b.head.id) bs) → slice_get bs i ≡ Some b
-    → call_on b.head.id call (map channel_of bs) ≡ record { reply = Some (answer_call (start_of b) call b.now).reply; channels = map channel_of (set bs i (record b { now = (answer_call (start_of b) call b.now).now })) }
+pub bank_call_at : (call : Call) (bs : List OpenChannel) (i : ℕ) (b : OpenChannel) → AreDistinct (map (λ b. b.head.id) bs) → slice_get bs i ≡ Some b
+    → call_on b.head.id call (map channel_of bs) ≡ record { reply = Some (answer_call (start_by bank_exec b) call b.now).reply; channels = map channel_of (set bs i (record b { now = (answer_call (start_by bank_exec b) call b.now).now })) }
 bank_call_at call bs i b apart e =
-    let ids : map id_of (map channel_of bs) ≡ map (λ (b : OpenBank). b.head.id) bs = map_map id_of channel_of bs in
-    let next : OpenBank = record b { now = (answer_call (start_of b) call b.now).now } in
+    let ids : map id_of (map channel_of bs) ≡ map (λ (b : OpenChannel). b.head.id) bs = map_map id_of channel_of bs in
+    let next : OpenChannel = record b { now = (answer_call (start_by bank_exec b) call b.now).now } in
     call_at call (map channel_of bs) i (channel_of b) (subst AreDistinct (sym ids) apart) (map_at channel_of bs i b e)
-    ∙ ap (λ (v : List Channel). record { reply = Some (answer_call (start_of b) call b.now).reply; channels = v }) (sym (map-set channel_of bs i next))
+    ∙ ap (λ (v : List Channel). record { reply = Some (answer_call (start_by bank_exec b) call b.now).reply; channels = v }) (sym (map-set channel_of bs i next))
 
-pub banks_waited : (n : ℕ) (bs : List OpenBank) → map (waited n) (map channel_of bs) ≡ map channel_of (map (waited_bank n) bs)
-banks_waited n [] = refl
-banks_waited n (b ∷ bs) = ap (λ (v : List Channel). waited n (channel_of b) ∷ v) (banks_waited n bs)
+pub banks_waited : (n : ℕ) (bs : List OpenChannel) → AllByRecursion (λ b. b.now.added + n < 2 ^ 128) bs → map (waited n) (map channel_of bs) ≡ map channel_of (map (waited_bank n) bs)
+banks_waited n [] h = refl
+banks_waited n (b ∷ bs) h =
+    let lt : b.now.added + n < 2 ^ 128 = h.0 in
+    let fits : b.now.added + n ≡ min (b.now.added + n) (2 ^ 128 - 1) = omega (arith, lt) in
+    λ k. record { start = start_by bank_exec b; now = record b.now { added = fits k } } ∷ banks_waited n bs h.1 k
 
 -- ---- a line
 
@@ -355,11 +361,11 @@ not_twice true b None h = absurd cc
 not_twice true b (Some u) h = absurd cc
 not_twice false b o h = refl
 
-has_structure : (b : Bool) (o : Option Subspace) → structure_fault b o ≡ None → (u : Subspace) × (o ≡ Some u)
+pub has_structure : (b : Bool) (o : Option Subspace) → structure_fault b o ≡ None → (u : Subspace) × (o ≡ Some u)
 has_structure b None h = absurd cc
 has_structure b (Some u) h = (u, refl)
 
-open_rest : (t : Table) (o : OpenLine) (os : List OpenLine) → AllOpen t (o ∷ os) (length (o ∷ os)) → AllOpen t os (length os)
+pub open_rest : (t : Table) (o : OpenLine) (os : List OpenLine) → AllOpen t (o ∷ os) (length (o ∷ os)) → AllOpen t os (length os)
 open_rest t o os h i p lt at = tail_fault (o.id == p.id) (opens_id p.id (take i os)) (slice_get t.subspaces p.id) (h (suc i) p (omega arith) at)
 
 once : (t : Table) (o : OpenLine) (os : List OpenLine) → AllOpen t (o ∷ os) (length (o ∷ os)) → (i : ℕ) (p : OpenLine) → slice_get os i ≡ Some p → o.id ≢ p.id

@@ -1,60 +1,46 @@
 -- What the words and the bytes read lead to.
-use Rattle.std.proofs.Common.{◌≡◌, ◌≢◌, ℕ, ◌+◌, ◌≤◌, true, false, List, [], ◌∷◌, ◌++◌, length, get_or, map, refl, sym, ap, ◌∙◌, subst, arith}
-use Rattle.std.specs.Prelude.{Option, Some, None, MatchOption, codes, bytes_eq}
+use Rattle.std.proofs.Common.{◌≡◌, ℕ, ◌+◌, ◌<◌, ◌≤◌, true, List, [], ◌∷◌, ◌++◌, length, get_or, map, refl, sym, ap, ◌∙◌, subst, arith}
+use Rattle.std.specs.Prelude.{Option, Some, None, bytes_eq, codes, decimal}
 use Rattle.std.specs.Io.KnownBytes.{Consumes, IsAtEnd}
-use Rattle.std.proofs.lemmas.List.{append-nil, length-append, length-map}
+use Rattle.std.proofs.lemmas.List.{append-nil, length-append}
 use Rattle.std.proofs.lemmas.Slice.Eq.{bytes_eq-Decides}
+use Rattle.pcc_script.specs.declared.limits.TheConstants.{MAX_MADE_CALLS}
 use Rattle.pcc_script.specs.declared.scenario.Scenario.{Scenario}
 use Rattle.pcct_table.specs.declared.table.Table.{Table}
 use Rattle.pcct_codec.proofs.Texts.{has_text}
 use Rattle.pccrun_core.specs.declared.command.Command.{Command}
 use Rattle.pccrun_core.specs.declared.command.Command.TheVariants as command
+use Rattle.pccrun_core.specs.declared.command.Request.{Request}
+use Rattle.pccrun_core.specs.declared.command.Request.TheVariants as request
 use Rattle.pcc_setup.specs.declared.refusal.Refusal.{Refusal}
 use Rattle.pcc_setup.specs.declared.refusal.Refusal.TheVariants as refusal
-use Rattle.pccrun_core.specs.Answers.{Answers, AsksFor, IsMade, IsServedInput, IsServedScript, Made, Makes, Refused, TooLong, Usage, input_limit, usage_line, word_of}
+use Rattle.pccrun_core.specs.Answers.{Answers, Asks, AsksFor, AsksToMake, IsMade, IsServedInput, IsServedScript, Made, Makes, Refused, Summed, TooLong, Usage, input_limit, usage_line, word_of}
 use Rattle.pcc_setup.specs.RefusalText.{refused_line}
 use Rattle.pcc_setup.proofs.Refused.{table_kept}
 use Rattle.pccrun_core.specs.Refusals.{Refuses, WrongLine}
 use Rattle.pcc_setup.specs.declared.opening.Opened.{Opened}
 use Rattle.pcc_setup.specs.Openings.{opened_by}
 use Rattle.pccrun_core.specs.SetUp.{step_text}
+use Rattle.pccrun_core.specs.Summaries.{IsSummary}
 use Rattle.pccrun_core.proofs.Several.{set_up_histories}
+use Rattle.pccrun_core.proofs.Packaged.{package_kept}
 use Rattle.pccrun_core.proofs.Refused.{script_kept}
-
-one : {X : Type 0} (f : X → List ℕ) (xs : List X) (x : X) → length xs ≡ 1 → x ≡ get_or xs 0 x → map f xs ≡ f x ∷ []
-one {X = X} f [] x l e = absurd (omega arith)
-one {X = X} f (y ∷ []) x l e = ap (λ (z : X). f z ∷ []) (sym e)
-one {X = X} f (y ∷ z ∷ zs) x l e = absurd (omega arith)
 
 same_head : (x y : List ℕ) → x ∷ [] ≡ y ∷ [] → x ≡ y
 same_head x y h = cc
 
--- a word asks for a command by its text
-pub asks : (w : List ℕ) (c : Command) → bytes_eq w (word_of c) ≡ true → AsksFor (w ∷ []) c
-asks w c h = ap (λ (v : List ℕ). v ∷ []) ((bytes_eq-Decides w (word_of c)).0 h)
-
--- and a word that is none of the commands' for nothing
-pub asks_nothing : (w : List ℕ) → bytes_eq w (codes "step") ≡ false → bytes_eq w (codes "weave") ≡ false → bytes_eq w (codes "show") ≡ false → bytes_eq w (codes "build") ≡ false → (c : Command) → AsksFor (w ∷ []) c → ⊥
-asks_nothing w a b d e c h = other c (same_head w (word_of c) h)
+-- two words ask for a made-up script
+pub asks_to_make : {X : Type 0} (f : X → List ℕ) (xs : List X) (word count : X) (w k : List ℕ) (n : ℕ) → 2 ≤ length xs → length xs < 3 → word ≡ get_or xs 0 word → count ≡ get_or xs 1 count → w ≡ f word → k ≡ f count
+    → true ≡ bytes_eq w (codes "make") → 1 ≤ n → n ≤ MAX_MADE_CALLS → k ≡ decimal n → AsksToMake (map f xs) n
+asks_to_make {X = X} f xs word count w k n at_least below first second is_w is_k named some few told =
+    let make : w ≡ codes "make" = (bytes_eq-Decides w (codes "make")).0 (sym named) in
+    record { some = some; few = few; words_are = two xs at_least below first second ∙ (λ i. (sym is_w ∙ make) i ∷ (sym is_k ∙ told) i ∷ []) }
   where
-    differs : (u : List ℕ) → bytes_eq w u ≡ false → w ≡ u → ⊥
-    differs u unlike same = let yes_ : bytes_eq w u ≡ true = (bytes_eq-Decides w u).1 same in let both : true ≡ false = sym yes_ ∙ unlike in cc
-
-    other : (c : Command) → w ≡ word_of c → ⊥
-    other command.Step = differs (codes "step") a
-    other command.Weave = differs (codes "weave") b
-    other command.Show = differs (codes "show") d
-    other command.Build = differs (codes "build") e
-
--- the same of a list of one word
-pub asks_one : {X : Type 0} (f : X → List ℕ) (xs : List X) (x : X) (o : Option Command) → length xs ≡ 1 → x ≡ get_or xs 0 x → MatchOption o ((c : Command) → AsksFor (f x ∷ []) c → ⊥) (AsksFor (f x ∷ [])) → MatchOption o ((c : Command) → AsksFor (map f xs) c → ⊥) (AsksFor (map f xs))
-asks_one f xs x o l e h =
-    let P : List (List ℕ) → Type 0 = λ ws. MatchOption o ((c : Command) → AsksFor ws c → ⊥) (AsksFor ws) in
-    subst P (sym (one f xs x l e)) h
-
--- other numbers of words ask for nothing
-pub asks_none : {X : Type 0} (f : X → List ℕ) (xs : List X) → length xs ≢ 1 → (c : Command) → AsksFor (map f xs) c → ⊥
-asks_none f xs l c h = l (sym (length-map xs f) ∙ ap length h)
+    two : (xs : List X) → 2 ≤ length xs → length xs < 3 → word ≡ get_or xs 0 word → count ≡ get_or xs 1 count → map f xs ≡ f word ∷ f count ∷ []
+    two [] a b e g = absurd (omega (arith, a))
+    two (x ∷ []) a b e g = absurd (omega (arith, a))
+    two (x ∷ y ∷ []) a b e g = λ i. f (sym e i) ∷ f (sym g i) ∷ []
+    two (x ∷ y ∷ z ∷ zs) a b e g = absurd (omega (arith, b))
 
 -- ---- what an input leads to
 
@@ -70,7 +56,10 @@ refused_for words left left' input text c r asked read end cause e =
     let P : List ℕ → Type 0 = Answers words left left' 3 in
     subst P (sym e) (Refused c asked input (record { read = read; end = end }) r cause)
 
-pub usage : (words : List (List ℕ)) (left left' : Option (List ℕ)) (text : List ℕ) → ((c : Command) → AsksFor words c → ⊥) → text ≡ usage_line → Answers words left left' 2 text
+pub summed : (words : List (List ℕ)) (left left' : Option (List ℕ)) (n : ℕ) (text : List ℕ) → AsksToMake words n → IsSummary n text → Answers words left left' 0 text
+summed words left left' n text asked is = Summed n asked text is
+
+pub usage : (words : List (List ℕ)) (left left' : Option (List ℕ)) (text : List ℕ) → ((r : Request) → Asks words r → ⊥) → text ≡ usage_line → Answers words left left' 2 text
 usage words left left' text unasked e = let P : List ℕ → Type 0 = Answers words left left' 2 in subst P (sym e) (Usage unasked)
 
 pub too_long : (words : List (List ℕ)) (left left' : Option (List ℕ)) (text : List ℕ) (c : Command) → AsksFor words c → (bytes : List ℕ) × Consumes left left' bytes × (length bytes ≡ input_limit + 1)
@@ -102,18 +91,21 @@ letter_of command.Step = 116
 letter_of command.Weave = 101
 letter_of command.Show = 104
 letter_of command.Build = 117
+letter_of command.Cpc = 112
 
 second_of : (c : Command) → second (word_of c) ≡ letter_of c
 second_of command.Step = refl
 second_of command.Weave = refl
 second_of command.Show = refl
 second_of command.Build = refl
+second_of command.Cpc = refl
 
 one_letter : (c d : Command) → letter_of c ≡ letter_of d → c ≡ d
 one_letter command.Step command.Step e = refl
 one_letter command.Weave command.Weave e = refl
 one_letter command.Show command.Show e = refl
 one_letter command.Build command.Build e = refl
+one_letter command.Cpc command.Cpc e = refl
 one_letter command.Step command.Weave e = absurd (omega arith)
 one_letter command.Step command.Show e = absurd (omega arith)
 one_letter command.Step command.Build e = absurd (omega arith)
@@ -126,6 +118,14 @@ one_letter command.Show command.Build e = absurd (omega arith)
 one_letter command.Build command.Step e = absurd (omega arith)
 one_letter command.Build command.Weave e = absurd (omega arith)
 one_letter command.Build command.Show e = absurd (omega arith)
+one_letter command.Step command.Cpc e = absurd (omega arith)
+one_letter command.Weave command.Cpc e = absurd (omega arith)
+one_letter command.Show command.Cpc e = absurd (omega arith)
+one_letter command.Build command.Cpc e = absurd (omega arith)
+one_letter command.Cpc command.Step e = absurd (omega arith)
+one_letter command.Cpc command.Weave e = absurd (omega arith)
+one_letter command.Cpc command.Show e = absurd (omega arith)
+one_letter command.Cpc command.Build e = absurd (omega arith)
 
 -- words ask for one command
 one_command : (c d : Command) → word_of c ≡ word_of d → c ≡ d
@@ -140,11 +140,13 @@ kept command.Step input r h k = script_kept command.Step input h.0 h.1 r h.2.scr
 kept command.Weave input r h k = script_kept command.Weave input h.0 h.1 r h.2.script h.2.served k
 kept command.Show input r h k = table_kept input h.0 r h.1 k
 kept command.Build input r h (WrongLine none line wrong fault) = none h.0 (has_text h.0 h.1.value) h.1.text_is
+kept command.Cpc input r h k = package_kept input h.0 r h.1 k
 
 -- a served input leads to what is made of it alone
 pub served_input_runs : (words : List (List ℕ)) (left left' : Option (List ℕ)) (status : ℕ) (text : List ℕ) → Answers words left left' status text → IsServedInput words left → status ≡ 0
 served_input_runs words left left' status text (Made c asked input read made is) h = refl
-served_input_runs words left left' status text (Usage unasked) h = absurd (unasked h.command h.asked)
+served_input_runs words left left' status text (Summed n asked made is) h = refl
+served_input_runs words left left' status text (Usage unasked) h = absurd (unasked (request.Run h.command) h.asked)
 served_input_runs words left left' status text (TooLong c asked more) h =
     let P : Option (List ℕ) → Type 0 = λ o. Consumes o left' more.text in
     let found = all_consumed h.input more.text left' (subst P h.told more.read) in
@@ -158,3 +160,15 @@ served_input_runs words left left' status text (Refused c asked input read r cau
     let P : Command → Type 0 = λ d. Refuses d input r in
     let Q : List ℕ → Type 0 = λ v. Refuses h.command v r in
     absurd (kept h.command h.input r h.made (subst Q same (subst P one cause)))
+
+-- words that ask for a made-up script ask for no command on the input
+pub makes_alone : (words : List (List ℕ)) (c : Command) (n : ℕ) → AsksFor words c → AsksToMake words n → ⊥
+makes_alone words c n asked h = let both : word_of c ∷ [] ≡ codes "make" ∷ decimal n ∷ [] = sym asked ∙ h.words_are in let len : 1 ≡ 2 = ap length both in absurd (omega (arith, len))
+
+-- and a made-up script is run
+pub made_runs : (words : List (List ℕ)) (left left' : Option (List ℕ)) (status n : ℕ) (text : List ℕ) → Answers words left left' status text → AsksToMake words n → status ≡ 0
+made_runs words left left' status n text (Made c asked input read made is) h = refl
+made_runs words left left' status n text (Summed m asked made is) h = refl
+made_runs words left left' status n text (Usage unasked) h = absurd (unasked (request.Make n) h)
+made_runs words left left' status n text (TooLong c asked more) h = absurd (makes_alone words c n asked h)
+made_runs words left left' status n text (Refused c asked input read r cause) h = absurd (makes_alone words c n asked h)

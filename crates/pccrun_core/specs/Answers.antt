@@ -1,13 +1,19 @@
 -- What the program writes, and its status, by its words and by the bytes that it read.
-use Rattle.std.specs.Prelude.{◌≡◌, ◌≤◌, ℕ, ◌+◌, List, [], ◌∷◌, length, codes, Option, Some, None}
+use Rattle.std.specs.Prelude.{◌≡◌, ◌≤◌, ℕ, ◌+◌, List, [], ◌∷◌, length, codes, decimal, Option, Some, None}
 use Rattle.std.specs.Io.KnownBytes.{Consumes, IsAtEnd}
 use Rattle.pcc_bytes.specs.Bytes.{IsBytes}
+use Rattle.aml_pkg.specs.declared.item.Item.{Item}
+use Rattle.cpc_package.specs.Packages.{CpcBytes}
+use Rattle.cpc_package.specs.PackageText.{package_text}
+use Rattle.pcc_script.specs.declared.limits.TheConstants.{MAX_MADE_CALLS}
 use Rattle.pcc_script.specs.declared.scenario.Scenario.{Scenario}
 use Rattle.pcct_table.specs.declared.table.Table.{Table}
 use Rattle.pcct_table.specs.ShowText.{show_text}
 use Rattle.pcct_codec.specs.Tables.{IsTableValue, TableBytes}
 use Rattle.pccrun_core.specs.declared.command.Command.{Command}
 use Rattle.pccrun_core.specs.declared.command.Command.TheVariants as command
+use Rattle.pccrun_core.specs.declared.command.Request.{Request}
+use Rattle.pccrun_core.specs.declared.command.Request.TheVariants as request
 use Rattle.pcc_setup.specs.declared.refusal.Refusal.{Refusal}
 use Rattle.pcc_setup.specs.declared.refusal.Refusal.TheVariants as refusal
 use Rattle.pccrun_core.specs.Histories.{AreHistories}
@@ -15,6 +21,7 @@ use Rattle.pcc_setup.specs.RefusalText.{refused_line}
 use Rattle.pcc_setup.specs.SetUps.{IsSetUp}
 use Rattle.pccrun_core.specs.Refusals.{IsScript, Refuses}
 use Rattle.pccrun_core.specs.SetUp.{run_of, step_text, use_fault}
+use Rattle.pccrun_core.specs.Summaries.{IsSummary}
 use Rattle.pccrun_core.specs.Weaving.{IsWoven}
 
 -- ---- words
@@ -25,10 +32,22 @@ word_of command.Step = codes "step"
 word_of command.Weave = codes "weave"
 word_of command.Show = codes "show"
 word_of command.Build = codes "build"
+word_of command.Cpc = codes "cpc"
 
--- the words ask for a command that is built
+-- the words ask for a command on the whole input that is built
 abbrev pub AsksFor : List (List ℕ) → Command → Type 0
 AsksFor words c = words ≡ word_of c ∷ []
+
+-- the words ask for a made-up script of so many calls
+pub record AsksToMake (words : List (List ℕ)) (n : ℕ) : Type 0 where
+  pub some : 1 ≤ n
+  pub few : n ≤ MAX_MADE_CALLS
+  pub words_are : words ≡ codes "make" ∷ decimal n ∷ []
+
+-- what the words ask for
+abbrev pub Asks : List (List ℕ) → Request → Type 0
+Asks words (request.Run c) = AsksFor words c
+Asks words (request.Make n) = AsksToMake words n
 
 abbrev pub usage_line : List ℕ
 usage_line = codes "usage: pccrun show|build|cpc|step|weave|threads|audit|make N\n"
@@ -59,7 +78,7 @@ pub record ServedBy (c : Command) (s : Scenario) (t : Table) : Type 0 where
 
 -- a script and its table, which a command runs
 pub record IsServedScript (c : Command) (input : List ℕ) (s : Scenario) (t : Table) : Type 0 where
-  pub script : IsScript c input s
+  pub script : IsScript input s
   pub served : ServedBy c s t
 
 -- a text is that of a table
@@ -68,12 +87,13 @@ pub record IsTextOf (t : Table) (text : List ℕ) : Type 0 where
   pub text_is : text ≡ show_text t
 
 -- What a command makes of its whole input: of a served script its run, whose journals are histories; of the bytes of a table its
--- text; of the text of a table its bytes.
+-- text; of the text of a table its bytes; of the bytes of a package its text.
 abbrev pub Makes : Command → List ℕ → List ℕ → Type 0
 Makes command.Step input text = (s : Scenario) × (t : Table) × IsServedScript command.Step input s t × AreHistories s.actions (run_of s t) × (text ≡ step_text s t)
 Makes command.Weave input text = (s : Scenario) × (t : Table) × IsServedScript command.Weave input s t × IsWoven s t text
 Makes command.Show input text = (t : Table) × TableBytes input t × (text ≡ show_text t)
 Makes command.Build input bytes = (t : Table) × (input ≡ show_text t) × IsBytes bytes × TableBytes bytes t
+Makes command.Cpc input text = (c : Item) × CpcBytes input c × (text ≡ package_text c)
 
 -- a command makes something of this input
 abbrev pub IsMade : Command → List ℕ → Type 0
@@ -81,14 +101,16 @@ IsMade command.Step input = (s : Scenario) × (t : Table) × IsServedScript comm
 IsMade command.Weave input = (s : Scenario) × (t : Table) × IsServedScript command.Weave input s t
 IsMade command.Show input = (t : Table) × TableBytes input t
 IsMade command.Build input = (t : Table) × IsTextOf t input
+IsMade command.Cpc input = (c : Item) × CpcBytes input c
 
 -- ---- what is written
 
--- The status, and the text that is to be written. 0: what the command makes of its input. 2: the words ask for no command that is
--- built. 3: the input is refused.
+-- The status, and the text that is to be written. 0: what the command makes of its input, or the summary of a made-up script. 2: the words ask
+-- for nothing that is built. 3: the input is refused.
 pub data Answers (words : List (List ℕ)) (left left' : Option (List ℕ)) : ℕ → List ℕ → Type 0 where
   Made : (c : Command) → AsksFor words c → (input : List ℕ) → ReadWhole left left' input → (text : List ℕ) → Makes c input text → Answers words left left' 0 text
-  Usage : ((c : Command) → AsksFor words c → ⊥) → Answers words left left' 2 usage_line
+  Summed : (n : ℕ) → AsksToMake words n → (text : List ℕ) → IsSummary n text → Answers words left left' 0 text
+  Usage : ((r : Request) → Asks words r → ⊥) → Answers words left left' 2 usage_line
   TooLong : (c : Command) → AsksFor words c → ReadMore left left' → Answers words left left' 3 (refused_line refusal.Long)
   Refused : (c : Command) → AsksFor words c → (input : List ℕ) → ReadWhole left left' input → (r : Refusal) → Refuses c input r → Answers words left left' 3 (refused_line r)
 

@@ -6,8 +6,9 @@ use Rattle.rate_limit.specs.RateLimits.{WithinLimits}
 use Rattle.pcc_journal.specs.Records.{exchanges_of, times_of}
 use Rattle.pcc_script.specs.declared.scenario.Line.{Line}
 use Rattle.pcc_script.specs.declared.scenario.Line.TheVariants as line
-use Rattle.pccrun_core.specs.Replies.{Reply, Done, TimedOut}
-use Rattle.pccrun_core.specs.StepRun.{Channel, Run, post_of}
+use Rattle.channel_turns.specs.Replies.{Reply, Done, TimedOut}
+use Rattle.channel_turns.specs.ChannelRuns.{Channel, post_of}
+use Rattle.pccrun_core.specs.StepRun.{Run}
 
 -- the replies of a call that was posted
 abbrev pub is_posted : Option Reply → Bool

@@ -1,10 +1,12 @@
-pub mod Replies
 pub mod StepRun
 pub mod Histories
 pub mod ReplyText
 pub mod BankChannels
+pub mod Told
 pub mod SetUp
 pub mod Weaving
+pub mod Summaries
+pub mod Packages
 pub mod Refusals
 pub mod Answers
 pub mod Statuses

@@ -14,6 +14,7 @@ use Rattle.pcc_setup.specs.declared.refusal.UseFault.{UseFault}
 use Rattle.pcc_setup.specs.SetUps.{IsSetUp, SetUpRefused, TableRefused}
 use Rattle.pccrun_core.specs.declared.command.Command.{Command}
 use Rattle.pccrun_core.specs.declared.command.Command.TheVariants as command
+use Rattle.pccrun_core.specs.Packages.{PackageRefused}
 use Rattle.pccrun_core.specs.SetUp.{is_built, use_fault}
 
 -- a text is no table's, with its first fault
@@ -25,10 +26,10 @@ pub record IsSpelled (text : List ℕ) (s : Scenario) : Type 0 where
   pub spelled : text ≡ script_text s
   pub scenario : IsScenario s
 
--- a text spells a scenario, and all that it asks of the command is built
-pub record IsScript (c : Command) (text : List ℕ) (s : Scenario) : Type 0 where
+-- a text spells a scenario, and all that it asks for is built
+pub record IsScript (text : List ℕ) (s : Scenario) : Type 0 where
   pub spells : IsSpelled text s
-  pub built : is_built c s ≡ true
+  pub built : is_built s ≡ true
 
 -- what a command refuses a scenario for
 pub data NotServed (c : Command) (s : Scenario) : Refusal → Type 0 where
@@ -39,8 +40,8 @@ pub data NotServed (c : Command) (s : Scenario) : Refusal → Type 0 where
 -- can't be used with it.
 pub data ScriptRefused (c : Command) (text : List ℕ) : Refusal → Type 0 where
   WrongScript : ((s : Scenario) → IsSpelled text s → ⊥) → (line : ℕ) → (wrong : ScriptKind) → ScriptWrong text line wrong → ScriptRefused c text (refusal.Script line wrong)
-  NotBuilt : (s : Scenario) → IsSpelled text s → is_built c s ≡ false → ScriptRefused c text refusal.Unbuilt
-  Unserved : (s : Scenario) → IsScript c text s → (r : Refusal) → NotServed c s r → ScriptRefused c text r
+  NotBuilt : (s : Scenario) → IsSpelled text s → is_built s ≡ false → ScriptRefused c text refusal.Unbuilt
+  Unserved : (s : Scenario) → IsScript text s → (r : Refusal) → NotServed c s r → ScriptRefused c text r
 
 -- what a command refuses its whole input for
 abbrev pub Refuses : Command → List ℕ → Refusal → Type 0
@@ -48,3 +49,4 @@ Refuses command.Step text r = ScriptRefused command.Step text r
 Refuses command.Weave text r = ScriptRefused command.Weave text r
 Refuses command.Show bytes r = TableRefused bytes r
 Refuses command.Build text r = TextRefused text r
+Refuses command.Cpc bytes r = PackageRefused bytes r

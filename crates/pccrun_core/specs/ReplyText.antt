@@ -1,10 +1,7 @@
 -- The texts of replies: the number of the line in the script, from 1, and what the line is answered.
-use Rattle.std.specs.Prelude.{◌≡◌, ◌<◌, ℕ, ◌+◌, if◌then◌else◌, List, [], ◌∷◌, ◌++◌, Option, Some, None, codes, slice_get}
+use Rattle.std.specs.Prelude.{ℕ, ◌+◌, if◌then◌else◌, List, [], ◌∷◌, ◌++◌, Option, Some, None, codes}
 use Rattle.pcc_text.specs.Pieces.{Spelled, Words, Decimal, HexOf, spelled}
-use Rattle.pcc_journal.specs.declared.record.Record.{Record}
-use Rattle.pccrun_core.specs.Replies.{Reply, Done, BadCode, TooLong, JournalFull, StillPending, TooSoon, TimedOut}
-use Rattle.pccrun_core.specs.declared.reply.Outcome.{Outcome}
-use Rattle.pccrun_core.specs.declared.reply.Outcome.TheVariants as outcome
+use Rattle.channel_turns.specs.Replies.{Reply, Done, BadCode, TooLong, JournalFull, StillPending, TooSoon, TimedOut}
 
 abbrev pub reply_pieces : ℕ → Reply → List Spelled
 reply_pieces line (Done error output) = Decimal line ∷ Words (if error then codes " error " else codes " ok ") ∷ HexOf output ∷ Words (codes "\n") ∷ []
@@ -23,16 +20,3 @@ abbrev pub replies_text : ℕ → List (Option Reply) → List ℕ
 replies_text line [] = []
 replies_text line (None ∷ rs) = replies_text (line + 1) rs
 replies_text line (Some r ∷ rs) = reply_text line r ++ replies_text (line + 1) rs
-
--- what became of a call stands for its reply; that of an executed one is told by its record
-abbrev pub StandsFor : List Record → Outcome → Reply → Type 0
-StandsFor records (outcome.Done place) reply = (r : Record) × (slice_get records place ≡ Some r) × (reply ≡ Done r.error r.output)
-StandsFor records (outcome.BadCode code) reply = reply ≡ BadCode code
-StandsFor records (outcome.TooLong len room) reply = reply ≡ TooLong len room
-StandsFor records outcome.JournalFull reply = reply ≡ JournalFull
-StandsFor records (outcome.TooSoon now earliest) reply = reply ≡ TooSoon now earliest
-
--- the place that an outcome names is one of so many
-abbrev pub IsPlaced : ℕ → Outcome → Type 0
-IsPlaced len (outcome.Done place) = place < len
-IsPlaced len _ = Unit {0}

@@ -1,5 +1,5 @@
 -- What a script opens, and what `step` prints for it.
-use Rattle.std.specs.Prelude.{ℕ, ◌==◌, ◌&&◌, not, nat_lt, is_none, is_some, Bool, true, false, if◌then◌else◌, List, [], ◌∷◌, ◌++◌, length, slice_get, Option, Some, None}
+use Rattle.std.specs.Prelude.{ℕ, ◌==◌, ◌&&◌, not, is_none, is_some, Bool, true, false, if◌then◌else◌, List, [], ◌∷◌, ◌++◌, length, slice_get, Option, Some, None}
 use Rattle.std.specs.List.{flat_map, list_all, list_any}
 use Rattle.pcct_table.specs.declared.table.Table.{Table}
 use Rattle.pcc_journal.specs.JournalText.{journal_text}
@@ -15,7 +15,8 @@ use Rattle.pccrun_core.specs.declared.command.Command.{Command}
 use Rattle.pccrun_core.specs.declared.command.Command.TheVariants as command
 use Rattle.pccrun_core.specs.BankChannels.{bank_start}
 use Rattle.pccrun_core.specs.ReplyText.{replies_text}
-use Rattle.pccrun_core.specs.StepRun.{Channel, Run, ScriptClock, fresh, pending_of, step_run}
+use Rattle.channel_turns.specs.ChannelRuns.{Channel, ScriptClock, fresh, pending_of}
+use Rattle.pccrun_core.specs.StepRun.{Run, step_run}
 
 -- ---- the opened subspaces
 
@@ -48,20 +49,16 @@ step_text s t = run_text (first_action s) (run_of s t)
 
 -- ---- what is built so far
 
-abbrev pub serves_hold : Command → ℕ → ℕ → Bool
-serves_hold command.Step polls hold = nat_lt hold polls
-serves_hold _ polls hold = true
-
--- `call` and `wait` lines; the command of a call of `step` isn't held for as many turns as it has polls
-abbrev pub is_built_line : Command → Line → Bool
-is_built_line c (line.Call worker subspace code bytes polls hold) = serves_hold c polls hold
-is_built_line c (line.Wait n) = true
-is_built_line c (line.Read worker cpu polls hold) = false
-is_built_line c (line.Set worker wish polls hold) = false
+-- `call` and `wait` lines
+abbrev pub is_built_line : Line → Bool
+is_built_line (line.Call worker subspace code bytes polls hold) = true
+is_built_line (line.Wait n) = true
+is_built_line (line.Read worker cpu polls hold) = false
+is_built_line (line.Set worker wish polls hold) = false
 
 -- Banks alone, and such lines
-abbrev pub is_built : Command → Scenario → Bool
-is_built c s = opens_banks s && list_all (is_built_line c) s.actions
+abbrev pub is_built : Scenario → Bool
+is_built s = opens_banks s && list_all is_built_line s.actions
 
 -- ---- what a command can be used with
 
@@ -84,3 +81,4 @@ use_fault command.Step s = if is_some s.picks then Some Pick else None
 use_fault command.Weave s = weave_fault s
 use_fault command.Show s = None
 use_fault command.Build s = None
+use_fault command.Cpc s = None

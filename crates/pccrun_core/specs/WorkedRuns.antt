@@ -5,8 +5,9 @@ use Rattle.pcc_journal.specs.declared.record.Record.{Record}
 use Rattle.pcc_journal.specs.declared.record.Pending.{Pending}
 use Rattle.pcc_script.specs.declared.scenario.Line.{Line}
 use Rattle.pcc_script.specs.declared.scenario.Line.TheVariants as line
-use Rattle.pccrun_core.specs.Replies.{Reply, Done, BadCode, TooLong, StillPending, TooSoon, TimedOut}
-use Rattle.pccrun_core.specs.StepRun.{Channel, ChannelStart, Run, ScriptClock, fresh, pending_of, step_run}
+use Rattle.channel_turns.specs.Replies.{Reply, Done, BadCode, TooLong, StillPending, TooSoon, TimedOut}
+use Rattle.channel_turns.specs.ChannelRuns.{Channel, ChannelStart, ScriptClock, fresh, pending_of}
+use Rattle.pccrun_core.specs.StepRun.{Run, step_run}
 
 -- a Bank of two bytes on a subspace of type 0 without a rate
 abbrev bank : ℕ → ℕ → ScriptClock → Channel

@@ -3,7 +3,8 @@ ghost use Rattle.std.specs.Prelude.{◌≡◌, ◌∷◌, [], ℕ, List, Some, m
 ghost use Rattle.pcc_script.specs.declared.scenario.Line.{Line};
 ghost use Rattle.pccrun_core.specs.BankChannels.{AreDistinct};
 ghost use Rattle.pccrun_core.specs.Histories.{AreHistories};
-ghost use Rattle.pccrun_core.specs.StepRun.{Channel, ChannelStart, fresh, step_run};
+ghost use Rattle.channel_turns.specs.ChannelRuns.{Channel, ChannelStart, fresh};
+ghost use Rattle.pccrun_core.specs.StepRun.{step_run};
 
 /// A run on several subspaces, no two of which have one ID. It does nothing.
 pub fn run_laws()

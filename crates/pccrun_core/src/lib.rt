@@ -2,9 +2,12 @@
 #![tactic(auto)]
 
 mod banks;
-mod channel;
 mod command;
+mod counts;
 mod laws;
+mod line;
+mod make;
+mod package;
 mod reply;
 mod script;
 mod served;

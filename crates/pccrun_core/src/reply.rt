@@ -1,30 +1,37 @@
-//! What a call line is answered, and the text of that answer.
-ghost use Rattle.std.specs.Prelude.{◌≡◌, ◌++◌, length, OnOk};
-ghost use Rattle.pccrun_core.specs.Replies.{BadCode, Done, JournalFull, Reply, TooLong, TooSoon};
-ghost use Rattle.pccrun_core.specs.ReplyText.{IsPlaced, StandsFor, reply_text};
+//! The text of what a line is answered.
+ghost use Rattle.std.specs.Prelude.{◌≡◌, ◌++◌, [], ◌∷◌, Option, codes, length, OnOk};
+ghost use Rattle.channel_turns.specs.Outcomes.{IsPlaced, StandsFor};
+ghost use Rattle.channel_turns.specs.Replies.{Done, JournalFull, Reply, TooLong, TooSoon};
+ghost use Rattle.pcc_text.specs.Pieces.{Decimal, Words, spelled};
+ghost use Rattle.pccrun_core.specs.ReplyText.{replies_text, reply_text};
+ghost use Rattle.pccrun_core.specs.Told.{IsTold, IsToldOf};
 
+use crate::banks::BankChannel;
+use crate::line::Told;
+use channel_turns::Outcome;
 use pcc_io::NoMemory;
 use pcc_journal::Record;
 use pcc_text::{Piece, put_pieces};
 
-/// What became of a call.
-#[derive(Clone, Copy, Debug, PartialEq, Eq)]
-pub enum Outcome {
-    /// Executed; its record stands at this place of the journal, from 0.
-    Done { place: usize },
-    /// The code doesn't fit one byte.
-    BadCode { code: u32 },
-    /// More bytes than the communication space has.
-    TooLong { len: usize, room: u32 },
-    /// The journal has no place left.
-    JournalFull,
-    /// The reading of its post is below the earliest that the limits allow, both in microseconds.
-    TooSoon { now: u64, earliest: u128 },
+/// Puts the reply of a line, if it has one, whose number in the script counts from 1.
+pub fn put_told(
+    out: &mut Vec<u8>,
+    line: u64,
+    banks: &[BankChannel],
+    told: Option<Told>,
+) -> Result<(), NoMemory>
+    requires { IsTold banks.now told }
+    ensures { OnOk result ((reply : Option Reply) → IsToldOf reply banks.now told → out.new.items ≡ out.old.items ++ replies_text line (reply ∷ [])) }
+{
+    match told {
+        None => Ok(()),
+        Some(Told { place, outcome }) => put_reply(out, line, outcome, banks[place].records()),
+    }
 }
 
-/// Puts the reply of a line, whose number in the script counts from 1.
-#[tactic(auto, using(crate::proofs::Replies::done_reply))]
-pub fn put_reply(
+// Puts the reply that an outcome stands for.
+#[tactic(auto, unfolding(crate::specs::ReplyText::reply_text), using(crate::proofs::Replies::done_reply))]
+fn put_reply(
     out: &mut Vec<u8>,
     line: u64,
     outcome: Outcome,
@@ -35,10 +42,14 @@ pub fn put_reply(
 {
     match outcome {
         Outcome::Done { place } => put_done(out, line, &records[place]),
-        Outcome::BadCode { code } => put_bad_code(out, line, code),
+        Outcome::BadCode { code } => put_number_behind(out, line, b" bad code ", code),
         Outcome::TooLong { len, room } => put_too_long(out, line, len, room),
         Outcome::JournalFull => put_journal_full(out, line),
+        Outcome::StillPending { looks } => {
+            put_number_behind(out, line, b" still pending ", looks)
+        }
         Outcome::TooSoon { now, earliest } => put_too_soon(out, line, now, earliest),
+        Outcome::TimedOut { looks } => put_number_behind(out, line, b" timed out ", looks),
     }
 }
 
@@ -57,16 +68,16 @@ fn put_done(out: &mut Vec<u8>, line: u64, entry: &Record) -> Result<(), NoMemory
     )
 }
 
-#[tactic(auto, unfolding(crate::specs::ReplyText::reply_text))]
-fn put_bad_code(out: &mut Vec<u8>, line: u64, code: u32) -> Result<(), NoMemory>
-    ensures { OnOk result (out.new.items ≡ out.old.items ++ reply_text line (BadCode code)) }
+// Puts a reply that is some words and one number.
+fn put_number_behind(out: &mut Vec<u8>, line: u64, words: &[u8], n: u32) -> Result<(), NoMemory>
+    ensures { OnOk result (out.new.items ≡ out.old.items ++ spelled (Decimal line ∷ Words words.now ∷ Decimal n ∷ Words (codes "\n") ∷ [])) }
 {
     put_pieces(
         out,
         &[
             Piece::Number(line),
-            Piece::Text(b" bad code "),
-            Piece::Number(code as u64),
+            Piece::Text(words),
+            Piece::Number(n as u64),
             Piece::Text(b"\n"),
         ],
     )

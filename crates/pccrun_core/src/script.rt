@@ -21,14 +21,14 @@ pub struct Served {
     pub opened: OpenedList,
 }
 
-// The scenario that a text spells, where all that it asks of the command is built.
+// The scenario that a text spells, where all that it asks for is built.
 fn script_of(alloc: Global, command: Command, text: &[u8]) -> Result<Scenario, InputError>
-    ensures { MatchResult result (λ s. IsScript command text.now s × IsWithin s) (IsRefusedFor (ScriptRefused command text.now)) }
+    ensures { MatchResult result (λ s. IsScript text.now s × IsWithin s) (IsRefusedFor (ScriptRefused command text.now)) }
 {
     within_limits();
     match scenario_from(alloc, text) {
         Ok(scenario) => {
-            if is_built(command, &scenario) {
+            if is_built(&scenario) {
                 Ok(scenario)
             } else {
                 Err(InputError::Refused(Refusal::Unbuilt))

@@ -2,42 +2,32 @@
 ghost use Rattle.std.specs.Prelude.{◌≡◌, Some, None};
 ghost use Rattle.std.specs.List.{list_all, list_any};
 ghost use Rattle.pcc_setup.specs.SetUps.{is_bank};
-ghost use Rattle.pccrun_core.specs.SetUp.{is_built, is_built_line, is_wait, serves_hold, use_fault, weave_fault};
+ghost use Rattle.pccrun_core.specs.SetUp.{is_built, is_built_line, is_wait, use_fault, weave_fault};
 
 use crate::command::Command;
 use pcc_script::{Line, Scenario};
 use pcc_setup::{UseFault, are_banks, opens_banks};
 
-fn serves_hold(command: Command, polls: u32, hold: u32) -> bool
-    ensures { result ≡ serves_hold command polls hold }
-{
-    match command {
-        Command::Step => hold < polls,
-        Command::Weave | Command::Show | Command::Build => true,
-    }
-}
-
-fn is_built_line(command: Command, action: &Line) -> bool
-    ensures { result ≡ is_built_line command action.now }
+fn is_built_line(action: &Line) -> bool
+    ensures { result ≡ is_built_line action.now }
 {
     match action {
-        Line::Call { polls, hold, .. } => serves_hold(command, *polls, *hold),
-        Line::Wait { .. } => true,
+        Line::Call { .. } | Line::Wait { .. } => true,
         Line::Read { .. } | Line::Set { .. } => false,
     }
 }
 
-fn are_built(command: Command, actions: &[Line]) -> bool
-    ensures { result ≡ list_all (is_built_line command) actions.now }
+fn are_built(actions: &[Line]) -> bool
+    ensures { result ≡ list_all is_built_line actions.now }
 {
-    actions.iter().all(|action| is_built_line(command, action))
+    actions.iter().all(|action| is_built_line(action))
 }
 
-/// Whether all that a script asks of a command is built.
-pub fn is_built(command: Command, scenario: &Scenario) -> bool
-    ensures { result ≡ is_built command scenario.now }
+/// Whether all that a script asks for is built.
+pub fn is_built(scenario: &Scenario) -> bool
+    ensures { result ≡ is_built scenario.now }
 {
-    opens_banks(scenario) && are_built(command, scenario.actions.as_slice())
+    opens_banks(scenario) && are_built(scenario.actions.as_slice())
 }
 
 fn is_wait(action: &Line) -> bool
@@ -83,6 +73,6 @@ pub fn use_fault(command: Command, scenario: &Scenario) -> Option<UseFault>
             }
         }
         Command::Weave => weave_fault(scenario),
-        Command::Show | Command::Build => None,
+        Command::Show | Command::Build | Command::Cpc => None,
     }
 }

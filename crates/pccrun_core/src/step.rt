@@ -12,60 +12,21 @@ ghost use Rattle.pccrun_core.specs.StepRun.{step_run, turn_of};
 ghost use Rattle.pccrun_core.specs.Refusals.{Refuses};
 ghost use Rattle.pccrun_core.specs.SetUp.{channel_journal, is_built, is_built_line, step_text};
 ghost use Rattle.pcc_setup.specs.SetUps.{IsSetUp};
-ghost use Rattle.pccrun_core.specs.declared.command.Command.TheVariants as command;
 
-use crate::banks::{open_banks, place_of, wait_all};
-use crate::channel::BankChannel;
+use crate::banks::{BankChannel, open_banks};
 use crate::command::Command;
-use crate::reply::put_reply;
+use crate::line::answer_line;
+use crate::reply::put_told;
 use crate::script::served_script;
 use pcc_io::NoMemory;
 use pcc_journal::put_journal;
-use pcc_script::{Actions, Line, Scenario};
+use pcc_script::{Actions, Scenario};
 use pcc_setup::{InputError, OpenedList, first_action};
+use pcc_wiring::right_wirings;
 use std::alloc::Global;
 
-// Runs a line, and puts its reply at the end.
-#[tactic(auto, using(crate::proofs::BankLists::wait_fits))]
-fn run_line(
-    alloc: Global,
-    out: &mut Vec<u8>,
-    banks: &mut Vec<BankChannel>,
-    line: u64,
-    action: &Line,
-) -> Result<(), NoMemory>
-    requires within { IsAction action.now }
-    requires served { is_built_line command.Step action.now ≡ true }
-    requires named { IsOnOneOf (ids_of banks.old.items) action.now }
-    requires distinct { AreDistinct (ids_of banks.old.items) }
-    requires early { AllByRecursion (IsEarly 65536) banks.old.items }
-    ensures reply { OnOk result (let t = turn_of action.now (map channel_of banks.old.items) in out.new.items ≡ out.old.items ++ replies_text line (t.reply ∷ [])) }
-    ensures banks { OnOk result (let t = turn_of action.now (map channel_of banks.old.items) in t.channels ≡ map channel_of banks.new.items) }
-    ensures heads { OnOk result (map (λ b. b.head) banks.new.items ≡ map (λ b. b.head) banks.old.items) }
-    ensures readings { (count : ℕ) → AllByRecursion (IsEarly count) banks.old.items → AllByRecursion (IsEarly (count + 1)) banks.new.items }
-{
-    match action {
-        Line::Call {
-            worker,
-            subspace,
-            code,
-            bytes,
-            ..
-        } => {
-            let place = place_of(banks, *subspace);
-            let outcome = banks[place].call(alloc, *worker, *code, bytes.as_slice())?;
-            put_reply(out, line, outcome, banks[place].records())
-        }
-        Line::Wait { n } => {
-            wait_all(banks, *n);
-            Ok(())
-        }
-        _ => unreachable!(),
-    }
-}
-
 // Runs lines from a number on, and puts their replies at the end.
-#[tactic(auto, using(crate::proofs::Steps::going_start, crate::proofs::Steps::going_more, crate::proofs::Steps::going_end, crate::proofs::BankLists::named_still, crate::proofs::BankLists::distinct_still, crate::proofs::BankLists::early_still))]
+#[tactic(auto, using(crate::proofs::Steps::putting_start, crate::proofs::Steps::putting_more, crate::proofs::Steps::putting_end, crate::proofs::BankLists::named_still, crate::proofs::BankLists::distinct_still, crate::proofs::BankLists::early_still))]
 fn run_lines(
     alloc: Global,
     out: &mut Vec<u8>,
@@ -76,7 +37,7 @@ fn run_lines(
     requires within { AllByRecursion IsAction actions.now }
     requires few { length actions.now ≤ 65536 }
     requires low { first < 2 ^ 33 }
-    requires served { list_all (is_built_line command.Step) actions.now ≡ true }
+    requires served { list_all (is_built_line) actions.now ≡ true }
     requires named { AllByRecursion (IsOnOneOf (ids_of banks.old.items)) actions.now }
     requires distinct { AreDistinct (ids_of banks.old.items) }
     requires early { AllByRecursion (IsEarly 0) banks.old.items }
@@ -84,7 +45,8 @@ fn run_lines(
     ensures banks { OnOk result (let r = step_run actions.now (map channel_of banks.old.items) in r.channels ≡ map channel_of banks.new.items) }
 {
     for i in 0..actions.len() {
-        run_line(alloc, out, banks, first + i as u64, actions.at(i))?;
+        let told = answer_line(alloc, banks, actions.at(i))?;
+        put_told(out, first + i as u64, banks, told)?;
     }
     Ok(())
 }
@@ -104,10 +66,11 @@ fn put_journals(out: &mut Vec<u8>, banks: &[BankChannel]) -> Result<(), NoMemory
 #[tactic(auto, unfolding(crate::specs::SetUp::step_text), using(crate::proofs::Serving::banks_named, crate::proofs::Serving::banks_distinct, crate::proofs::Serving::banks_early, crate::proofs::Serving::lines_few, crate::proofs::Serving::built_lines))]
 fn run_text(alloc: Global, scenario: &Scenario, opened: &OpenedList) -> Result<Vec<u8>, NoMemory>
     requires within { IsWithin scenario.now }
-    requires built { is_built command.Step scenario.now ≡ true }
+    requires built { is_built scenario.now ≡ true }
     requires set_up { (t : Table) × IsSetUp scenario.now t × (opened.now ≡ opened_by t scenario.now.opens) }
     ensures { IfOk result (λ v. (t : Table) → opened.now ≡ opened_by t scenario.now.opens → v.items ≡ step_text scenario.now t) }
 {
+    right_wirings();
     let mut out = Vec::new(alloc);
     let mut banks = open_banks(alloc, scenario, opened)?;
     run_lines(

@@ -1,4 +1,5 @@
 use crate::run;
+use cpc_package::SIX_FIELDS_PACKAGE;
 use pcc_io::{MemSink, MemSource, NoMemory};
 use pcc_text::put_hex;
 use pcct_codec::{NO_SUBSPACES, ONE_GENERIC_SUBSPACE};
@@ -38,6 +39,18 @@ journal 0 type 0 bank room 16 turnaround 500 rate 0 errors yes\n\
 record 0 caller 0 code 17 ok post 1000 done 1010 timely in 00000000000000000000000000000000 out 00000000000000000000000000000000\n\
 end 0\n";
 
+// Of a hold of 5 two polls leave 3, and two more leave 1. The last command is held for longer than its polls.
+const HOLDS: &[u8] = b"clock 0 10\nopen 0 bank\n\
+call 0 0 16 01 2 5\ncall 1 0 17 - 2 0\ncall 1 0 17 - 2 0\ncall 0 0 17 - 3 100\n";
+
+const HELD: &[u8] =
+    b"4 timed out 2\n5 still pending 2\n6 ok 01000000000000000000000000000000\n7 timed out 3\n\
+journal 0 type 0 bank room 16 turnaround 0 rate 0 errors yes\n\
+record 0 caller 0 code 16 ok post 0 done 10 late in 01000000000000000000000000000000 out 00000000000000000000000000000000\n\
+record 1 caller 1 code 17 ok post 20 done 30 timely in 00000000000000000000000000000000 out 01000000000000000000000000000000\n\
+pending caller 0 code 17 post 40 in 01000000000000000000000000000000\n\
+end 0\n";
+
 const UNBUILT: &[u8] = b"refused unbuilt\n";
 
 const USAGE: &[u8] = b"usage: pccrun show|build|cpc|step|weave|threads|audit|make N\n";
@@ -60,10 +73,11 @@ fn words_of(alloc: Global, text: &str) -> Result<Vec<String>, NoMemory> {
 fn texts_of_scripts(rt: HostRuntime) -> Result<(), Fail> {
     let alloc = rt.alloc();
     let words = words_of(alloc, "step")?;
-    let rows: [(&[u8], u8, &[u8]); 8] = [
+    let rows: [(&[u8], u8, &[u8]); 9] = [
         (SWAPS, 0, SWAPPED),
         (REFUSALS, 0, REFUSED),
-        (b"clock 0 10\nopen 0 bank\ncall 0 0 16 01 3 3\n", 3, UNBUILT),
+        (HOLDS, 0, HELD),
+        (b"clock 0 10\nopen 0 bank\nread 0 0 1 0\n", 3, UNBUILT),
         (b"clock 0 10\nopen 0 cppc -\n", 3, UNBUILT),
         (
             b"clock 0 10\nopen 1 bank\n",
@@ -171,6 +185,61 @@ fn wrong_texts_of_tables_are_refused(rt: HostRuntime) -> Result<(), Fail> {
     for (input, text) in rows {
         assert_eq!(rt; ended(alloc, "build", input, text)?, Some(3));
     }
+    Ok(())
+}
+
+const SIX_FIELDS_TEXT: &[u8] = b"0 NumEntries integer 23 byte\n\
+1 Revision integer 3 byte\n\
+2 HighestPerformance integer 300 word\n\
+3 NominalPerformance integer 200 byte\n\
+4 LowestNonlinearPerformance integer 80 byte\n\
+5 LowestPerformance integer 10 byte\n\
+6 GuaranteedPerformance absent checksum 0\n\
+7 DesiredPerformance register 10:32:0:0:0 checksum 0\n\
+8 MinimumPerformance register 10:32:0:0:4 checksum 0\n\
+9 MaximumPerformance register 10:32:0:0:8 checksum 0\n\
+10 PerformanceReductionTolerance absent checksum 0\n\
+11 TimeWindow absent checksum 0\n\
+12 CounterWraparoundTime integer 0 zero\n\
+13 ReferencePerformanceCounter register 10:64:0:0:16 checksum 0\n\
+14 DeliveredPerformanceCounter register 10:64:0:0:24 checksum 0\n\
+15 PerformanceLimited register 10:32:0:0:12 checksum 0\n\
+16 Enable absent checksum 0\n\
+17 AutonomousSelectionEnable integer 0 zero\n\
+18 AutonomousActivityWindow absent checksum 0\n\
+19 EnergyPerformancePreference absent checksum 0\n\
+20 ReferencePerformance integer 100 byte\n\
+21 LowestFrequency integer 400 word\n\
+22 NominalFrequency integer 2000 word\n";
+
+#[test]
+fn packages_are_printed(rt: HostRuntime) -> Result<(), Fail> {
+    let alloc = rt.alloc();
+    let mut followed = Vec::from_slice(alloc, &SIX_FIELDS_PACKAGE)?;
+    followed.push(0)?;
+    let rows: [(&[u8], u8, &[u8]); 4] = [
+        (&SIX_FIELDS_PACKAGE, 0, SIX_FIELDS_TEXT),
+        (
+            &SIX_FIELDS_PACKAGE[..278],
+            3,
+            b"refused package short 0 278\n",
+        ),
+        (&followed, 3, b"refused package trailing 279\n"),
+        (b"", 3, b"refused package short 0 0\n"),
+    ];
+    for (input, status, text) in rows {
+        assert_eq!(rt; ended(alloc, "cpc", input, text)?, Some(status));
+    }
+    let package = changed(alloc, &SIX_FIELDS_PACKAGE, &[(20, 16)])?;
+    assert_eq!(rt;
+        ended(
+            alloc,
+            "cpc",
+            &package,
+            b"refused package not register 6 17\n"
+        )?,
+        Some(3)
+    );
     Ok(())
 }
 
@@ -423,12 +492,45 @@ fn a_post_below_its_earliest_reading(rt: HostRuntime) -> Result<(), Fail> {
 #[test]
 fn words_that_ask_for_nothing(rt: HostRuntime) -> Result<(), Fail> {
     let alloc = rt.alloc();
-    for text in ["step x", "make 4", "--help", "Step", ""] {
+    for text in [
+        "step x",
+        "make",
+        "make 0",
+        "make 4097",
+        "make 04",
+        "make 4 4",
+        "Step",
+        "",
+    ] {
         let words = words_of(alloc, text)?;
         let mut source = MemSource::new(alloc, TABLE, 100, &[1])?;
         let mut sink = MemSink::new(alloc, 100, 100, &[])?;
         assert_eq!(rt; run(alloc, &words, &mut source, &mut sink).status, 2);
         assert_eq!(rt; sink.bytes_held(), USAGE);
+        assert_eq!(rt; source.bytes_left(), TABLE);
+    }
+    Ok(())
+}
+
+#[test]
+fn summaries_of_made_up_scripts(rt: HostRuntime) -> Result<(), Fail> {
+    let alloc = rt.alloc();
+    let rows: [(&str, &[u8]); 2] = [
+        (
+            "make 2",
+            b"calls 2\nok 2\nerror 0\ntimed out 0\nstill pending 0\nother 0\nrecords 2\npending 0\nsum 1\n",
+        ),
+        (
+            "make 4",
+            b"calls 4\nok 3\nerror 0\ntimed out 1\nstill pending 0\nother 0\nrecords 3\npending 1\nsum 923\n",
+        ),
+    ];
+    for (words, text) in rows {
+        let words = words_of(alloc, words)?;
+        let mut source = MemSource::new(alloc, TABLE, 100, &[1])?;
+        let mut sink = MemSink::new(alloc, 200, 100, &[])?;
+        assert_eq!(rt; run(alloc, &words, &mut source, &mut sink).status, 0);
+        assert_eq!(rt; sink.bytes_held(), text);
         assert_eq!(rt; source.bytes_left(), TABLE);
     }
     Ok(())

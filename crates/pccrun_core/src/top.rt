@@ -3,14 +3,16 @@ ghost use Rattle.std.specs.Prelude.{◌≡◌, ◌≢◌, ◌≤◌, ◌<◌, Li
 ghost use Rattle.std.specs.String.{string_bytes};
 ghost use Rattle.std.specs.Io.KnownBytes.{Appends, Keeps};
 ghost use Rattle.pcc_causes.specs.Causes.{AppendsPrefix, Rose};
-ghost use Rattle.pccrun_core.specs.Answers.{Answers, AsksFor, IsServedInput, Makes, input_limit};
+ghost use Rattle.pccrun_core.specs.Answers.{Answers, AsksFor, AsksToMake, IsServedInput, Makes, input_limit};
 ghost use Rattle.pcc_setup.specs.RefusalText.{HasLine, IsRefusedFor, refused_line};
 ghost use Rattle.pccrun_core.specs.Refusals.{Refuses};
 ghost use Rattle.pccrun_core.specs.Statuses.{code_of};
 ghost use Rattle.pccrun_core.specs.declared.command.Command.{Command};
 ghost use Rattle.pccrun_core.specs.declared.top.Stop.TheVariants.{NoMemory as OutOfMemory};
 
-use crate::command::{Command, command_of, usage};
+use crate::command::{Command, Request, request_of, usage};
+use crate::make::make;
+use crate::package::cpc;
 use crate::step::step;
 use crate::tables::{build, show};
 use crate::weave::weave;
@@ -78,22 +80,33 @@ fn made(alloc: Global, command: Command, input: &[u8]) -> Result<Vec<u8>, InputE
         Command::Weave => weave(alloc, input),
         Command::Show => show(alloc, input),
         Command::Build => build(alloc, input),
+        Command::Cpc => cpc(alloc, input),
     }
 }
 
 // What the words and the bytes of the source lead to.
-#[tactic(auto, using(crate::proofs::Tops::usage, crate::proofs::Tops::made_of, crate::proofs::Tops::refused_for, crate::proofs::Tops::too_long))]
+#[tactic(auto, using(crate::proofs::Tops::usage, crate::proofs::Tops::summed, crate::proofs::Tops::made_of, crate::proofs::Tops::refused_for, crate::proofs::Tops::too_long))]
 fn answer_to<S: Source>(alloc: Global, words: &[String], source: &mut S) -> Result<Answer, Stop>
     ensures answer { IfOk result (λ a. Answers (map (λ w. string_bytes w) words.now) (S.left source.old) (S.left source.new) (code_of a.status) a.text.items) }
     ensures read_fault { IsErrOf result Stop.ReadFault → ((c : Command) × AsksFor (map (λ w. string_bytes w) words.now) c) × Rose (S.faults source.old) (S.faults source.new) }
     ensures unasked { ((c : Command) → AsksFor (map (λ w. string_bytes w) words.now) c → ⊥) → source.new ≡ source.old }
 {
-    let Some(command) = command_of(words) else {
-        let text = copy_of(alloc, usage())?;
-        return Ok(Answer {
-            status: Status::Usage,
-            text,
-        });
+    let command = match request_of(words) {
+        Some(Request::Run(command)) => command,
+        Some(Request::Make { calls }) => {
+            let text = make(alloc, calls)?;
+            return Ok(Answer {
+                status: Status::Done,
+                text,
+            });
+        }
+        None => {
+            let text = copy_of(alloc, usage())?;
+            return Ok(Answer {
+                status: Status::Usage,
+                text,
+            });
+        }
     };
     let bytes = match read_to_end(alloc, source, INPUT_LIMIT) {
         Ok(bytes) => bytes,
@@ -125,7 +138,7 @@ fn refused(alloc: Global, refusal: Refusal) -> Result<Answer, Stop>
 
 /// Does all that the program does for a command without threads: tests the words, reads the source to its end, runs the command, and
 /// writes its whole text. It always returns.
-#[tactic(auto, using(crate::proofs::Tops::served_input_runs))]
+#[tactic(auto, using(crate::proofs::Tops::served_input_runs, crate::proofs::Tops::made_runs, crate::proofs::Tops::makes_alone))]
 pub fn run<S: Source, W: Sink>(
     alloc: Global,
     words: &[String],
@@ -154,7 +167,10 @@ pub fn run<S: Source, W: Sink>(
         → (Rose (S.faults source.old) (S.faults source.new) → ⊥) → (Rose (W.faults sink.old) (W.faults sink.new) → ⊥)
         → result.status ≢ 6 → result.status ≡ 0 }
 
-    // Words that ask for no command leave the source as it was.
+    // A made-up script is always run, where the sink doesn't fail and memory doesn't run out.
+    ensures made { (n : ℕ) → AsksToMake (map (λ w. string_bytes w) words.now) n → (Rose (W.faults sink.old) (W.faults sink.new) → ⊥) → result.status ≢ 6 → result.status ≡ 0 }
+
+    // Words that ask for no command on the input leave the source as it was.
     ensures unasked { ((c : Command) → AsksFor (map (λ w. string_bytes w) words.now) c → ⊥) → source.new ≡ source.old }
 {
     let answer = match answer_to(alloc, words, source) {

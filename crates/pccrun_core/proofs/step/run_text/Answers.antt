@@ -1,5 +1,8 @@
-use Rattle.pccrun_core.proofs.Serving.{banks_distinct, banks_early, banks_named, text_is}
+use Rattle.pccrun_core.proofs.Serving.{banks_distinct, banks_early, banks_named, text_is, wired}
 use Rattle.pccrun_core.proofs.step.run_text.Goals as goal
+
+pub open_banks-requires : goal.open_banks-requires
+open_banks-requires c = wired c.right_wirings.ensures c.args.scenario.now c.args.opened.now c.requires.set_up
 
 pub run_lines-requires-clause-named : goal.run_lines-requires-clause-named
 run_lines-requires-clause-named c = banks_named c.args.scenario.now c.args.opened.now c.in_ok-banks.banks.items c.requires.set_up c.in_ok-banks.ensures
