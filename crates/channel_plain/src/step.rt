@@ -13,6 +13,7 @@ use pcc_exec::Executor;
 use pcc_steps::{Action, AnswerState, answer_next, answer_ran, answer_space, answer_start};
 
 /// Makes a word step. Answers the value that was loaded or found, and 0 where there is none.
+#[inline(always)]
 pub fn perform(words: &mut [u64], action: Action) -> u64
     requires { IsWithin (length words.old) action }
     ensures words { words.new ≡ act action words.old }

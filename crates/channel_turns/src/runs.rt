@@ -26,6 +26,7 @@ const COMPLETION: usize = 0;
 // ---- the asking machine
 
 // The next word step.
+#[inline(always)]
 fn ask_step(words: &mut [u64], ask: &mut AskState) -> Option<AskOutcome>
     requires runs { IsAskRunning ask.old }
     requires long { length words.old ≡ 8 + block_of ask.old.wiring }
@@ -95,6 +96,7 @@ pub(crate) fn look_run(words: &mut [u64], ask: &mut AskState) -> AskOutcome
 // ---- the answering machine
 
 // The device executes the command that is loaded, if one is.
+#[inline(always)]
 fn run_device<E: Executor>(answer: &mut AnswerState, device: &mut E)
     requires { E.room_of (E.state device.old) ≡ answer.old.wiring.room }
     ensures right { AnswerOk answer.old }
@@ -108,6 +110,7 @@ fn run_device<E: Executor>(answer: &mut AnswerState, device: &mut E)
 }
 
 // The next word step, with the device's turn.
+#[inline(always)]
 fn answer_step<E: Executor>(
     words: &mut [u64],
     answer: &mut AnswerState,

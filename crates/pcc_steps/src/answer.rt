@@ -140,6 +140,7 @@ pub fn answer_start(answer: &mut AnswerState)
 
 /// The next word step, `Execute` where the device is to run, `Rest` exactly where no run is under way.
 #[tactic(auto, using(crate::proofs::Nexts::answer_rests, crate::proofs::Nexts::answer_executes, crate::proofs::Nexts::answer_within))]
+#[inline(always)]
 pub fn answer_next(answer: &AnswerState) -> Action
     ensures action { result ≡ answer_next answer.now }
     ensures rest { (answer_next answer.now ≡ Rest) ↔ (answer.now.stage ≡ AnswerRest) }
@@ -189,6 +190,7 @@ pub fn answer_next(answer: &AnswerState) -> Action
 /// Takes what the step found: the value of a load or a swap, any number for a store. Answers how the run ended, exactly
 /// where it ended with this step.
 #[tactic(auto, using(crate::proofs::Nexts::idle_told))]
+#[inline(always)]
 pub fn answer_feed(answer: &mut AnswerState, value: u64) -> Option<AnswerOutcome>
     requires { IsAnswerStepping answer.old }
     ensures state { answer.new ≡ answer_fed answer.old value }
@@ -200,6 +202,7 @@ pub fn answer_feed(answer: &mut AnswerState, value: u64) -> Option<AnswerOutcome
     told
 }
 
+#[inline(always)]
 fn feed(answer: &mut AnswerState, value: u64) -> Option<AnswerOutcome>
     ensures state { answer.new ≡ answer_fed_at answer.old.stage answer.old value }
     ensures told { result ≡ answer_told_at answer.old.stage answer.old value }
@@ -217,6 +220,7 @@ fn feed(answer: &mut AnswerState, value: u64) -> Option<AnswerOutcome>
 }
 
 // A step that takes the command.
+#[inline(always)]
 fn feed_command(answer: &mut AnswerState, value: u64) -> Option<AnswerOutcome>
     requires { IsTaking answer.old.stage }
     ensures state { answer.new ≡ answer_fed_at answer.old.stage answer.old value }
@@ -256,6 +260,7 @@ fn feed_command(answer: &mut AnswerState, value: u64) -> Option<AnswerOutcome>
 }
 
 // A step that stores the reply.
+#[inline(always)]
 fn feed_reply(answer: &mut AnswerState) -> Option<AnswerOutcome>
     requires { IsReplying answer.old.stage }
     ensures state { (value : ℕ) → answer.new ≡ answer_fed_at answer.old.stage answer.old value }

@@ -186,6 +186,7 @@ impl AskState {
 
 /// The next word step: `Rest` exactly where no run is under way.
 #[tactic(auto, using(crate::proofs::Nexts::ask_rests, crate::proofs::Nexts::ask_within))]
+#[inline(always)]
 pub fn ask_next(ask: &AskState) -> Action
     ensures action { result ≡ ask_next ask.now }
     ensures rest { (ask_next ask.now ≡ Rest) ↔ (ask.now.stage ≡ AskRest) }
@@ -268,6 +269,7 @@ pub fn ask_look(ask: &mut AskState)
 /// Takes what the step found: the value of a load or a swap, any number for a store. Answers how the run ended, exactly
 /// where it ended with this step.
 #[tactic(auto, using(crate::proofs::Nexts::clear_told))]
+#[inline(always)]
 pub fn ask_feed(ask: &mut AskState, value: u64) -> Option<AskOutcome>
     requires { IsAskRunning ask.old }
     ensures state { ask.new ≡ ask_fed ask.old value }
@@ -279,6 +281,7 @@ pub fn ask_feed(ask: &mut AskState, value: u64) -> Option<AskOutcome>
     told
 }
 
+#[inline(always)]
 fn feed(ask: &mut AskState, value: u64) -> Option<AskOutcome>
     ensures state { ask.new ≡ ask_fed_at ask.old.stage ask.old value }
     ensures told { result ≡ ask_told_at ask.old.stage ask.old value }
@@ -297,6 +300,7 @@ fn feed(ask: &mut AskState, value: u64) -> Option<AskOutcome>
 }
 
 // A step of a run that posts.
+#[inline(always)]
 fn feed_post(ask: &mut AskState, value: u64) -> Option<AskOutcome>
     requires { IsPosting ask.old.stage }
     ensures state { ask.new ≡ ask_fed_at ask.old.stage ask.old value }
@@ -356,6 +360,7 @@ fn feed_completion(ask: &mut AskState, value: u64) -> Option<AskOutcome>
 }
 
 // A step of a look that saw completion.
+#[inline(always)]
 fn feed_reply(ask: &mut AskState, value: u64) -> Option<AskOutcome>
     requires { IsReading ask.old.stage }
     ensures state { ask.new ≡ ask_fed_at ask.old.stage ask.old value }
