@@ -9,4 +9,5 @@ pub mod Tops
 mod BankLists
 mod Serving
 mod Counting
+mod MadeUp
 pub mod Several

@@ -15,7 +15,7 @@ use std::alloc::Global;
 /// The channel of a Bank, both of whose ends are called in turn.
 pub type BankChannel = TurnChannel<Bank>;
 
-/// A channel for an opened subspace, with zeros in its device and its space, which nothing was asked of.
+// A channel for an opened subspace, with zeros in its device and its space, which nothing was asked of.
 fn open_bank(alloc: Global, scenario: &Scenario, opened: &Opened) -> Result<BankChannel, NoMemory>
     requires { IsWired opened.now }
     ensures { IfOk result (λ b. b ≡ new_bank opened.now.head (clock_of scenario.now)) }

@@ -136,8 +136,8 @@ fn refused(alloc: Global, refusal: Refusal) -> Result<Answer, Stop>
     })
 }
 
-/// Does all that the program does for a command without threads: tests the words, reads the source to its end, runs the command, and
-/// writes its whole text. It always returns.
+/// Does all that the program does for a command without threads: tests the words, reads the source to its end where they ask for a command on
+/// the input, runs what they ask for, and writes its whole text. It always returns.
 #[tactic(auto, using(crate::proofs::Tops::served_input_runs, crate::proofs::Tops::made_runs, crate::proofs::Tops::makes_alone))]
 pub fn run<S: Source, W: Sink>(
     alloc: Global,

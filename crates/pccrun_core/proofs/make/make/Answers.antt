@@ -1,7 +1,7 @@
 use Rattle.std.proofs.Common.{◌≡◌, sym, subst, true}
 use Rattle.pcc_script.specs.declared.scenario.Scenario.{Scenario}
 use Rattle.pccrun_core.specs.SetUp.{is_built}
-use Rattle.pccrun_core.proofs.Counting.{if_ok_more, made_alone, made_built, made_kept, made_summary}
+use Rattle.pccrun_core.proofs.MadeUp.{if_ok_more, made_alone, made_built, made_kept, made_summary}
 use Rattle.pccrun_core.proofs.make.make.Goals as goal
 
 pub run_summary-requires-clause-built : goal.run_summary-requires-clause-built

@@ -1,5 +1,5 @@
 use Rattle.std.proofs.Common.{arith}
-use Rattle.pccrun_core.proofs.Counting.{if_ok_more, some_bank, summary_is}
+use Rattle.pccrun_core.proofs.MadeUp.{if_ok_more, some_bank, summary_is}
 use Rattle.pccrun_core.proofs.Serving.{banks_distinct, banks_early, banks_named, wired}
 use Rattle.pccrun_core.proofs.make.run_summary.Goals as goal
 
