@@ -1,5 +1,5 @@
 //! A source and a sink in memory, for tests: they give and take in pieces and fail at chosen calls.
-ghost use Rattle.std.specs.Prelude.{◌≡◌, ◌<◌, ◌≤◌, ◌==◌, ◌++◌, ◌-◌, ◌↔◌, ◌⊎◌, length, min, take, drop, [], Some, IfOk, IsErr, IsTrue, OnOk, OnErr};
+ghost use Rattle.std.specs.Prelude.{◌≡◌, ◌<◌, ◌≤◌, ◌==◌, ◌++◌, ◌-◌, ◌↔◌, ◌⊎◌, length, min, take, drop, [], Some, IfOk, IsErr, IsTrue, MatchResult, ◌^◌, OnOk, OnErr};
 ghost use Rattle.std.specs.List.{list_any};
 ghost use Rattle.std.specs.Io.{ReadsAtMost, WritesAtMost};
 ghost use Rattle.std.specs.Io.KnownBytes.{ReadConsumes, WriteAppends};
@@ -90,7 +90,12 @@ impl Source for MemSource {
         ensures bound { ReadsAtMost result buf.new }
         ensures bytes { ReadConsumes (Some self.old.left) (Some self.new.left) result buf.new }
         ensures cause { HasCause self.old.faults self.new.faults result }
+        ensures calm { IfOk result (λ _. self.new.faults ≡ self.old.faults) }
+        ensures most { self.new.faults < 2 ^ 64 }
+
+        // Which calls fail, how many bytes a call gives, and that a fault is counted once.
         ensures fails { IsErr result ↔ IsTrue (fails_next self.old.fails self.old.calls) }
+        ensures counted { MatchResult result (λ _. self.new.faults ≡ self.old.faults) (λ _. self.new.faults ≡ raised self.old.faults) }
         ensures given { IfOk result (λ n. n ≡ min (length buf.old) (min self.old.give (length self.old.left))) }
         ensures fixed { (self.new.give ≡ self.old.give) × (self.new.fails ≡ self.old.fails) × (self.new.calls ≡ raised self.old.calls) }
     {
@@ -167,8 +172,14 @@ impl Sink for MemSink {
         ensures bytes { WriteAppends (Some self.old.held) (Some self.new.held) result piece.now }
         ensures cause { HasCause self.old.faults self.new.faults result }
         ensures nothing { IfOk result (λ n. n ≡ 0 → 0 < length piece.now → Rose self.old.faults self.new.faults) }
+        ensures calm { IfOk result (λ n. 0 < n → self.new.faults ≡ self.old.faults) }
+        ensures calm_empty { IfOk result (λ _. length piece.now ≡ 0 → self.new.faults ≡ self.old.faults) }
+        ensures most { self.new.faults < 2 ^ 64 }
+
+        // Which calls fail, how many bytes a call takes, and that a fault is counted once.
         ensures fails { IsErr result ↔ (IsTrue (fails_next self.old.fails self.old.calls)
             ⊎ ((0 < length piece.now) × (length self.old.held ≡ self.old.room))) }
+        ensures counted { MatchResult result (λ _. self.new.faults ≡ self.old.faults) (λ _. self.new.faults ≡ raised self.old.faults) }
         ensures taken { IfOk result (λ n. n ≡ min (length piece.now) (min self.old.take (self.old.room - length self.old.held))) }
         ensures fixed { (self.new.room ≡ self.old.room) × (self.new.take ≡ self.old.take) × (self.new.fails ≡ self.old.fails)
             × (self.new.calls ≡ raised self.old.calls) }

@@ -16,7 +16,7 @@ pub trait Source {
     /// The bytes that reads will give from here on, where the source tells them.
     ghost left: { Self → Option (List ℕ) };
 
-    /// How often the source has failed. The count stops at the greatest u64.
+    /// How often the source has failed. The count stops at the greatest u64, and only a call that fails raises it.
     ghost faults: { Self → ℕ };
 
     /// Moves the first bytes of what is left into the buffer, and answers how many. It gives a buffer that isn't empty no byte
@@ -24,7 +24,9 @@ pub trait Source {
     fn read(&mut self, buf: &mut [u8]) -> Result<usize, Failed>
         ensures bound { ReadsAtMost result buf.new }
         ensures bytes { ReadConsumes (left self.old) (left self.new) result buf.new }
-        ensures cause { HasCause (faults self.old) (faults self.new) result };
+        ensures cause { HasCause (faults self.old) (faults self.new) result }
+        ensures calm { IfOk result (λ _. faults self.new ≡ faults self.old) }
+        ensures most { faults self.new < 2 ^ 64 };
 }
 
 /// Why a source wasn't read to its end.
@@ -62,8 +64,10 @@ pub fn read_to_end<S: Source>(
     ensures too_long { (n : ℕ) → IsErrOf result (ReadEnd.TooLong n) → (n ≡ limit)
         × ((bs : List ℕ) × Consumes (S.left source.old) (S.left source.new) bs × (length bs ≡ limit + 1)) }
 
-    // Only the source can make it a fault, and its count never falls.
+    // Only the source can make it a fault, and its count never falls. It rises with that fault alone.
     ensures fault { IsErrOf result ReadEnd.ReadFault → Rose (S.faults source.old) (S.faults source.new) }
+    ensures calm { (IsErrOf result ReadEnd.ReadFault → ⊥) → S.faults source.new ≡ S.faults source.old }
+    ensures most { S.faults source.new < 2 ^ 64 }
     ensures later { S.faults source.old ≤ S.faults source.new }
     ensures gone { TakesAtMost (S.left source.old) (S.left source.new) (limit + 1) }
 {

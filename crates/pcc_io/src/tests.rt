@@ -72,8 +72,8 @@ fn writes_whole_or_a_prefix(rt: HostRuntime) -> Result<(), Fail> {
 fn standard_streams_are_a_source_and_a_sink(rt: HostRuntime) -> Result<(), Fail> {
     let alloc = rt.alloc();
     let mut source = StdSource::new(rt.stdin());
-    let bytes = read_to_end(alloc, &mut source, 100).ok().ok_or("refused")?;
+    read_to_end(alloc, &mut source, 100).ok().ok_or("refused")?;
     let mut sink = StdSink::new(rt.stdout());
-    assert_eq!(rt; write_whole(&mut sink, &bytes), Ok(()));
+    assert_eq!(rt; write_whole(&mut sink, b"written\n"), Ok(()));
     Ok(())
 }

@@ -49,10 +49,3 @@ pub fn read_hex(text: &[u8], out: &mut [u8])
         out[i] = value(text[2 * i]) * 16 + value(text[2 * i + 1]);
     }
 }
-
-/// What a slice of bytes holds are bytes. It does nothing.
-pub fn are_bytes(bytes: &[u8])
-    ensures { IsBytes bytes.now }
-{
-    let _ = bytes;
-}

@@ -7,9 +7,10 @@ ghost use Rattle.pcc_bytes.specs.Bytes.{IsBytes};
 ghost use Rattle.pcc_bytes.specs.Fields.{hex_text, split_at};
 ghost use Rattle.pcc_text.specs.Reading.{hex_of, number_after, number_of};
 
-use crate::digits::{are_bytes, read_hex};
+use crate::digits::read_hex;
 use crate::put_hex;
 use memchr::memchr_iter;
+use pcc_bytes::are_bytes;
 use pcc_io::{Bytes, NoMemory};
 use std::alloc::Global;
 
