@@ -18,3 +18,4 @@ pub mod Lengths
 pub mod Nexts
 pub mod Asks
 pub mod Turns
+pub mod WordSteps

@@ -59,6 +59,14 @@ Finds (Swap p x) ws v = v ≡ get_or ws p 0
 Finds (Execute code) ws v = Unit {0}
 Finds Rest ws v = Unit {0}
 
+-- the value that a step loads or finds, 0 where there is none
+abbrev pub found : Action → List ℕ → ℕ
+found (Load p) ws = get_or ws p 0
+found (Swap p v) ws = get_or ws p 0
+found (Store p v) ws = 0
+found (Execute code) ws = 0
+found Rest ws = 0
+
 -- the first j words of the new list, then those of the old one
 abbrev pub mix : ℕ → List ℕ → List ℕ → List ℕ
 mix j new old = take j new ++ drop j old

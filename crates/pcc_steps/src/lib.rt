@@ -6,6 +6,7 @@ mod ask;
 mod block;
 mod laws;
 mod wiring;
+mod words;
 
 pub use answer::{
     AnswerOutcome, AnswerStage, AnswerState, answer_execute, answer_feed, answer_next, answer_ran,
@@ -19,6 +20,7 @@ pub use laws::{
     history_laws,
 };
 pub use wiring::{Action, Style, Wiring};
+pub use words::{opening_words, perform};
 
 #[cfg(test)]
 mod tests;
