@@ -16,7 +16,7 @@ pub use ask::{
     AskOutcome, AskStage, AskState, ask_begin, ask_budget, ask_feed, ask_look, ask_next,
 };
 pub use laws::{
-    answering_laws, answering_tables, asked_laws, asking_laws, asking_tables, device_laws,
+    answering_laws, answering_tables, asking_laws, asking_tables, device_laws,
     history_laws,
 };
 pub use wiring::{Action, Style, Wiring};
