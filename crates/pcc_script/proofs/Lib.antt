@@ -15,3 +15,4 @@ pub mod Places
 pub mod Within
 pub mod Written
 pub mod Generated
+pub mod Telling

@@ -57,7 +57,7 @@ whole_from rs h =
 one_leb : (n : ℕ) → 1 ≤ n → leb 1 n ≡ true
 one_leb n h = grind (arith, nat_tests)
 
-whole_is : (rs : List Statement) → IsWhole rs → is_whole rs ≡ true
+pub whole_is : (rs : List Statement) → IsWhole rs → is_whole rs ≡ true
 whole_is rs h = rw (one_leb (count_at 0 rs) h.0, one_leb (count_at 1 rs) h.1, one_leb (count_at 2 rs) h.2) refl
 
 -- the lines are right and whole, and the text is theirs

@@ -8,7 +8,7 @@ use Rattle.pcc_script.specs.declared.fault.ScriptKind.TheVariants as kind
 use Rattle.pcc_script.specs.declared.scenario.Scenario.{Scenario}
 use Rattle.pcc_script.specs.declared.word.Word.{Word}
 use Rattle.pcc_script.specs.Rows.{AtLeast, AtMost, Exactly, field_at, field_fault, most, place, Step, steps_of, Takes, text_of}
-use Rattle.pcc_script.specs.Text.{after, count_at, InOrder, IsRight, IsWhole, next_of, Statement, statements_text}
+use Rattle.pcc_script.specs.Text.{after, count_at, InOrder, IsRight, IsScenario, IsWhole, next_of, script_text, Statement, statements_text}
 
 -- the fault where a test doesn't hold
 abbrev pub fault_of : Step → ScriptKind
@@ -34,6 +34,20 @@ pub data TextWrong (text : List ℕ) : ℕ → ScriptKind → Type 0 where
   AtLine : (before : List Statement) → (bytes rest : List ℕ) → (k : ScriptKind) → InOrder [] before → IsOneLine bytes → text ≡ statements_text before ++ (bytes ++ 10 ∷ rest) → LineWrong before (split_at 32 bytes) k → TextWrong text (suc (length before)) k
   NoEnd : (before : List Statement) → (bytes : List ℕ) → InOrder [] before → IsOneLine bytes → 1 ≤ length bytes → text ≡ statements_text before ++ bytes → TextWrong text (suc (length before)) kind.Newline
   NotWhole : (before : List Statement) → InOrder [] before → (IsWhole before → ⊥) → text ≡ statements_text before → TextWrong text (suc (length before)) kind.Missing
+
+-- ---- what a text is
+
+-- a text spells a scenario that has a text
+pub record HasScenario (text : List ℕ) : Type 0 where
+  pub scenario : Scenario
+  pub right : IsScenario scenario
+  pub spelled : text ≡ script_text scenario
+
+-- something is wrong in a text
+pub record HasFault (text : List ℕ) : Type 0 where
+  pub line : ℕ
+  pub kind : ScriptKind
+  pub wrong : TextWrong text line kind
 
 -- ---- what a caller is told
 

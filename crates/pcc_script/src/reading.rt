@@ -1,9 +1,9 @@
 //! A text is read line by line, to the scenario that it spells or to its first fault.
-ghost use Rattle.std.specs.Prelude.{◌≡◌, ◌↔◌, ◌<◌, ◌≤◌, ℕ, suc, None, IfOk, length};
+ghost use Rattle.std.specs.Prelude.{◌≡◌, ◌↔◌, ◌⊎◌, ◌<◌, ◌≤◌, ℕ, List, suc, None, IfOk, length};
 ghost use Rattle.pcc_bytes.specs.Fields.{split_at};
 ghost use Rattle.pcc_script.specs.Rows.{most, place};
 ghost use Rattle.pcc_script.specs.Text.{IsScenario, script_text, statements_of};
-ghost use Rattle.pcc_script.specs.Faults.{IfFault, IsReadAs, IsRefusedAt, TextWrong};
+ghost use Rattle.pcc_script.specs.Faults.{HasFault, HasScenario, IfFault, IsReadAs, IsRefusedAt, TextWrong};
 ghost use Rattle.pcc_script.specs.Limits.{IsWithin};
 ghost use Rattle.pcc_script.specs.Reading.{count_for, ended, entry_statement, Gives, read_statement, read_text, so_far, Tells};
 ghost use Rattle.pcc_script.specs.declared.fault.ScriptKind.{ScriptKind};
@@ -90,4 +90,13 @@ pub fn scenario_from(alloc: Global, text: &[u8]) -> Result<Scenario, ScriptError
 /// A scenario has a text exactly where its fields are within the limits.
 pub fn within_limits()
     ensures { (s : Scenario) → IsWithin s ↔ IsScenario s }
+{}
+
+/// A text spells a scenario or has a fault, never both; it has one first fault at most, and two scenarios have two texts. It does nothing.
+pub fn text_laws()
+    ensures some { (text : List ℕ) → HasScenario text ⊎ HasFault text }
+    ensures not_both { (text : List ℕ) → HasScenario text → HasFault text → ⊥ }
+    ensures one_fault { (text : List ℕ) (line other : ℕ) (kind another : ScriptKind) → TextWrong text line kind → TextWrong text other another
+        → (line ≡ other) × (kind ≡ another) }
+    ensures one_scenario { (s t : Scenario) → IsScenario s → IsScenario t → script_text s ≡ script_text t → s ≡ t }
 {}
