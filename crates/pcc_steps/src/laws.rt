@@ -2,6 +2,7 @@
 //! relation, from the stepping end's own state and its one word, so the laws serve one owner of the words, and two
 //! threads that share them.
 ghost use Rattle.pcc_steps.specs.Laws.{StartsAgreed, AskStepAgrees, PostBeginAgrees, LookBeginAgrees, BudgetAgrees, AnswerBeginAgrees, AnswerStepAgrees, DeviceStays, DeviceTurns, DeviceRests, HistoriesAgree, PostsByTable, LooksByTable, AsksByTable, PostsWithin, LooksWithin, AskRunsWithin, AnswersByTable, AnswerStepsByTable, ExecutesByTable, AnswersWithin, AnswerRunsWithin};
+ghost use Rattle.pcc_steps.specs.Reached.{ReachedIsSound};
 
 use pcc_exec::Executor;
 
@@ -55,4 +56,10 @@ pub fn device_laws()
 /// Each end's history, by the relation. It does nothing.
 pub fn history_laws()
     ensures { HistoriesAgree }
+{}
+
+/// The theorem for every list of steps: each state that is reached from new machines over the opening content, by calls
+/// that are begun and single word steps of either end in any order, is sound. It does nothing.
+pub fn reached_laws<E: Executor>()
+    ensures { ReachedIsSound E.exec_of E.is_state E.room_of }
 {}

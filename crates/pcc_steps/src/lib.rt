@@ -17,7 +17,7 @@ pub use ask::{
 };
 pub use laws::{
     answering_laws, answering_tables, asking_laws, asking_tables, device_laws,
-    history_laws,
+    history_laws, reached_laws,
 };
 pub use wiring::{Action, Style, Wiring};
 pub use words::{opening_words, perform};
