@@ -22,3 +22,4 @@ pub mod Turns
 pub mod WordSteps
 pub mod Wired
 pub mod Reaches
+pub mod Ends

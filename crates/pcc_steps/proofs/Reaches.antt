@@ -1,19 +1,19 @@
 -- Every state that is reached is sound.
-use Rattle.std.proofs.Common.{◌≡◌, ◌⊎◌, ℕ, ◌^◌, ◌<◌, Bool, true, false, List, [], ◌∷◌, ◌++◌, length, take, refl, sym, ap, ◌∙◌, subst, inl, inr, ⊎_elim}
+use Rattle.std.proofs.Common.{◌≡◌, ◌⊎◌, ℕ, Bool, true, false, List, [], ◌∷◌, ◌++◌, length, take, refl, sym, ap, ◌∙◌, subst, inl, inr}
 use Rattle.std.proofs.lemmas.List.{append-nil}
 use Rattle.pcc_bytes.specs.Bytes.{IsBytes}
 use Rattle.pcc_exec.specs.Execution.{IsSpace, Leaves}
 use Rattle.pcc_history.specs.Devices.{Device}
 use Rattle.pcc_history.specs.Channel.{Exchange, over}
-use Rattle.pcc_history.specs.Histories.{Legal, WholeHistory, space_after}
+use Rattle.pcc_history.specs.Histories.{Legal, WholeHistory}
 use Rattle.pcc_steps.specs.declared.wiring.Wiring.{Wiring}
 use Rattle.pcc_steps.specs.declared.wiring.Action.{Action}
 use Rattle.pcc_steps.specs.declared.ask.AskStage.{AskStage}
 use Rattle.pcc_steps.specs.declared.ask.AskStage.TheVariants.{AskRest}
 use Rattle.pcc_steps.specs.Asking.{Ask, ask_next}
 use Rattle.pcc_steps.specs.Answering.{answer_next}
-use Rattle.pcc_steps.specs.Agree.{Core, Finds, found, Asker, Answerer, Pose, free, writing, cleared, waiting, reading, resting, pose, pose_at, Turn, quiet, taken, replying, turn, flight, answered, Fits, Trail, trail, HasAskedBy, is_pending_at, is_pending, Agree}
-use Rattle.pcc_steps.specs.Reached.{State, Reached, at_first, sets_budget, begins_post, begins_look, begins_answer, steps_ask, steps_answer, FollowsAsked, IsSound, ReachedIsSound}
+use Rattle.pcc_steps.specs.Agree.{Core, found, Asker, Answerer, Pose, free, writing, cleared, waiting, reading, resting, pose, pose_at, Turn, quiet, taken, replying, turn, flight, answered, Fits, Trail, trail, HasAskedBy, is_pending_at, is_pending, Agree}
+use Rattle.pcc_steps.specs.Reached.{State, Reached, at_first, sets_budget, begins_post, begins_look, begins_answer, steps_ask, steps_answer, IsSound}
 use Rattle.pcc_steps.proofs.Headers.{whole_more}
 use Rattle.pcc_steps.proofs.Trails.{waits_pends}
 use Rattle.pcc_steps.proofs.WordSteps.{finds_found}

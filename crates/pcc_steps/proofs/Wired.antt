@@ -1,15 +1,13 @@
 -- A word step keeps the wiring, and the count of steps until it is counted.
-use Rattle.std.proofs.Common.{◌≡◌, ℕ, Bool, true, false, eqb, refl, ap, ◌∙◌}
-use Rattle.pcc_history.specs.Devices.{Device}
+use Rattle.std.proofs.Common.{◌≡◌, ℕ, Bool, true, false, eqb, refl, ap}
 use Rattle.pcc_steps.specs.declared.wiring.Wiring.{Wiring}
 use Rattle.pcc_steps.specs.declared.ask.AskStage.{AskStage}
 use Rattle.pcc_steps.specs.declared.ask.AskStage.TheVariants.{PostBlock, LookWord, LookBlock, LookLine, LookLineStore}
 use Rattle.pcc_steps.specs.declared.answer.AnswerStage.{AnswerStage}
-use Rattle.pcc_steps.specs.declared.answer.AnswerStage.TheVariants.{TakeLine, TakeBlock, RunDevice, ReplyBlock}
+use Rattle.pcc_steps.specs.declared.answer.AnswerStage.TheVariants.{TakeLine, TakeBlock, ReplyBlock}
 use Rattle.pcc_steps.specs.Wires.{sees_done, acknowledges}
 use Rattle.pcc_steps.specs.Asking.{Ask, has_more, ask_fed_at, store_on, look_on, block_on, read_on, line_on, lowered_on}
 use Rattle.pcc_steps.specs.Answering.{Answer, answer_fed_at, take_on, load_on, reply_on}
-use Rattle.pcc_steps.specs.Agree.{Answerer, settle_at}
 
 -- ---- the asking machine
 

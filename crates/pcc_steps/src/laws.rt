@@ -1,7 +1,7 @@
 //! What holds of the words and both ends between any two word steps, as laws. Each step goes from any state that has the
 //! relation, from the stepping end's own state and its one word, so the laws serve one owner of the words, and two
 //! threads that share them.
-ghost use Rattle.pcc_steps.specs.Laws.{StartsAgreed, AskStepAgrees, PostBeginAgrees, LookBeginAgrees, BudgetAgrees, AnswerBeginAgrees, AnswerStepAgrees, DeviceStays, DeviceTurns, DeviceRests, HistoriesAgree, PostsByTable, LooksByTable, AsksByTable, PostsWithin, LooksWithin, AskRunsWithin, AnswersByTable, AnswerStepsByTable, ExecutesByTable, AnswersWithin, AnswerRunsWithin};
+ghost use Rattle.pcc_steps.specs.Laws.{StartsAgreed, AskStepAgrees, PostBeginAgrees, LookBeginAgrees, BudgetAgrees, AnswerBeginAgrees, AnswerStepAgrees, DeviceStays, DeviceTurns, DeviceRests, HistoriesAgree, PostsByTable, LooksByTable, AsksByTable, PostsWithin, LooksWithin, AskRunsWithin, AnswersByTable, AnswerStepsByTable, ExecutesByTable, AnswersWithin, AnswerRunsWithin, AskTellsEnds, AnswerTellsEnds, AskStepsCount, AnswerStepsCount, CountRises, AskCountWithin, AnswerCountWithin, AskStepWithin};
 ghost use Rattle.pcc_steps.specs.Reached.{ReachedIsSound};
 
 use pcc_exec::Executor;
@@ -34,6 +34,23 @@ pub fn asking_tables()
     ensures posts { PostsWithin }
     ensures looks { LooksWithin }
     ensures runs { AskRunsWithin }
+{}
+
+/// A run of either machine ends exactly with the step that tells its outcome. It does nothing.
+pub fn ending_laws()
+    ensures asks { AskTellsEnds }
+    ensures answers { AnswerTellsEnds }
+{}
+
+/// The count of word steps of either machine: each step raises it by one until it stands at 2^64 - 1, and a run raises
+/// it by no more than its table has steps. It does nothing.
+pub fn counting_laws()
+    ensures rises { CountRises }
+    ensures asks { AskStepsCount }
+    ensures answers { AnswerStepsCount }
+    ensures within { AskStepWithin }
+    ensures ask_run { AskCountWithin }
+    ensures answer_run { AnswerCountWithin }
 {}
 
 /// The answering machine walks the table of its runs, and how long they are. It does nothing.

@@ -16,8 +16,8 @@ pub use ask::{
     AskOutcome, AskStage, AskState, ask_begin, ask_budget, ask_feed, ask_look, ask_next,
 };
 pub use laws::{
-    answering_laws, answering_tables, asking_laws, asking_tables, device_laws,
-    history_laws, reached_laws,
+    answering_laws, answering_tables, asking_laws, asking_tables, counting_laws, device_laws,
+    ending_laws, history_laws, reached_laws,
 };
 pub use wiring::{Action, Style, Wiring};
 pub use words::{opening_words, perform};
