@@ -23,3 +23,4 @@ pub mod WordSteps
 pub mod Wired
 pub mod Reaches
 pub mod Ends
+pub mod Refusals

@@ -1,5 +1,5 @@
 -- What the word steps of both ends keep, from any state that has the relation.
-use Rattle.std.specs.Prelude.{◌≢◌, ◌≡◌, ◌↔◌, ◌⊎◌, ℕ, ◌+◌, ◌-◌, ◌*◌, ◌≤◌, ◌<◌, ◌^◌, Bool, true, false, List, [], ◌∷◌, ◌++◌, length, drop, None}
+use Rattle.std.specs.Prelude.{◌≢◌, ◌≡◌, ◌↔◌, ◌⊎◌, ℕ, ◌+◌, ◌-◌, ◌*◌, ◌≤◌, ◌<◌, ◌^◌, Bool, true, false, not, List, [], ◌∷◌, ◌++◌, length, drop, None}
 use Rattle.pcc_bytes.specs.Bytes.{IsBytes}
 use Rattle.pcc_history.specs.Devices.{Device}
 use Rattle.pcc_history.specs.Channel.{Exchange, over, exchange_of}
@@ -8,12 +8,13 @@ use Rattle.shmem_header.specs.Spelling.{words_of, bytes_of}
 use Rattle.pcc_steps.specs.declared.wiring.Wiring.{Wiring}
 use Rattle.pcc_steps.specs.declared.ask.AskStage.TheVariants.{AskRest}
 use Rattle.pcc_steps.specs.declared.answer.AnswerStage.TheVariants.{AnswerRest, RunDevice}
+use Rattle.pcc_steps.specs.declared.wiring.Style.TheVariants.{Headed}
 use Rattle.pcc_steps.specs.Wires.{style_of, heads_of, block_of, block_header, opening_words}
 use Rattle.pcc_steps.specs.Asking.{Ask, AskOk, IsNewAsk, IsAskRunning, ask_next, ask_fed, ask_told, ask_begun, ask_looking, ask_budgeted, rose}
 use Rattle.pcc_steps.specs.Answering.{Answer, AnswerOk, IsNewAnswer, IsAnswerStepping, answer_next, answer_fed, answer_told, answer_begun, answer_code, ran_with}
 use Rattle.pcc_steps.specs.Runs.{Within, post_run, look_run, answer_run}
 use Rattle.pcc_steps.specs.Walk.{ask_left, ask_after, answer_left, answer_after, Takes, Gives}
-use Rattle.pcc_steps.specs.Agree.{act, Finds, Asker, Answerer, new_asker, asker_fed, asker_begun, answerer_fed, Agree}
+use Rattle.pcc_steps.specs.Agree.{act, Finds, Asker, Answerer, new_asker, asker_fed, asker_begun, answerer_fed, is_pending, Agree}
 
 -- two new machines, over the opening content
 abbrev pub StartsAgreed : Type 0
@@ -54,6 +55,45 @@ DeviceStays exec is_state room_of = (start ws : List ℕ) (x : Asker) (y : Answe
 -- the asking end's history is the answering end's, or all of it but the last exchange; the answering end's is legal
 abbrev pub HistoriesAgree : Type 0
 HistoriesAgree = (exec : Device) (start ws : List ℕ) (x : Asker) (y : Answerer) → Agree exec start ws x y → ((y.done ≡ x.done) ⊎ ((e : Exchange) × (y.done ≡ x.done ++ e ∷ []))) × Legal exec x.m.wiring.reports start y.done × (y.device ≡ state_after exec start y.done)
+
+-- ---- what the relation refuses of the command that is pending
+
+-- header words of another identity (types 3 to 5)
+abbrev pub RefusesIdentity : Type 0
+RefusesIdentity = (exec : Device) (start ws : List ℕ) (x : Asker) (y : Answerer) (id code asked : ℕ) (rest : List ℕ)
+    → Agree exec start ws x y → is_pending x.m ≡ true → style_of x.m.wiring ≢ Headed → id < 256 → id ≢ x.m.wiring.id
+    → x.m.sent ≢ block_header (style_of x.m.wiring) (record x.m.wiring { id = id }) code asked ++ rest
+
+-- header words of another notify flag (types 3 and 4)
+abbrev pub RefusesFlag : Type 0
+RefusesFlag = (exec : Device) (start ws : List ℕ) (x : Asker) (y : Answerer) (code asked : ℕ) (rest : List ℕ)
+    → Agree exec start ws x y → is_pending x.m ≡ true → heads_of (style_of x.m.wiring) ≡ 2
+    → x.m.sent ≢ block_header (style_of x.m.wiring) (record x.m.wiring { notify = not x.m.wiring.notify }) code asked ++ rest
+
+-- header words of another length than that of the bytes that were asked last (types 3 and 4)
+abbrev pub RefusesLength : Type 0
+RefusesLength = (exec : Device) (start ws : List ℕ) (x : Asker) (y : Answerer) (before : List (List ℕ)) (bytes : List ℕ) (code asked : ℕ) (rest : List ℕ)
+    → Agree exec start ws x y → is_pending x.m ≡ true → heads_of (style_of x.m.wiring) ≡ 2
+    → x.asked ≡ before ++ bytes ∷ [] → asked ≤ 4096 → asked ≢ length bytes
+    → x.m.sent ≢ block_header (style_of x.m.wiring) x.m.wiring code asked ++ rest
+
+-- an input that isn't the space that came back last with the bytes that were asked last over its front
+abbrev pub RefusesInput : Type 0
+RefusesInput = (exec : Device) (start ws : List ℕ) (x : Asker) (y : Answerer) (before : List (List ℕ)) (bytes : List ℕ)
+    → Agree exec start ws x y → is_pending x.m ≡ true → x.asked ≡ before ++ bytes ∷ [] → x.m.input ≢ over x.m.space bytes → ⊥
+
+-- ---- and of what is shown
+
+-- another space than the last output
+abbrev pub RefusesSpace : Type 0
+RefusesSpace = (exec : Device) (start ws : List ℕ) (x : Asker) (y : Answerer) (history : List Exchange) (last : Exchange)
+    → Agree exec start ws x y → x.done ≡ history ++ last ∷ [] → x.m.space ≢ last.output → ⊥
+
+-- at first, another space than that of the opening
+abbrev pub RefusesOpening : Type 0
+RefusesOpening = (exec : Device) (start ws : List ℕ) (x : Asker) (y : Answerer) → Agree exec start ws x y → x.done ≡ [] → x.m.space ≢ x.opening → ⊥
+
+-- ---- the device's turn
 
 -- where the step loaded the last word of the block, the answering end goes on with what the device leaves
 abbrev pub DeviceTurns : Type 0

@@ -6,4 +6,5 @@ pub mod Agree
 pub mod Lending
 pub mod Laws
 pub mod Reached
+pub mod WorkedRuns
 pub mod Walk

@@ -1,7 +1,7 @@
 //! What holds of the words and both ends between any two word steps, as laws. Each step goes from any state that has the
 //! relation, from the stepping end's own state and its one word, so the laws serve one owner of the words, and two
 //! threads that share them.
-ghost use Rattle.pcc_steps.specs.Laws.{StartsAgreed, AskStepAgrees, PostBeginAgrees, LookBeginAgrees, BudgetAgrees, AnswerBeginAgrees, AnswerStepAgrees, DeviceStays, DeviceTurns, DeviceRests, HistoriesAgree, PostsByTable, LooksByTable, AsksByTable, PostsWithin, LooksWithin, AskRunsWithin, AnswersByTable, AnswerStepsByTable, ExecutesByTable, AnswersWithin, AnswerRunsWithin, AskTellsEnds, AnswerTellsEnds, AskStepsCount, AnswerStepsCount, CountRises, AskCountWithin, AnswerCountWithin, AskStepWithin};
+ghost use Rattle.pcc_steps.specs.Laws.{StartsAgreed, AskStepAgrees, PostBeginAgrees, LookBeginAgrees, BudgetAgrees, AnswerBeginAgrees, AnswerStepAgrees, DeviceStays, DeviceTurns, DeviceRests, HistoriesAgree, PostsByTable, LooksByTable, AsksByTable, PostsWithin, LooksWithin, AskRunsWithin, AnswersByTable, AnswerStepsByTable, ExecutesByTable, AnswersWithin, AnswerRunsWithin, AskTellsEnds, AnswerTellsEnds, AskStepsCount, AnswerStepsCount, CountRises, AskCountWithin, AnswerCountWithin, AskStepWithin, RefusesIdentity, RefusesFlag, RefusesLength, RefusesInput, RefusesSpace, RefusesOpening};
 ghost use Rattle.pcc_steps.specs.Reached.{ReachedIsSound};
 
 use pcc_exec::Executor;
@@ -79,4 +79,15 @@ pub fn history_laws()
 /// that are begun and single word steps of either end in any order, is sound. It does nothing.
 pub fn reached_laws<E: Executor>()
     ensures { ReachedIsSound E.exec_of E.is_state E.room_of }
+{}
+
+/// What the relation refuses: of a pending command, header words of another identity, notify flag or length, and another
+/// input; and a shown space that isn't the last output. It does nothing.
+pub fn refusing_laws()
+    ensures identity { RefusesIdentity }
+    ensures flag { RefusesFlag }
+    ensures length { RefusesLength }
+    ensures input { RefusesInput }
+    ensures space { RefusesSpace }
+    ensures opening { RefusesOpening }
 {}
