@@ -20,3 +20,7 @@ pub mod Headers
 pub mod Trails
 pub mod Turns
 pub mod WordSteps
+pub mod Wired
+pub mod Reaches
+pub mod Ends
+pub mod Refusals

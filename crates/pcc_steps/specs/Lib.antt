@@ -5,4 +5,6 @@ pub mod Answering
 pub mod Agree
 pub mod Lending
 pub mod Laws
+pub mod Reached
+pub mod WorkedRuns
 pub mod Walk
