@@ -11,7 +11,8 @@ needs the tables of a machine and the tools that read them, and runs only where 
 `rt try -- WORDS` run PROGRAM, and with --rt the toolchain.
 
 Besides, what the gate keeps of the examples has to be theirs: each crates/NAME/data/FILE is examples/FILE, and the stored run of each program crate
-(`args`, `stdin`, `stdout`, `status`) is what PROGRAM prints, with an example as its input or none.
+(`args`, `stdin`, `stdout`, `status`) is what PROGRAM prints, with an example as its input or none. The links of all documents lead to files, and the files
+of crates that they name are there.
 
 The exit status is 0 where nothing differs.
 """
@@ -31,6 +32,11 @@ TOP = Path(__file__).resolve().parent.parent
 BUILT = TOP / "crates" / "pccrun" / "out" / "pccrun"
 PAGES = ["README.md", "docs/MANUAL.md", "examples/README.md"]
 MACHINE_TABLE = Path("/sys/firmware/acpi/tables/PCCT")
+
+# A link to a file, the path of a file of a crate, with or without the crate before it, and the heading of definitions.
+LINK = re.compile(r"\]\(([^)#:]+)(?:#[^)]*)?\)")
+FILE = re.compile(r"`(?:crates/)?(?:([a-z_]+)/)?((?:proofs|specs|src)/[A-Za-z_/]+\.(?:antt|rt))`")
+DEFINITIONS = re.compile(r"`([a-z_]+)/([A-Z][A-Za-z]+)`")
 
 # A block: the words after its fence, and its text.
 FENCED = re.compile(r"^```([a-z ]+)\n(.*?)^```$", re.MULTILINE | re.DOTALL)
@@ -122,6 +128,18 @@ def copies() -> list[str]:
     return [f"{copy.relative_to(TOP)} is not examples/{copy.name}" for copy in sorted(TOP.glob("crates/*/data/*")) if differs(copy)]
 
 
+def missing() -> list[str]:
+    """The files that a document links to or names, and that are not there."""
+    wrong = []
+    for page in [*TOP.glob("*.md"), *TOP.glob("docs/*.md"), *TOP.glob("examples/*.md"), *TOP.glob("crates/*/*.md")]:
+        text = page.read_text()
+        named = [(link, (page.parent / link).exists()) for link in LINK.findall(text)]
+        named += [(f"{crate}/{path}", any(TOP.glob(f"crates/{crate or '*'}/{path}"))) for crate, path in FILE.findall(text)]
+        named += [(f"{crate}/{name}", (TOP / "crates" / crate / "specs" / f"{name}.antt").exists()) for crate, name in DEFINITIONS.findall(text)]
+        wrong += [f"{page.relative_to(TOP)}: no {name}" for name, is_there in named if not is_there]
+    return wrong
+
+
 def unnamed() -> list[str]:
     """The examples that examples/README.md does not name."""
     text = (TOP / "examples" / "README.md").read_text()
@@ -145,7 +163,7 @@ def main() -> int:
     with tempfile.TemporaryDirectory() as folder:
         (Path(folder) / "pccrun").symlink_to(program)
         written = run_all(blocks, Path(folder), not options.rt)
-    wrong = differences(blocks, written, not options.rt) + stored_runs(program) + copies() + unnamed()
+    wrong = differences(blocks, written, not options.rt) + stored_runs(program) + copies() + unnamed() + missing()
     for line in left_out:
         print(f"left out: {line}")
     for line in wrong:
