@@ -282,7 +282,7 @@ module _ (exec : Device) (w : Wiring) where
   begun_ok : (a : Answer) → AnswerOk a → AnswerOk (answer_begun a)
   begun_ok a ok = record { wired = ok.wired; sized = ok.sized; place = tt; kept = ok.kept; header = omega arith }
 
-  between_run : (st : AnswerStage) → IsBetween st → is_run st ≡ false
+  pub between_run : (st : AnswerStage) → IsBetween st → is_run st ≡ false
   between_run RunDevice h = absurd h
   between_run _ h = refl
 

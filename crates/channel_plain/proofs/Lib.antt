@@ -17,3 +17,4 @@ pub mod Goods
 pub mod Polls
 pub mod Stayings
 pub mod Written
+pub mod LostEnds

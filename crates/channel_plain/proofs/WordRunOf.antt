@@ -10,10 +10,11 @@ use Rattle.rate_limit.specs.declared.Limits.{Limits}
 use Rattle.pcc_journal.specs.Records.{exchanges_of_commands}
 use Rattle.pcc_steps.specs.declared.wiring.Wiring.{Wiring}
 use Rattle.pcc_steps.specs.Runs.{look_run}
-use Rattle.pcc_steps.specs.Walk.{answer_left, ask_left}
+use Rattle.pcc_steps.specs.declared.wiring.Action.TheVariants.{Swap}
+use Rattle.pcc_steps.specs.Walk.{answer_after, answer_left, ask_after, ask_left}
 use Rattle.pcc_steps.specs.Agree.{act}
-use Rattle.pcc_steps.specs.Asking.{Ask}
-use Rattle.pcc_steps.specs.Answering.{Answer}
+use Rattle.pcc_steps.specs.Asking.{Ask, AskOk, ask_fed, ask_next, ask_told}
+use Rattle.pcc_steps.specs.Answering.{Answer, AnswerOk, answer_fed, answer_next, answer_told}
 use Rattle.pcc_steps.specs.Laws.{PostsByTable, LooksByTable, AsksByTable, AnswersByTable, AnswerStepsByTable, ExecutesByTable}
 use Rattle.pcc_journal.specs.declared.command.Command.{Command}
 use Rattle.channel_plain.specs.declared.sent.Sent.{Sent}
@@ -25,11 +26,11 @@ use Rattle.channel_plain.specs.Holding.{Takes}
 use Rattle.channel_plain.specs.News.{opening_of}
 use Rattle.channel_plain.specs.Standing.{HavePolls, IsCarried, IsServing, Stands, carried, carried_at, is_rest}
 use Rattle.channel_plain.specs.Weaving.{IsFresh, Readings, unread, reads, Wove, unpicked, picks, reading_of}
-use Rattle.channel_plain.specs.WordRuns.{Answers, unanswered, Calls, Cut, IsAnswering, IsAsking, Remembers, Serves, goes_on, begins, Turns, none, Walks, WordRun, posts_call, answer_from, asked_line, answered_line, flown, looking, sending, side_of_line, whole}
+use Rattle.channel_plain.specs.WordRuns.{Answers, unanswered, Calls, Cut, IsAnswering, IsAsking, Remembers, Serves, goes_on, begins, Turns, none, Walks, WordRun, posts_call, answer_from, asked_line, answered_line, flown, looking, sending, side_of_line, whole, IsUnfinished}
 use Rattle.channel_plain.proofs.Feeds.{rest_is}
-use Rattle.channel_plain.proofs.WordSteps.{AskTie, resting, running, Running, posts_run, looks_run, calls_at}
+use Rattle.channel_plain.proofs.WordSteps.{takes_next, AskTie, resting, running, Running, posts_run, looks_run, calls_at}
 use Rattle.channel_plain.proofs.AskTurns.{pick_tie}
-use Rattle.channel_plain.proofs.AnswerTurns.{AnswerTie, is_rest as is_rest_a, a_resting, a_running, answer_tie}
+use Rattle.channel_plain.proofs.AnswerTurns.{AnswerTie, between_run, is_rest as is_rest_a, is_run, a_resting, a_running, answer_tie}
 use Rattle.channel_plain.proofs.Kepts.{asks_kept, picked_kept}
 
 -- ---- lists
@@ -92,12 +93,23 @@ flown_rest : (f : Bool) (sent : Option Sent) (code : ℕ) (input : List ℕ) →
 flown_rest true sent code input h = refl
 flown_rest false sent code input h = sym h
 
+-- a machine that isn't at rest has a step of its run left
+ask_unfinished : AsksByTable → (a : Ask) → AskOk a → is_rest a.stage ≡ false → IsUnfinished (ask_left a)
+ask_unfinished law a ok runs = (ask_next a, takes_next (ask_left a) (ask_next a) (λ v. ask_after (ask_told a v) (ask_fed a v)) (law a ok (λ e. not_false (is_rest a.stage) (ap is_rest e) runs)))
+
+answer_unfinished : AnswerStepsByTable → (a : Answer) → AnswerOk a → is_run a.stage ≡ false → is_rest_a a.stage ≡ false → IsUnfinished (answer_left a)
+answer_unfinished law a ok turn runs = (
+    answer_next a,
+    takes_next (answer_left a) (answer_next a) (λ v. answer_after (answer_told a v) (answer_fed a v))
+        (law a ok (λ e. not_false (is_rest_a a.stage) (ap is_rest_a e) runs, λ e. not_false (is_run a.stage) (ap is_run e) turn)),
+  )
+
 module _ (w : Wiring) (limits : Limits) (calls : List Asked) where
   abbrev pub from_new : List ℕ → Calls
   from_new opening = record { ended = 0; begun = false; looks = 0; sent = None; space = opening; records = []; readings = [] }
 
-  asking_of : (opening : List ℕ) (s : PlainState) (lines : List TraceLine) (rs : List ℕ) → IsCarried (carried s.ask) s.calls.sent s.ask.code s.ask.input → AskTie w limits calls (from_new opening) s lines rs → IsAsking w limits calls opening lines rs s.calls.records (flown s.ask.in_flight s.calls.sent)
-  asking_of opening s lines rs has (resting e before) = let rest = rest_is s.ask.stage e in record {
+  asking_of : (opening : List ℕ) (s : PlainState) (lines : List TraceLine) (rs : List ℕ) → IsCarried (carried s.ask) s.calls.sent s.ask.code s.ask.input → (is_rest s.ask.stage ≡ false → IsUnfinished (ask_left s.ask)) → AskTie w limits calls (from_new opening) s lines rs → IsAsking w limits calls opening lines rs s.calls.records (flown s.ask.in_flight s.calls.sent)
+  asking_of opening s lines rs has left (resting e before) = let rest = rest_is s.ask.stage e in record {
     past = lines;
     last = [];
     after = calls_at s s.calls.sent rs;
@@ -109,34 +121,34 @@ module _ (w : Wiring) (limits : Limits) (calls : List Asked) where
     kept = refl;
     flies = flown_rest s.ask.in_flight s.calls.sent s.ask.code s.ask.input (subst (λ (f : Bool). IsCarried f s.calls.sent s.ask.code s.ask.input) (ap (λ (st : _). carried_at st s.ask.in_flight) rest) has);
   }
-  asking_of opening s lines rs has (running past ls l x taken n before (posts_run c r free sv sent le walks polls) el er) = let f = first_line ls l in let q = serves_sent w limits calls x (calls_at s None x.readings) c sv in record {
+  asking_of opening s lines rs has left (running past ls l x taken n before (posts_run c r free sv sent le walks polls) el er) = let f = first_line ls l in let q = serves_sent w limits calls x (calls_at s None x.readings) c sv in record {
     past = past;
     last = ls ++ l ∷ [];
     after = x;
     taken = taken;
     runs = before;
-    cut = subst (λ (z : List TraceLine). Cut w limits calls x z (r ∷ [])) (sym f.2) (sending x (calls_at s None x.readings) c r f.0 f.1 (ask_left s.ask) sv refl le (subst (λ (z : List TraceLine). Walks (posts_call w c s.ask.space) z (ask_left s.ask)) f.2 walks));
+    cut = subst (λ (z : List TraceLine). Cut w limits calls x z (r ∷ [])) (sym f.2) (sending x (calls_at s None x.readings) c r f.0 f.1 (ask_left s.ask) sv refl le (subst (λ (z : List TraceLine). Walks (posts_call w c s.ask.space) z (ask_left s.ask)) f.2 walks) (left n));
     all = el;
     read = er;
     kept = sym q.1;
     flies = ap (λ (f : Bool). flown f s.calls.sent) free ∙ sym q.0;
   }
-  asking_of opening s lines rs has (running past ls l x taken n before (looks_run c p flies sv sent walks polls) el er) = let f = first_line ls l in let q = serves_sent w limits calls x (calls_at s s.calls.sent x.readings) c sv in record {
+  asking_of opening s lines rs has left (running past ls l x taken n before (looks_run c p flies sv sent walks polls) el er) = let f = first_line ls l in let q = serves_sent w limits calls x (calls_at s s.calls.sent x.readings) c sv in record {
     past = past;
     last = ls ++ l ∷ [];
     after = x;
     taken = taken;
     runs = before;
-    cut = subst (λ (z : List TraceLine). Cut w limits calls x z []) (sym f.2) (looking x (calls_at s s.calls.sent x.readings) c p f.0 f.1 (ask_left s.ask) sv sent (subst (λ (z : List TraceLine). Walks (look_run w) z (ask_left s.ask)) f.2 walks));
+    cut = subst (λ (z : List TraceLine). Cut w limits calls x z []) (sym f.2) (looking x (calls_at s s.calls.sent x.readings) c p f.0 f.1 (ask_left s.ask) sv sent (subst (λ (z : List TraceLine). Walks (look_run w) z (ask_left s.ask)) f.2 walks) (left n));
     all = el;
     read = er;
     kept = sym q.1;
     flies = ap (λ (f : Bool). flown f s.calls.sent) flies ∙ sym q.0;
   }
 
-answering_of : (exec : Device) (w : Wiring) (start : List ℕ) (s : PlainState) (lines : List TraceLine) → AnswerTie exec w start s lines → IsAnswering exec w start lines (exchanges_of_commands s.executed)
-answering_of exec w start s lines (a_resting e before) = record { past = lines; last = []; device = s.device; before = exchanges_of_commands s.executed; now = answer_from exec w s.device (exchanges_of_commands s.executed); runs = before; cut = refl; all = sym (append-nil lines); ran = refl }
-answering_of exec w start s lines (a_running past ls d es n before walks el) = record { past = past; last = ls; device = d; before = es; now = record { device = s.device; executed = exchanges_of_commands s.executed; run = answer_left s.answer }; runs = before; cut = walks; all = el; ran = refl }
+answering_of : (exec : Device) (w : Wiring) (start : List ℕ) (s : PlainState) (lines : List TraceLine) → (is_rest_a s.answer.stage ≡ false → IsUnfinished (answer_left s.answer)) → AnswerTie exec w start s lines → IsAnswering exec w start lines (exchanges_of_commands s.executed)
+answering_of exec w start s lines left (a_resting e before) = record { past = lines; last = []; device = s.device; before = exchanges_of_commands s.executed; now = answer_from exec w s.device (exchanges_of_commands s.executed); runs = before; cut = refl; unfinished = (Swap 2 0, refl); all = sym (append-nil lines); ran = refl }
+answering_of exec w start s lines left (a_running past ls d es n before walks el) = record { past = past; last = ls; device = d; before = es; now = record { device = s.device; executed = exchanges_of_commands s.executed; run = answer_left s.answer }; runs = before; cut = walks; unfinished = left n; all = el; ran = refl }
 
 -- ---- all picks
 
@@ -200,14 +212,14 @@ module _ {K : Type 0} (taken : K → ℕ) (tells : K → ℕ → Option ℕ) (ex
         answer = subst (λ (z : List TraceLine). AnswerTie exec w s.start p.state z) (sym (filter_more (answered_line w.kind) ls l (not b) (ap not same))) two.1;
       }
 
-  pub word_run : PostsByTable → LooksByTable → AsksByTable → AnswersByTable → AnswerStepsByTable → ExecutesByTable → HavePolls calls → (s : PlainState) (k : K) (sides : List Side) (trace : List TraceLine) (rs : List ℕ) (t : PlainState) (m : K) → IsFresh s → Wove taken tells exec calls is_state room_of s k sides trace rs t m → IsCarried (carried t.ask) t.calls.sent t.ask.code t.ask.input
+  pub word_run : PostsByTable → LooksByTable → AsksByTable → AnswersByTable → AnswerStepsByTable → ExecutesByTable → HavePolls calls → (s : PlainState) (k : K) (sides : List Side) (trace : List TraceLine) (rs : List ℕ) (t : PlainState) (m : K) → IsFresh s → Wove taken tells exec calls is_state room_of s k sides trace rs t m → Stands exec is_state room_of t
       → Readings taken tells k rs m × WordRun exec s.ask.wiring s.calls.limits s.start (opening_of s.ask.wiring) calls sides trace rs t.calls.records (flown t.ask.in_flight t.calls.sent) (exchanges_of_commands t.executed)
-  word_run posts looks asks table law turn polls s k sides trace rs t m new wove has = let h = tied posts looks asks table law turn polls s k sides trace rs t m new wove in let w : Wiring = s.ask.wiring in (
+  word_run posts looks asks table law turn polls s k sides trace rs t m new wove k' = let h = tied posts looks asks table law turn polls s k sides trace rs t m new wove in let w : Wiring = s.ask.wiring in (
     h.readings,
     record {
       sides = h.sides_are;
       words = subst (λ (ws : List ℕ). Remembers ws trace) new.words h.words;
-      asking = asking_of w s.calls.limits calls (opening_of w) t (filter (asked_line w.kind) trace) rs has h.ask;
-      answering = answering_of exec w s.start t (filter (answered_line w.kind) trace) h.answer;
+      asking = asking_of w s.calls.limits calls (opening_of w) t (filter (asked_line w.kind) trace) rs k'.carries (ask_unfinished asks t.ask k'.agree.1.2.ask_ok) h.ask;
+      answering = answering_of exec w s.start t (filter (answered_line w.kind) trace) (answer_unfinished law t.answer k'.agree.1.2.answer_ok (between_run exec w t.answer.stage k'.agree.1.2.between)) h.answer;
     },
   )

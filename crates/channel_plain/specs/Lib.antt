@@ -9,3 +9,4 @@ pub mod Steps
 pub mod News
 pub mod Weaving
 pub mod Good
+pub mod LostEnds

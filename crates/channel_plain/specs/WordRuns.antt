@@ -48,6 +48,10 @@ rest_of (stores place word k) value = k
 rest_of (swaps place word k) value = k value
 rest_of (executes code space k) value = executes code space k
 
+-- a step of the run is left
+abbrev pub IsUnfinished : {E : Type 0} → Run E → Type 0
+IsUnfinished run = (step : Action) × (next_of run ≡ Some step)
+
 -- the lines are the first steps of a run, of which none ends it, and leave the rest of it
 abbrev pub Walks : {E : Type 0} → Run E → List TraceLine → Run E → Type 0
 Walks run [] rest = run ≡ rest
@@ -140,13 +144,15 @@ module _ (w : Wiring) (limits : Limits) (calls : List Asked) where
     none : Turns from [] from
     more : (ls ms : List TraceLine) (s t : Calls) → Turns from ls s → Turn s ms t → Turns from (ls ++ ms) t
 
-  -- the run under way, cut by the end of the picks, with the reading that it took
+  -- the run under way, cut by the end of the picks with a step left, and the reading that it took
   pub data Cut : Calls → List TraceLine → List ℕ → Type 0 where
     whole : (s : Calls) → Cut s [] []
-    sending : (s s' : Calls) (c : Asked) (r : ℕ) (l : TraceLine) (ls : List TraceLine) (rest : Run AskEnd) → Serves s c s' → s'.sent ≡ None → earliest_at s' ≤ r → Walks (posts_call w c s'.space) (l ∷ ls) rest → Cut s (l ∷ ls) (r ∷ [])
-    looking : (s s' : Calls) (c : Asked) (p : Sent) (l : TraceLine) (ls : List TraceLine) (rest : Run AskEnd) → Serves s c s' → s'.sent ≡ Some p → Walks (look_run w) (l ∷ ls) rest → Cut s (l ∷ ls) []
+    sending : (s s' : Calls) (c : Asked) (r : ℕ) (l : TraceLine) (ls : List TraceLine) (rest : Run AskEnd) → Serves s c s'
+        → s'.sent ≡ None → earliest_at s' ≤ r → Walks (posts_call w c s'.space) (l ∷ ls) rest → IsUnfinished rest → Cut s (l ∷ ls) (r ∷ [])
+    looking : (s s' : Calls) (c : Asked) (p : Sent) (l : TraceLine) (ls : List TraceLine) (rest : Run AskEnd) → Serves s c s'
+        → s'.sent ≡ Some p → Walks (look_run w) (l ∷ ls) rest → IsUnfinished rest → Cut s (l ∷ ls) []
 
-  -- the lines of the asking side are runs, the last one perhaps cut; they take these readings, and leave these records and this command in flight
+  -- the lines of the asking side are whole runs, and perhaps one that is cut before its end; they take these readings, and leave these records and this command in flight
   pub record IsAsking (opening : List ℕ) (lines : List TraceLine) (readings : List ℕ) (records : List Record) (sent : Option Sent) : Type 0 where
     pub past : List TraceLine
     pub last : List TraceLine
@@ -198,7 +204,7 @@ module _ (exec : Device) (w : Wiring) where
         → AnswerWalks (answer_from device es) ms b → next_of b.run ≡ Some l.action → (answer_on b l.value).run ≡ ends e → l.end ≡ answered_end e
         → Answers start (ls ++ (ms ++ l ∷ [])) (answer_on b l.value).device (answer_on b l.value).executed
 
-  -- the lines of the answering side are runs, the last one perhaps cut, in which the device has executed these commands
+  -- the lines of the answering side are whole runs, and the first steps of one more, of which a step is left; the device has executed these commands
   pub record IsAnswering (start : List ℕ) (lines : List TraceLine) (executed : List Exchange) : Type 0 where
     pub past : List TraceLine
     pub last : List TraceLine
@@ -207,6 +213,7 @@ module _ (exec : Device) (w : Wiring) where
     pub now : Answered
     pub runs : Answers start past device before
     pub cut : AnswerWalks (answer_from device before) last now
+    pub unfinished : IsUnfinished now.run
     pub all : lines ≡ past ++ last
     pub ran : executed ≡ now.executed
 

@@ -20,7 +20,7 @@ pub use sent::{Flight, Sent};
 pub use step::perform;
 pub use text::trace_lines;
 pub use trace::{Asked, Side, Trace, TraceEnd, TraceLine};
-pub use worked::worked_picks;
+pub use worked::{lost_ends, worked_picks};
 
 #[cfg(test)]
 mod tests;

@@ -19,7 +19,7 @@ returns-clause-run g c = let taken = g.K.Clock.taken in let tells = g.K.Clock.te
     IfOk-weaker c.pick_all-trace.result
     (λ (trace : List TraceLine). (readings : List ℕ) × Wove taken tells exec calls is_state room_of s k sides trace readings t m)
     (λ (trace : List TraceLine). (readings : List ℕ) × Readings taken tells k readings m × (length readings ≤ length sides) × WordRun exec s.ask.wiring s.calls.limits s.start (opening_of s.ask.wiring) calls sides trace readings t.calls.records (flown t.ask.in_flight t.calls.sent) (exchanges_of_commands t.executed))
-    (λ trace h. let w = word_run taken tells exec calls is_state room_of p.post p.look p.step q.begin q.step q.device c.requires.polls s k sides trace h.0 t m c.requires.fresh h.1 c.stand.ensures.stands.carries in (h.0, w.0, few_readings taken tells exec calls is_state room_of s k sides trace h.0 t m h.1, w.1)) c.pick_all-trace.ensures.wove
+    (λ trace h. let w = word_run taken tells exec calls is_state room_of p.post p.look p.step q.begin q.step q.device c.requires.polls s k sides trace h.0 t m c.requires.fresh h.1 c.stand.ensures.stands in (h.0, w.0, few_readings taken tells exec calls is_state room_of s k sides trace h.0 t m h.1, w.1)) c.pick_all-trace.ensures.wove
 
 pub returns-clause-good : goal.returns-clause-good
 returns-clause-good g c = is_good c.history_laws.ensures g.E.Executor.exec_of g.E.Executor.is_state g.E.Executor.room_of c.pick_all-trace.new.plain.ends c.stand.ensures.stands c.stand.ensures.limits
@@ -38,4 +38,4 @@ returns-clause-whole g c = let taken = g.K.Clock.taken in let tells = g.K.Clock.
     IfOk-weaker c.pick_all-trace.result
     (λ (trace : List TraceLine). (readings : List ℕ) × Wove taken tells exec calls is_state room_of s k sides trace readings t m)
     (λ (trace : List TraceLine). IsWhole (opening_of s.ask.wiring) calls t.calls.records)
-    (λ trace h. let w = word_run taken tells exec calls is_state room_of p.post p.look p.step q.begin q.step q.device c.requires.polls s k sides trace h.0 t m c.requires.fresh h.1 c.stand.ensures.stands.carries in whole_of s.ask.wiring s.calls.limits calls (opening_of s.ask.wiring) _ h.0 t.calls.records _ w.1.asking) c.pick_all-trace.ensures.wove
+    (λ trace h. let w = word_run taken tells exec calls is_state room_of p.post p.look p.step q.begin q.step q.device c.requires.polls s k sides trace h.0 t m c.requires.fresh h.1 c.stand.ensures.stands in whole_of s.ask.wiring s.calls.limits calls (opening_of s.ask.wiring) _ h.0 t.calls.records _ w.1.asking) c.pick_all-trace.ensures.wove

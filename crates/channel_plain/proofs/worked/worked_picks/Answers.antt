@@ -18,3 +18,23 @@ returns-clause-with_acknowledge c = refl
 pub returns-clause-drained_late : goal.returns-clause-drained_late
 unfolding header_word word_of word_bytes
 returns-clause-drained_late c = refl
+
+pub returns-clause-type_three_joined : goal.returns-clause-type_three_joined
+unfolding word_of word_bytes
+returns-clause-type_three_joined c = refl
+
+pub returns-clause-type_three_separate : goal.returns-clause-type_three_separate
+unfolding word_of word_bytes
+returns-clause-type_three_separate c = refl
+
+pub returns-clause-type_four_joined : goal.returns-clause-type_four_joined
+unfolding word_of word_bytes
+returns-clause-type_four_joined c = refl
+
+pub returns-clause-type_four_separate : goal.returns-clause-type_four_separate
+unfolding word_of word_bytes
+returns-clause-type_four_separate c = refl
+
+pub returns-clause-type_five : goal.returns-clause-type_five
+unfolding word_of word_bytes
+returns-clause-type_five c = refl
