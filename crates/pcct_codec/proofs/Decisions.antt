@@ -1,5 +1,5 @@
 -- What the bytes that were taken decide, whatever follows them.
-use Rattle.std.proofs.Common.{◌≡◌, ◌≢◌, ℕ, zero, suc, ◌+◌, ◌<◌, ◌≤◌, eqb, ltb, cond, Bool, true, false, List, [], ◌∷◌, ◌++◌, length, drop, slice_index, refl, sym, ap, ◌∙◌, subst, arith, Result, Ok, Err}
+use Rattle.std.proofs.Common.{◌≡◌, ◌≢◌, ℕ, zero, suc, ◌+◌, ◌<◌, ◌≤◌, eqb, ltb, cond, Bool, true, false, List, [], ◌∷◌, ◌++◌, length, drop, slice_index, refl, ap, ◌∙◌, subst, arith, Result, Ok, Err}
 use Rattle.std.specs.Prelude.{◌%◌, sum, Option, Some, None}
 use Rattle.std.proofs.lemmas.Bool.{le-ltb, lt-ltb}
 use Rattle.std.proofs.lemmas.Bool.Decides.{nat_tests}
@@ -8,7 +8,7 @@ use Rattle.pcct_table.specs.declared.table.Table.{Table}
 use Rattle.pcct_table.specs.Rows.{size_of_kind}
 use Rattle.pcct_codec.specs.declared.fault.TableFault.{TableFault}
 use Rattle.pcct_codec.specs.declared.fault.TableFault.TheVariants.{Short, Signature, LengthOutside, Revision, TooMany, Overrun, SubspaceType, SubspaceLength, Checksum, ReadFault, NoMemory}
-use Rattle.pcct_codec.specs.Tables.{TableBytes, length_in}
+use Rattle.pcct_codec.specs.Tables.{TableBytes}
 use Rattle.pcct_codec.specs.Faults.{Decision, Undecided, Right, Faulty, FaultIs, ReaderFaultIs, IsExcused, IsGone, and_then, behind_header, behind_size, decision, sized, structure_size, structures_decision, sum_decision, table_decision, told_length}
 use Rattle.pcct_codec.proofs.Spelled.{structures_right}
 use Rattle.pcct_codec.proofs.Headers.{told_ok, told_more, told_table}
@@ -143,16 +143,16 @@ late_table b f h = late_and (structures_decision 256 48 (drop 48 b)) refl h
 pub table_read : (b : List ℕ) → table_decision b ≡ Faulty ReadFault → ⊥
 table_read b h = late_table b ReadFault h
 
-pub table_gone : (b : List ℕ) (f : TableFault) (left : Option (List ℕ)) → length_in b ≡ length b → FaultIs f (table_decision b) → IsGone f b left
+pub table_gone : (b : List ℕ) (f : TableFault) (left : Option (List ℕ)) → told_length b ≡ Ok (length b) → FaultIs f (table_decision b) → IsGone f b left
 table_gone b (Short a) left e h = absurd (late_table b (Short a) h)
 table_gone b Signature left e h = absurd (late_table b Signature h)
 table_gone b (LengthOutside a) left e h = absurd (late_table b (LengthOutside a) h)
 table_gone b (Revision a) left e h = absurd (late_table b (Revision a) h)
-table_gone b (TooMany a) left e h = sym e
-table_gone b (Overrun a) left e h = sym e
-table_gone b (SubspaceType a k) left e h = sym e
-table_gone b (SubspaceLength a k s) left e h = sym e
-table_gone b (Checksum a) left e h = sym e
+table_gone b (TooMany a) left e h = e
+table_gone b (Overrun a) left e h = e
+table_gone b (SubspaceType a k) left e h = e
+table_gone b (SubspaceLength a k s) left e h = e
+table_gone b (Checksum a) left e h = e
 table_gone b ReadFault left e h = absurd (late_table b ReadFault h)
 table_gone b NoMemory left e h = tt
 

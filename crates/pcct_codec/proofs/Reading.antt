@@ -11,7 +11,7 @@ use Rattle.pcct_table.specs.declared.table.Table.{Table}
 use Rattle.pcct_codec.specs.Tables.{IsTableValue, TableBytes}
 use Rattle.pcct_codec.specs.Faults.{Right, Faulty, FaultIs, ReaderFaultIs, AnswerIs, Filled, Gone, IsExcused, Taken, decision, table_decision, told_length}
 use Rattle.pcct_codec.proofs.Walking.{fault_is}
-use Rattle.pcct_codec.proofs.Headers.{told_ok, told_more, told_table, header_gone, one_table}
+use Rattle.pcct_codec.proofs.Headers.{told_more, told_table, header_gone, one_table}
 use Rattle.pcct_codec.proofs.Decisions.{short_header, short_table, wrong_header, whole, excused_gone, reader_fault, right_excused, right_source, table_gone, table_read}
 
 -- bytes grew by those that are gone from a source
@@ -130,7 +130,7 @@ read_exact (Err f) b old new told h read all e =
 
 pub read_gone : (r : Result Table TableFault) (b : List ℕ) (old new : Option (List ℕ)) → told_length b ≡ Ok (length b) → IsRead b r → Consumes old new b → IfErr r (λ f. Gone f old new)
 read_gone (Ok t) b old new told h read = tt
-read_gone (Err f) b old new told h read = record { taken = b; read = read; gone = table_gone b f new (told_ok b (length b) told).len h }
+read_gone (Err f) b old new told h read = record { taken = b; read = read; gone = table_gone b f new told h }
 
 pub read_fault : (r : Result Table TableFault) (b : List ℕ) → IsRead b r → r ≢ Err ReadFault
 read_fault (Ok t) b h e = absurd cc

@@ -1,5 +1,5 @@
 -- What the first bytes of a source decide: that they begin with a table, or the first check that fails.
-use Rattle.std.specs.Prelude.{◌≡◌, ◌<◌, ◌≤◌, ◌++◌, ℕ, zero, suc, ◌+◌, ◌%◌, ◌==◌, nat_lt, ◌||◌, if◌then◌else◌, Bool, List, [], ◌∷◌, length, take, drop, sum, slice_index, Option, Some, None, Result, Ok, Err, codes}
+use Rattle.std.specs.Prelude.{◌≡◌, ◌<◌, ◌≤◌, ◌++◌, ℕ, zero, suc, ◌+◌, ◌%◌, ◌==◌, nat_lt, ◌||◌, if◌then◌else◌, Bool, true, List, [], ◌∷◌, length, take, drop, sum, slice_index, Option, Some, None, Result, Ok, Err, codes}
 use Rattle.std.specs.Str.{bytes_eq}
 use Rattle.std.specs.Io.KnownBytes.{Consumes, IsAtEnd}
 use Rattle.pcct_table.specs.declared.table.Table.{Table}
@@ -75,6 +75,10 @@ behind_header ended bytes (Err fault) = Faulty fault
 unfoldable pub decision : Bool → List ℕ → Decision
 decision ended bytes = if nat_lt (length bytes) header_size then wanting ended bytes else behind_header ended bytes (told_length bytes)
 
+-- bytes behind which a source has ended decide a fault
+abbrev pub HasFault : List ℕ → Type 0
+HasFault bytes = (fault : TableFault) × (decision true bytes ≡ Faulty fault)
+
 -- ---- what a reader answers
 
 -- a fault is the one that is decided, unless memory ran out
@@ -98,8 +102,8 @@ IsExcused ReadFault = Unit {0}
 IsExcused NoMemory = Unit {0}
 IsExcused fault = ⊥
 
--- The bytes that are gone from a source at a fault, and what is left there: the header behind a fault of the header, all bytes of
--- the table behind one of the structures or of the sum, and all bytes of the source where they are too few.
+-- The bytes that are gone from a source at a fault, and what is left there: the header behind a fault of the header; behind one of the
+-- structures or of the sum, as many as a right header at their front tells; and all bytes of the source where they are too few.
 abbrev pub IsGone : TableFault → List ℕ → Option (List ℕ) → Type 0
 IsGone (Short at) taken left = (length taken ≡ at) × IsAtEnd left
 IsGone Signature taken left = length taken ≡ header_size
@@ -107,7 +111,7 @@ IsGone (LengthOutside len) taken left = length taken ≡ header_size
 IsGone (Revision found) taken left = length taken ≡ header_size
 IsGone ReadFault taken left = Unit {0}
 IsGone NoMemory taken left = Unit {0}
-IsGone fault taken left = length taken ≡ length_in taken
+IsGone fault taken left = told_length taken ≡ Ok (length taken)
 
 -- a fault's bytes are gone from the front of a source
 pub record Gone (fault : TableFault) (old new : Option (List ℕ)) : Type 0 where

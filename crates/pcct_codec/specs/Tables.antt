@@ -59,3 +59,11 @@ pub record IsTableValue (t : Table) : Type 0 where
   pub bytes : List ℕ
   pub fit : IsBytes bytes
   pub spell : TableBytes bytes t
+
+-- bytes begin with those of a table
+pub record BeginsTable (bytes : List ℕ) : Type 0 where
+  pub table : Table
+  pub front : List ℕ
+  pub rest : List ℕ
+  pub spelled : TableBytes front table
+  pub whole : bytes ≡ front ++ rest

@@ -1,9 +1,10 @@
 //! A table's header.
-ghost use Rattle.std.specs.Prelude.{◌≡◌, ◌≤◌, ◌++◌, length, OnOk, codes};
+ghost use Rattle.std.specs.Prelude.{◌≡◌, ◌≤◌, ◌+◌, ◌*◌, ◌++◌, length, OnOk, codes};
 ghost use Rattle.pcc_bytes.specs.Bytes.{number_at};
-ghost use Rattle.pcct_table.specs.Rows.{header_fields};
+ghost use Rattle.pcct_table.specs.Rows.{header_fields, header_size};
 ghost use Rattle.pcct_table.specs.Values.{bytes_at, fields_bytes, values_in};
-ghost use Rattle.pcct_codec.specs.Tables.{header_values};
+ghost use Rattle.pcct_codec.specs.Tables.{header_values, most_bytes, most_structures};
+ghost use Rattle.pcct_codec.specs.declared.header.TheConstants.{HEADER_BYTES, MAX_TABLE_BYTES};
 ghost use Rattle.pcct_codec.specs.Faults.{told_length};
 
 use crate::fault::TableFault;
@@ -12,11 +13,11 @@ use pcct_table::pieces::{put_all, u8_bytes, u32_bytes};
 use pcct_table::places::{array_at, u8_at, u32_at};
 use pcct_table::{Subspaces, Table};
 
-/// The bytes of a header.
-pub(crate) const HEADER: usize = 48;
+/// The bytes of a table's header (ACPI 6.5, 5.2.6 and 14.1).
+pub const HEADER_BYTES: usize = 48;
 
-/// The most bytes of a table, with 256 structures of 164.
-const MOST_BYTES: u32 = 42032;
+/// The most bytes of a table: its header, and `MAX_SUBSPACES` structures of 164 bytes.
+pub const MAX_TABLE_BYTES: u32 = 42_032;
 
 /// The number of bytes that the header tells, or the first of its checks that fails.
 #[tactic(auto, unfolding(crate::specs::Faults::told_length))]
@@ -28,7 +29,7 @@ pub(crate) fn told_length(header: &[u8]) -> Result<usize, TableFault>
         return Err(TableFault::Signature);
     }
     let len = u32_at(header, 4);
-    if len < HEADER as u32 || len > MOST_BYTES {
+    if len < HEADER_BYTES as u32 || len > MAX_TABLE_BYTES {
         return Err(TableFault::LengthOutside { len });
     }
     let found = u8_at(header, 8);
@@ -84,3 +85,11 @@ pub(crate) fn put_header(
         ],
     )
 }
+
+/// The limits as numbers, so that none changes unseen. It does nothing.
+pub fn limits_are()
+    ensures header { HEADER_BYTES ≡ 48 }
+    ensures table { MAX_TABLE_BYTES ≡ 42032 }
+    ensures structures { most_structures ≡ 256 }
+    ensures all { most_bytes ≡ header_size + most_structures * 164 }
+{}

@@ -1,16 +1,17 @@
 //! Tables from bytes, and from a source of them.
-ghost use Rattle.std.specs.Prelude.{◌≡◌, ◌++◌, ◌<◌, ◌≤◌, ◌^◌, Bool, List, ℕ, Some, Ok, vec_len, length, take, true, false, IfOk, IfErr, IsErrOf, MatchResult, OnOk};
+ghost use Rattle.std.specs.Prelude.{◌≡◌, ◌↔◌, ◌⊎◌, ◌++◌, ◌<◌, ◌≤◌, ◌^◌, Bool, List, ℕ, Some, Ok, vec_len, length, take, true, false, IfOk, IfErr, IsErrOf, MatchResult, OnOk};
 ghost use Rattle.std.specs.Io.KnownBytes.{Consumes};
 ghost use Rattle.pcc_bytes.specs.Bytes.{IsBytes};
 ghost use Rattle.pcc_causes.specs.Causes.{Rose};
 ghost use Rattle.pcct_table.specs.declared.table.Table.{Table};
 ghost use Rattle.pcct_codec.specs.declared.fault.TableFault.TheVariants.{NoMemory};
-ghost use Rattle.pcct_codec.specs.Tables.{IsTableValue, TableBytes};
+ghost use Rattle.pcct_codec.specs.Tables.{BeginsTable, IsTableValue, TableBytes};
 ghost use Rattle.pcct_codec.specs.Faults.{
   AnswerIs,
   FaultIs,
   Filled,
   Gone,
+  HasFault,
   IsExcused,
   ReaderFaultIs,
   Right,
@@ -22,7 +23,7 @@ ghost use Rattle.pcct_codec.specs.Faults.{
 };
 
 use crate::fault::TableFault;
-use crate::header::{HEADER, table_with, told_length};
+use crate::header::{HEADER_BYTES, table_with, told_length};
 use crate::structures::structures_from;
 use crate::sum::byte_sum;
 use pcc_io::{Failed, Source};
@@ -64,8 +65,8 @@ fn take_table<S: Source>(alloc: Global, source: &mut S) -> Result<Vec<u8>, Table
     ensures later { S.faults source.old ≤ S.faults source.new }
 {
     let mut bytes = Vec::new(alloc);
-    fill(source, &mut bytes, HEADER)?;
-    if bytes.len() < HEADER {
+    fill(source, &mut bytes, HEADER_BYTES)?;
+    if bytes.len() < HEADER_BYTES {
         return Err(TableFault::Short {
             at: bytes.len() as u32,
         });
@@ -111,7 +112,7 @@ pub fn table_of_bytes(alloc: Global, bytes: &[u8]) -> Result<(Table, usize), Tab
     ensures exact { MatchResult result (λ _. decision true bytes.now ≡ Right) (λ f. FaultIs f (decision true bytes.now)) }
     ensures in_memory { IsErrOf result TableFault.ReadFault → ⊥ }
 {
-    if bytes.len() < HEADER {
+    if bytes.len() < HEADER_BYTES {
         return Err(TableFault::Short {
             at: bytes.len() as u32,
         });
@@ -153,4 +154,9 @@ pub fn table_from<S: Source>(alloc: Global, source: &mut S) -> Result<Table, Tab
 pub fn decision_laws()
     ensures settled { (ended : Bool) (bytes more : List ℕ) → (decision false bytes ≡ Undecided → ⊥)
         → decision ended (bytes ++ more) ≡ decision false bytes }
+    // They are decided to be right exactly where they begin with a table, and else, where no more follow, they have a fault.
+    ensures right { (bytes : List ℕ) → (decision true bytes ≡ Right) ↔ BeginsTable bytes }
+    ensures begun { (ended : Bool) (bytes : List ℕ) → BeginsTable bytes → decision ended bytes ≡ Right }
+    ensures some { (bytes : List ℕ) → BeginsTable bytes ⊎ HasFault bytes }
+    ensures not_both { (bytes : List ℕ) → BeginsTable bytes → HasFault bytes → ⊥ }
 {}

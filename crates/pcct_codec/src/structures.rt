@@ -6,13 +6,10 @@ ghost use Rattle.pcct_codec.specs.Tables.{Structures};
 ghost use Rattle.pcct_codec.specs.Faults.{FaultIs, Right, structure_size, structures_decision};
 
 use crate::fault::TableFault;
-use crate::header::HEADER;
+use crate::header::HEADER_BYTES;
 use pcc_io::NoMemory;
-use pcct_table::{Subspace, Subspaces, put_subspace, size_of_kind, subspace_from};
+use pcct_table::{MAX_SUBSPACES, Subspace, Subspaces, put_subspace, size_of_kind, subspace_from};
 use std::alloc::Global;
-
-/// A table has at most so many structures.
-const MOST: usize = 256;
 
 /// The size of the structure that stands first, or what is wrong with it.
 #[tactic(auto, unfolding(crate::specs::Faults::structure_size))]
@@ -68,9 +65,9 @@ pub(crate) fn structures_from(alloc: Global, bytes: &[u8]) -> Result<Subspaces, 
         (λ f. FaultIs f (structures_decision 256 48 (drop 48 bytes.now))) }
 {
     let mut subspaces = Subspaces::new(alloc);
-    let mut at = HEADER;
+    let mut at = HEADER_BYTES;
     while at < bytes.len() {
-        if subspaces.len() >= MOST {
+        if subspaces.len() >= MAX_SUBSPACES {
             return Err(TableFault::TooMany { at: at as u32 });
         }
         let (subspace, size) = structure_at(at as u32, behind(bytes, at))?;

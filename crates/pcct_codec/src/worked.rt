@@ -1,9 +1,19 @@
 //! Worked tables, on which the definitions are evaluated.
-ghost use Rattle.std.specs.Prelude.{◌≡◌, [], ◌∷◌, take, true, false, Err};
-ghost use Rattle.pcct_codec.specs.Tables.{TableBytes};
-ghost use Rattle.pcct_codec.specs.Faults.{Faulty, Right, Undecided, decision, structure_size};
+ghost use Rattle.std.specs.Prelude.{◌≡◌, [], ◌∷◌, ◌++◌, take, drop, true, false, Err};
+ghost use Rattle.pcct_codec.specs.Tables.{TableBytes, most_structures};
+ghost use Rattle.pcct_codec.specs.Faults.{Faulty, Right, Undecided, decision, structure_size, structures_decision};
 ghost use Rattle.pcct_codec.specs.Worked.{no_subspaces, one_generic};
-ghost use Rattle.pcct_codec.specs.declared.fault.TableFault.TheVariants.{Short, SubspaceLength};
+ghost use Rattle.pcct_codec.specs.declared.fault.TableFault.TheVariants.{
+  Checksum,
+  LengthOutside,
+  Overrun,
+  Revision,
+  Short,
+  Signature,
+  SubspaceLength,
+  SubspaceType,
+  TooMany,
+};
 
 /// A table with one generic subspace: 24 bytes of shared memory at 0x8000_0000, a doorbell register of 32 bits at 0xfed0_0000, no
 /// limit of the rate and no turnaround.
@@ -17,11 +27,30 @@ pub const ONE_GENERIC_SUBSPACE: [u8; 110] =
 pub const NO_SUBSPACES: [u8; 48] = *b"PCCT\x30\0\0\0\x02\x5aPCCRUNEXAMPLE1\x01\0\0\0TEST\x01\0\0\0\
     \0\0\0\0\0\0\0\0\0\0\0\0";
 
-/// What they say, what a part of one decides, and a structure of type 2 that tells a size of 62.
+/// What they say, and what a part of one decides. It does nothing.
 pub fn worked_tables()
     ensures none { TableBytes NO_SUBSPACES no_subspaces }
     ensures one { TableBytes ONE_GENERIC_SUBSPACE one_generic }
+    ensures right { decision false ONE_GENERIC_SUBSPACE ≡ Right }
     ensures wanting { decision false (take 100 ONE_GENERIC_SUBSPACE) ≡ Undecided }
+{}
+
+/// Each fault of a table's bytes: these are the bytes of a table but for one of them, or for the bytes that follow. It does nothing.
+pub fn worked_faults()
     ensures short { decision true (take 100 ONE_GENERIC_SUBSPACE) ≡ Faulty (Short 100) }
-    ensures size { structure_size 48 (2 ∷ 62 ∷ []) ≡ Err (SubspaceLength 48 2 62) }
+    ensures signature { decision true (take 3 NO_SUBSPACES ++ 0x55 ∷ drop 4 NO_SUBSPACES) ≡ Faulty Signature }
+    ensures length_below { decision true (take 4 NO_SUBSPACES ++ 47 ∷ drop 5 NO_SUBSPACES) ≡ Faulty (LengthOutside 47) }
+    ensures length_above { decision true (take 4 NO_SUBSPACES ++ 0x31 ∷ 0xa4 ∷ drop 6 NO_SUBSPACES) ≡ Faulty (LengthOutside 42033) }
+    ensures length_most { decision true (take 4 NO_SUBSPACES ++ 0x30 ∷ 0xa4 ∷ drop 6 NO_SUBSPACES) ≡ Faulty (Short 48) }
+    ensures revision { decision true (take 8 NO_SUBSPACES ++ 3 ∷ drop 9 NO_SUBSPACES) ≡ Faulty (Revision 3) }
+    ensures overrun { decision true (take 4 ONE_GENERIC_SUBSPACE ++ 109 ∷ drop 5 ONE_GENERIC_SUBSPACE) ≡ Faulty (Overrun 48) }
+    ensures one_byte { decision true (take 4 NO_SUBSPACES ++ 49 ∷ drop 5 NO_SUBSPACES ++ 0 ∷ []) ≡ Faulty (Overrun 48) }
+    ensures kind { decision true (take 48 ONE_GENERIC_SUBSPACE ++ 6 ∷ drop 49 ONE_GENERIC_SUBSPACE) ≡ Faulty (SubspaceType 48 6) }
+    ensures size { decision true (take 49 ONE_GENERIC_SUBSPACE ++ 61 ∷ drop 50 ONE_GENERIC_SUBSPACE) ≡ Faulty (SubspaceLength 48 0 61) }
+    ensures size_by_type { structure_size 48 (2 ∷ 62 ∷ []) ≡ Err (SubspaceLength 48 2 62) }
+    ensures checksum { decision true (take 9 NO_SUBSPACES ++ 0x5b ∷ drop 10 NO_SUBSPACES) ≡ Faulty (Checksum 1) }
+
+    // Where one structure may stand there, a byte behind it begins one too many. A table may have 256.
+    ensures many { structures_decision 1 48 (drop 48 ONE_GENERIC_SUBSPACE ++ 0 ∷ []) ≡ Faulty (TooMany 110) }
+    ensures most { most_structures ≡ 256 }
 {}

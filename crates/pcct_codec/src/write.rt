@@ -4,11 +4,13 @@ ghost use Rattle.std.specs.Io.KnownBytes.{Appends};
 ghost use Rattle.pcc_bytes.specs.Bytes.{IsBytes};
 ghost use Rattle.pcc_causes.specs.Causes.{AppendsPrefix, Rose};
 ghost use Rattle.pcct_table.specs.declared.table.Table.{Table};
-ghost use Rattle.pcct_table.specs.ShowText.{HasText};
+ghost use Rattle.pcct_table.specs.ShowText.{HasText, show_text};
+ghost use Rattle.pcct_table.specs.ShowFaults.{HasTable};
 ghost use Rattle.pcct_codec.specs.Tables.{IsTableValue, TableBytes};
+ghost use Rattle.pcct_codec.specs.Texts.{Shows};
 
 use crate::fault::TableWriteFault;
-use crate::header::{HEADER, put_header};
+use crate::header::{HEADER_BYTES, put_header};
 use crate::structures::put_structures;
 use crate::sum::byte_sum;
 use pcc_io::{NoMemory, Sink, write_whole};
@@ -25,7 +27,7 @@ pub fn table_bytes(alloc: Global, table: &Table) -> Result<Vec<u8>, NoMemory>
 {
     let mut body = Vec::new(alloc);
     put_structures(&mut body, table.subspaces.as_slice())?;
-    let len = HEADER + body.len();
+    let len = HEADER_BYTES + body.len();
     let mut bytes = Vec::new(alloc);
     put_header(&mut bytes, table, len as u32, 0)?;
     bytes.extend_from_slice(&body)?;
@@ -54,6 +56,15 @@ pub fn table_to<W: Sink>(alloc: Global, table: &Table, sink: &mut W) -> Result<(
 /// The tables that have a text are those that some bytes spell. It does nothing.
 pub fn texts_of_tables()
     ensures { (t : Table) → HasText t ↔ IsTableValue t }
+{}
+
+/// Bytes of tables and texts of tables correspond, one to one: a table's text is built to the bytes that it was shown from, and the bytes
+/// that were built from a text are shown as that text. It does nothing.
+pub fn show_laws()
+    ensures build_of_show { (bytes other text : List ℕ) → Shows bytes text → Shows other text → bytes ≡ other }
+    ensures show_of_build { (bytes text other : List ℕ) → Shows bytes text → Shows bytes other → text ≡ other }
+    ensures every_table { (bytes : List ℕ) (t : Table) → IsBytes bytes → TableBytes bytes t → Shows bytes (show_text t) }
+    ensures every_text { (text : List ℕ) → HasTable text → (bytes : List ℕ) × Shows bytes text }
 {}
 
 /// A table has one spelling, and bytes spell one table at most. It does nothing.

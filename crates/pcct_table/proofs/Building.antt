@@ -105,7 +105,7 @@ building_many lines last place line ss s lt h full e b =
       number = omega arith;
     }
 
-all_read : (lines : List (List ℕ)) (place : ℕ) (ss : List Subspace) → length lines ≤ place → Building lines place ss → lines ≡ structure_lines 0 ss
+pub all_read : (lines : List (List ℕ)) (place : ℕ) (ss : List Subspace) → length lines ≤ place → Building lines place ss → lines ≡ structure_lines 0 ss
 all_read lines place ss le b = sym (take_all place lines le) ∙ b.front
 
 structures_len : (n : ℕ) (ss : List Subspace) → length (structure_lines n ss) ≡ length ss

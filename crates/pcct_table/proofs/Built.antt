@@ -154,7 +154,7 @@ header_right line b t e values spelled few = record {
 }
 
 -- the table without structures that a header's bytes say
-abbrev header_at : List ℕ → Table
+abbrev pub header_at : List ℕ → Table
 header_at b = record {
   revision = number_at 1 8 b;
   oem_id = bytes_at 6 10 b;
@@ -170,7 +170,7 @@ header_at b = record {
 right_header : (line b : List ℕ) → read_header (split_at 32 line) ≡ Some b → IsRightAt 0 line
 right_header line b e = (header_at b, header_right line b (header_at b) e refl tt (omega arith), header_is line b (header_at b) e refl)
 
-behind_header : (line b : List ℕ) (lines : List (List ℕ)) (last : List ℕ) (n : ℕ) (k : BuildKind) → read_header (split_at 32 line) ≡ Some b → StopsBehind lines last n k → StopsAt (line ∷ lines) last n k
+pub behind_header : (line b : List ℕ) (lines : List (List ℕ)) (last : List ℕ) (n : ℕ) (k : BuildKind) → read_header (split_at 32 line) ≡ Some b → StopsBehind lines last n k → StopsAt (line ∷ lines) last n k
 behind_header line b lines last n k e s =
     let front = structure_lines 0 s.before in
     let len : length front ≡ length s.before = structures_len 0 s.before in
@@ -326,9 +326,9 @@ stops_text text n k s =
     subst T (sym s.number) (stop_text s.before s.more last text k s.right s.few (subst L s.cut (front_lacks text)) (text_is text ∙ ap (λ (ls : List (List ℕ)). flat_map line_text ls ++ last) s.cut) s.stops)
 
 -- the parts of a text that begins with these lines
-record IsCut (text : List ℕ) (front : List (List ℕ)) (last : List ℕ) : Type 0 where
-  front_is : front_of (split_at 10 text) ≡ front
-  last_is : last_of (split_at 10 text) ≡ last
+pub record IsCut (text : List ℕ) (front : List (List ℕ)) (last : List ℕ) : Type 0 where
+  pub front_is : front_of (split_at 10 text) ≡ front
+  pub last_is : last_of (split_at 10 text) ≡ last
 
 cut_parts : (text : List ℕ) (front : List (List ℕ)) (last : List ℕ) → split_at 10 text ≡ front ++ last ∷ [] → IsCut text front last
 cut_parts text front last e = record { front_is = ap front_of e ∙ front_push front last; last_is = ap last_of e ∙ last_push front last }
@@ -339,7 +339,7 @@ cut_line before line rest text few right one e =
     let tail : split_at 10 (line ++ 10 ∷ rest) ≡ line ∷ ps = slice_split_at (λ b. eqb b 10) line 10 rest (All-from_lacks 10 line one) refl in
     cut_parts text (before ++ line ∷ front_of ps) (last_of ps) (ap (split_at 10) e ∙ split_more before (line ++ 10 ∷ rest) (right_lack 0 before (omega arith) right) ∙ ap (λ (v : List (List ℕ)). before ++ v) (tail ∙ ap (λ (v : List (List ℕ)). line ∷ v) (parts_are ps (split_some 10 rest))) ∙ sym (append_assoc before (line ∷ front_of ps) (last_of ps ∷ [])))
 
-text_stops : (text : List ℕ) (n : ℕ) (k : BuildKind) → TextWrong text n k → StopsAt (front_of (split_at 10 text)) (last_of (split_at 10 text)) n k
+pub text_stops : (text : List ℕ) (n : ℕ) (k : BuildKind) → TextWrong text n k → StopsAt (front_of (split_at 10 text)) (last_of (split_at 10 text)) n k
 text_stops text n k (WrongLine before line rest right few one never e) =
     let c = cut_line before line rest text few right one e in
     record { before = before; more = line ∷ front_of (split_at 10 rest); cut = c.front_is; right = right; few = few; stops = Wrong line (front_of (split_at 10 rest)) (last_of (split_at 10 text)) never; number = refl }
@@ -364,7 +364,7 @@ is_found text (Ok t) h =
     (h.0, text_is text ∙ ap (λ (v : List ℕ). flat_map line_text front ++ v) h.2 ∙ append-nil (flat_map line_text front) ∙ ap (flat_map line_text) h.1)
 is_found text (Err e) h = tt
 
-table_cut : (t : Table) (text : List ℕ) → HasText t → text ≡ show_text t → IsCut text (table_lines t) []
+pub table_cut : (t : Table) (text : List ℕ) → HasText t → text ≡ show_text t → IsCut text (table_lines t) []
 unfolding show_text
 table_cut t text h e =
     let most : length (table_lines t) ≤ most_lines = table_few t h in

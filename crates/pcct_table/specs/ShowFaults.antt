@@ -9,7 +9,7 @@ use Rattle.pcct_table.specs.declared.build.BuildKind.TheVariants as kind
 use Rattle.pcct_table.specs.declared.subspace.Subspace.{Subspace}
 use Rattle.pcct_table.specs.declared.table.Table.{Table}
 use Rattle.pcct_table.specs.Subspaces.{IsSubspace}
-use Rattle.pcct_table.specs.ShowText.{HasText, header_line, show_line}
+use Rattle.pcct_table.specs.ShowText.{HasText, header_line, show_line, show_text}
 
 -- the lines of a table at most: its header's and 256 structures'
 abbrev pub most_lines : ℕ
@@ -33,6 +33,20 @@ pub data TextWrong (text : List ℕ) : ℕ → BuildKind → Type 0 where
   NoEnd : (before : List (List ℕ)) → (bytes : List ℕ) → AreRightFrom 0 before → length before ≤ most_lines → IsOneLine bytes → 1 ≤ length bytes → text ≡ flat_map line_text before ++ bytes → TextWrong text (suc (length before)) kind.Text
   NoLine : text ≡ [] → TextWrong text 1 kind.Text
   OneMore : (before : List (List ℕ)) → (line rest : List ℕ) → AreRightFrom 0 before → length before ≡ most_lines → IsRightAt (length before) line → text ≡ flat_map line_text before ++ (line ++ 10 ∷ rest) → TextWrong text (suc (length before)) kind.Many
+
+-- ---- what a text is
+
+-- a text is that of a table
+pub record HasTable (text : List ℕ) : Type 0 where
+  pub table : Table
+  pub right : HasText table
+  pub spelled : text ≡ show_text table
+
+-- something is wrong in a text
+pub record HasFault (text : List ℕ) : Type 0 where
+  pub line : ℕ
+  pub kind : BuildKind
+  pub wrong : TextWrong text line kind
 
 -- ---- what a caller is told
 

@@ -1,16 +1,16 @@
 //! A table from its text.
-ghost use Rattle.std.specs.Prelude.{◌≡◌, ◌≤◌, ◌+◌, ℕ, IfOk};
+ghost use Rattle.std.specs.Prelude.{◌≡◌, ◌≤◌, ◌+◌, ◌⊎◌, ℕ, List, IfOk};
 ghost use Rattle.pcc_bytes.specs.Fields.{split_at};
 ghost use Rattle.pcct_table.specs.declared.build.BuildError.TheVariants as error;
 ghost use Rattle.pcct_table.specs.declared.table.Table.{Table};
 ghost use Rattle.pcct_table.specs.declared.build.BuildKind.{BuildKind};
 ghost use Rattle.pcct_table.specs.ShowText.{HasText, show_text};
-ghost use Rattle.pcct_table.specs.ShowFaults.{IfFault, IsReadAs, IsRefusedAt, TextWrong};
+ghost use Rattle.pcct_table.specs.ShowFaults.{HasFault, HasTable, IfFault, IsReadAs, IsRefusedAt, TextWrong};
 ghost use Rattle.pcct_table.specs.ShowReading.{TellsStructures, TellsText, front_of, last_of};
 
 use crate::header::table_with;
 use crate::line::{header_of_line, subspace_of_line};
-use crate::subspaces::Subspaces;
+use crate::subspaces::{MAX_SUBSPACES, Subspaces};
 use crate::table::Table;
 use pcc_io::NoMemory;
 use pcc_text::cut;
@@ -21,7 +21,7 @@ use std::alloc::Global;
 pub enum BuildKind {
     /// It is no line of a table's text in its place, or has no line feed, or there is none.
     Text,
-    /// It is the line of a structure, behind those of 256.
+    /// It is the line of a structure, behind those of `MAX_SUBSPACES`.
     Many,
 }
 
@@ -43,9 +43,6 @@ impl From<NoMemory> for BuildError {
         BuildError::NoMemory
     }
 }
-
-/// A table's structures at most.
-const MOST: usize = 256;
 
 /// What is wrong with the line of a structure with this place.
 fn wrong_line(place: usize, kind: BuildKind) -> BuildError
@@ -70,7 +67,7 @@ fn subspaces_of(alloc: Global, text: &[u8]) -> Result<Subspaces, BuildError>
         let Some(subspace) = subspace_of_line(alloc, place as u32, line)? else {
             return Err(wrong_line(place, BuildKind::Text));
         };
-        if place == MOST {
+        if place == MAX_SUBSPACES {
             return Err(wrong_line(place, BuildKind::Many));
         }
         subspaces.push(subspace)?;
@@ -121,3 +118,13 @@ pub fn table_of_lines(alloc: Global, text: &[u8]) -> Result<Table, BuildError>
 {
     read(alloc, text)
 }
+
+/// A text is that of a table or has a fault, never both; it has one first fault at most, and two tables have two texts. With the clauses of
+/// `show_lines` and `table_of_lines`, a text gives the table whose text it is, and a table its text. It does nothing.
+pub fn text_laws()
+    ensures some { (text : List ℕ) → HasTable text ⊎ HasFault text }
+    ensures not_both { (text : List ℕ) → HasTable text → HasFault text → ⊥ }
+    ensures one_fault { (text : List ℕ) (line other : ℕ) (kind another : BuildKind) → TextWrong text line kind → TextWrong text other another
+        → (line ≡ other) × (kind ≡ another) }
+    ensures one_table { (t u : Table) → HasText t → HasText u → show_text t ≡ show_text u → t ≡ u }
+{}

@@ -17,8 +17,9 @@ mod subspace;
 mod subspaces;
 mod table;
 mod words;
+mod worked;
 
-pub use build::{BuildError, BuildKind, table_of_lines};
+pub use build::{BuildError, BuildKind, table_of_lines, text_laws};
 pub use extended::Type34;
 pub use generic::Type0;
 pub use hw_reduced::{Type1, Type2};
@@ -28,8 +29,9 @@ pub use show::show_lines;
 pub use subspace::{
     Subspace, one_spelling, one_subspace, put_subspace, size_of_kind, subspace_from,
 };
-pub use subspaces::Subspaces;
+pub use subspaces::{MAX_SUBSPACES, Subspaces, limits_are};
 pub use table::Table;
+pub use worked::worked_structures;
 
 #[cfg(test)]
 mod tests;

@@ -1,12 +1,16 @@
 //! The structures of a table.
 ghost use Rattle.std.specs.Prelude.{◌≡◌, ◌<◌, ◌≤◌, [], ◌∷◌, ◌++◌, length, slice_index_or, OnOk, OnErr};
+ghost use Rattle.pcct_table.specs.declared.subspaces.TheConstants.{MAX_SUBSPACES};
 
 use crate::subspace::Subspace;
 use pcc_io::NoMemory;
 use std::alloc::Global;
 use std::marker::Model;
 
-/// A list of at most 256 structures. A subspace's ID is its place in it.
+/// How many structures a table may have (ACPI 6.5, 14.1).
+pub const MAX_SUBSPACES: usize = 256;
+
+/// A list of at most `MAX_SUBSPACES` structures. A subspace's ID is its place in it.
 #[derive(Debug, Drop)]
 pub struct Subspaces {
     items: Vec<Subspace>,
@@ -63,3 +67,8 @@ impl Subspaces {
         self.items.as_slice()
     }
 }
+
+/// The limit as a number, so that it doesn't change unseen. It does nothing.
+pub fn limits_are()
+    ensures subspaces { MAX_SUBSPACES ≡ 256 }
+{}

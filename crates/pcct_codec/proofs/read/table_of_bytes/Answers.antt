@@ -13,23 +13,23 @@ use Rattle.pcct_codec.proofs.read.table_of_bytes.Goals as goal
 front_is : (b front : List ℕ) (n : ℕ) → front ≡ slice_range b 0 n → front ≡ take n b
 front_is b front n e = let same : n - 0 ≡ n = omega arith in e ∙ ap (λ (m : ℕ). take m b) same
 
-pub returns-then-bytes-lt-HEADER-clause-exact : goal.returns-then-bytes-lt-HEADER-clause-exact
-returns-then-bytes-lt-HEADER-clause-exact c = short_header c.args.bytes.now c.if-bytes-lt-HEADER.true
+pub returns-then-bytes-lt-HEADER_BYTES-clause-exact : goal.returns-then-bytes-lt-HEADER_BYTES-clause-exact
+returns-then-bytes-lt-HEADER_BYTES-clause-exact c = short_header c.args.bytes.now c.if-bytes-lt-HEADER_BYTES.true
 
 pub returns-in_err-len-clause-only : goal.returns-in_err-len-clause-only
 returns-in_err-len-clause-only c = λ front rest t h e.
     let told : told_length c.args.bytes.now ≡ Err c.in_err-len.field-0.0 = sym c.told_length.ensures ∙ c.in_err-len.was in
-    match_from (λ x. (x.0 ≡ t) × (x.1 ≡ length front)) (λ f. f ≡ NoMemory) _ _ c.from_residual.ensures.1 (only_memory _ c.args.bytes.now (header_fault _ _ c.if-bytes-lt-HEADER.false told) front rest t h e)
+    match_from (λ x. (x.0 ≡ t) × (x.1 ≡ length front)) (λ f. f ≡ NoMemory) _ _ c.from_residual.ensures.1 (only_memory _ c.args.bytes.now (header_fault _ _ c.if-bytes-lt-HEADER_BYTES.false told) front rest t h e)
 
 pub returns-in_err-len-clause-exact : goal.returns-in_err-len-clause-exact
 returns-in_err-len-clause-exact c =
     let told : told_length c.args.bytes.now ≡ Err c.in_err-len.field-0.0 = sym c.told_length.ensures ∙ c.in_err-len.was in
-    match_from (λ x. decision true c.args.bytes.now ≡ Right) (λ f. FaultIs f (decision true c.args.bytes.now)) _ _ c.from_residual.ensures.1 (header_fault _ _ c.if-bytes-lt-HEADER.false told)
+    match_from (λ x. decision true c.args.bytes.now ≡ Right) (λ f. FaultIs f (decision true c.args.bytes.now)) _ _ c.from_residual.ensures.1 (header_fault _ _ c.if-bytes-lt-HEADER_BYTES.false told)
 
 pub returns-in_err-len-clause-in_memory : goal.returns-in_err-len-clause-in_memory
 returns-in_err-len-clause-in_memory c = λ e.
     let told : told_length c.args.bytes.now ≡ Err c.in_err-len.field-0.0 = sym c.told_length.ensures ∙ c.in_err-len.was in
-    err_not _ ReadFault (err_from (λ f. f ≢ ReadFault) _ _ c.from_residual.ensures.1 (memory_only _ c.args.bytes.now (header_fault _ _ c.if-bytes-lt-HEADER.false told))) e
+    err_not _ ReadFault (err_from (λ f. f ≢ ReadFault) _ _ c.from_residual.ensures.1 (memory_only _ c.args.bytes.now (header_fault _ _ c.if-bytes-lt-HEADER_BYTES.false told))) e
 
 pub overflow_cast-result-in_default : goal.overflow_cast-result-in_default
 overflow_cast-result-in_default c =
@@ -42,13 +42,13 @@ pub returns-in_default-clause-only : goal.returns-in_default-clause-only
 returns-in_default-clause-only c = λ front rest t h e.
     let told : told_length c.args.bytes.now ≡ Ok c.in_ok-len.len = sym c.told_length.ensures ∙ c.in_ok-len.was in
     let short : length c.args.bytes.now < c.in_ok-len.len = let s = c.in_default.ensures.lookup.0 in grind (arith, common_steps) in
-    only_memory (Short (length c.args.bytes.now)) c.args.bytes.now (short_table _ _ c.if-bytes-lt-HEADER.false told short) front rest t h e
+    only_memory (Short (length c.args.bytes.now)) c.args.bytes.now (short_table _ _ c.if-bytes-lt-HEADER_BYTES.false told short) front rest t h e
 
 pub returns-in_default-clause-exact : goal.returns-in_default-clause-exact
 returns-in_default-clause-exact c =
     let told : told_length c.args.bytes.now ≡ Ok c.in_ok-len.len = sym c.told_length.ensures ∙ c.in_ok-len.was in
     let short : length c.args.bytes.now < c.in_ok-len.len = let s = c.in_default.ensures.lookup.0 in grind (arith, common_steps) in
-    short_table _ _ c.if-bytes-lt-HEADER.false told short
+    short_table _ _ c.if-bytes-lt-HEADER_BYTES.false told short
 
 pub table_in-requires : goal.table_in-requires
 table_in-requires c =

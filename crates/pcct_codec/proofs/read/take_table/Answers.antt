@@ -7,8 +7,8 @@ use Rattle.pcct_codec.proofs.Passing.{err_from, err_not}
 use Rattle.pcct_codec.proofs.Reading.{all_read, excused_left, header_left, header_short, header_wrong, table_short}
 use Rattle.pcct_codec.proofs.read.take_table.Goals as goal
 
-pub returns-then-len-lt-HEADER-clause-exact : goal.returns-then-len-lt-HEADER-clause-exact
-returns-then-len-lt-HEADER-clause-exact g c = λ all e.
+pub returns-then-len-lt-HEADER_BYTES-clause-exact : goal.returns-then-len-lt-HEADER_BYTES-clause-exact
+returns-then-len-lt-HEADER_BYTES-clause-exact g c = λ all e.
     header_short _ _ _ _ _ c.new-bytes.ensures.items c.in_ok-fill.ensures.ok (grind (arith, common_steps)) (grind (arith, common_steps)) all e
 
 pub returns-in_err-len-clause-exact : goal.returns-in_err-len-clause-exact

@@ -6,8 +6,8 @@ use Rattle.pcct_codec.proofs.Passing.{match_from}
 use Rattle.pcct_codec.proofs.Walking.{stands, walk_more, walk_fault, walk_many, walk_end}
 use Rattle.pcct_codec.proofs.structures.structures_from.Goals as goal
 
-pub returns-then-len-ge-MOST : goal.returns-then-len-ge-MOST
-returns-then-len-ge-MOST c = walk_many c.args.bytes.now c.loop-at.at c.loop-at.subspaces c.loop-at-test.true (grind (arith, common_steps)) c.loop-at.invariant
+pub returns-then-len-ge-MAX_SUBSPACES : goal.returns-then-len-ge-MAX_SUBSPACES
+returns-then-len-ge-MAX_SUBSPACES c = walk_many c.args.bytes.now c.loop-at.at c.loop-at.subspaces c.loop-at-test.true (grind (arith, common_steps)) c.loop-at.invariant
 
 pub returns-in_err-subspace : goal.returns-in_err-subspace
 returns-in_err-subspace c =

@@ -2,7 +2,7 @@ use Rattle.std.proofs.Common.{[], drop, refl, inr, lit≤}
 use Rattle.pcc_bytes.specs.Bytes.{number_at}
 use Rattle.pcc_gas.specs.Addresses.{address_in}
 use Rattle.pcct_table.specs.Values.{address_at, bytes_at}
-use Rattle.pcct_codec.specs.Faults.{decision, structure_size, told_length}
+use Rattle.pcct_codec.specs.Faults.{decision, structure_size, structures_decision, table_decision, told_length}
 use Rattle.pcct_codec.specs.declared.worked.TheConstants.{ONE_GENERIC_SUBSPACE}
 use Rattle.pcct_codec.proofs.worked.worked_tables.Goals as goal
 
@@ -23,14 +23,10 @@ returns-clause-one c = record {
   checksum = refl;
 }
 
+pub returns-clause-right : goal.returns-clause-right
+unfolding decision number_at structure_size structures_decision table_decision told_length
+returns-clause-right c = refl
+
 pub returns-clause-wanting : goal.returns-clause-wanting
 unfolding decision number_at told_length
 returns-clause-wanting c = refl
-
-pub returns-clause-short : goal.returns-clause-short
-unfolding decision number_at told_length
-returns-clause-short c = refl
-
-pub returns-clause-size : goal.returns-clause-size
-unfolding structure_size
-returns-clause-size c = refl
