@@ -9,6 +9,7 @@ use Rattle.pcc_steps.specs.declared.wiring.Wiring.{Wiring}
 use Rattle.pcc_steps.specs.declared.ask.AskStage.TheVariants.{AskRest}
 use Rattle.pcc_steps.specs.declared.answer.AnswerStage.TheVariants.{AnswerRest, RunDevice}
 use Rattle.pcc_steps.specs.declared.wiring.Style.TheVariants.{Headed}
+use Rattle.pcc_steps.specs.Kinds.{IsHeaded}
 use Rattle.pcc_steps.specs.Wires.{style_of, heads_of, block_of, block_header, opening_words}
 use Rattle.pcc_steps.specs.Asking.{Ask, AskOk, IsNewAsk, IsAskRunning, ask_next, ask_fed, ask_told, ask_begun, ask_looking, ask_budgeted, rose}
 use Rattle.pcc_steps.specs.Answering.{Answer, AnswerOk, IsNewAnswer, IsAnswerStepping, answer_next, answer_fed, answer_told, answer_begun, answer_code, ran_with}
@@ -27,7 +28,7 @@ AskStepAgrees = (exec : Device) (start ws : List ℕ) (x : Asker) (y : Answerer)
 
 -- a post is begun
 abbrev pub PostBeginAgrees : Type 0
-PostBeginAgrees = (exec : Device) (start ws : List ℕ) (x : Asker) (y : Answerer) (code : ℕ) (bytes : List ℕ) → x.m.stage ≡ AskRest → x.m.in_flight ≡ false → length bytes ≤ x.m.wiring.room → x.m.posts < 4096 → (x.m.wiring.kind ≤ 2 → code < 256) → code < 2 ^ 32 → IsBytes bytes
+PostBeginAgrees = (exec : Device) (start ws : List ℕ) (x : Asker) (y : Answerer) (code : ℕ) (bytes : List ℕ) → x.m.stage ≡ AskRest → x.m.in_flight ≡ false → length bytes ≤ x.m.wiring.room → x.m.posts < 4096 → (IsHeaded x.m.wiring.kind → code < 256) → code < 2 ^ 32 → IsBytes bytes
     → Agree exec start ws x y → Agree exec start ws (asker_begun x code bytes) y
 
 -- a look is begun

@@ -1,3 +1,4 @@
+pub mod Kinds
 pub mod Wires
 pub mod Runs
 pub mod Asking

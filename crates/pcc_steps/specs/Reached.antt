@@ -9,6 +9,7 @@ use Rattle.shmem_header.specs.Spelling.{words_of}
 use Rattle.pcc_steps.specs.declared.wiring.Wiring.{Wiring}
 use Rattle.pcc_steps.specs.declared.ask.AskStage.TheVariants.{AskRest}
 use Rattle.pcc_steps.specs.declared.answer.AnswerStage.TheVariants.{AnswerRest}
+use Rattle.pcc_steps.specs.Kinds.{IsHeaded}
 use Rattle.pcc_steps.specs.Wires.{opening_words}
 use Rattle.pcc_steps.specs.Asking.{Ask, AskOk, IsNewAsk, ask_next, ask_looking, ask_budgeted}
 use Rattle.pcc_steps.specs.Answering.{Answer, AnswerOk, IsNewAnswer, answer_next, answer_begun}
@@ -27,7 +28,7 @@ pub record MayPost (a : Ask) (code : ℕ) (asked : List ℕ) : Type 0 where
   pub posts : a.posts < 4096
   pub fits : length asked ≤ a.wiring.room
   pub bytes : IsBytes asked
-  pub byte : a.wiring.kind ≤ 2 → code < 256
+  pub byte : IsHeaded a.wiring.kind → code < 256
   pub word : code < 2 ^ 32
 
 -- a look may begin

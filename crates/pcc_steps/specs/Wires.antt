@@ -1,9 +1,10 @@
 -- How a subspace is wired, and what its words say (ACPI 6.5, 14.1 and 14.2).
-use Rattle.std.specs.Prelude.{◌≡◌, ◌≢◌, ℕ, ◌+◌, ◌-◌, ◌/◌, ◌%◌, ◌^◌, ◌≤◌, ◌==◌, Bool, true, false, not, ltb, if◌then◌else◌, List, [], ◌∷◌, ◌++◌, get_or, bit_and, bit_or}
+use Rattle.std.specs.Prelude.{◌≡◌, ◌≢◌, ℕ, ◌+◌, ◌-◌, ◌/◌, ◌%◌, ◌^◌, ◌≤◌, ◌==◌, Bool, true, false, not, if◌then◌else◌, List, [], ◌∷◌, ◌++◌, get_or, bit_and, bit_or}
 use Rattle.pcc_gas.specs.declared.mask.Masks.{Masks}
 use Rattle.shmem_header.specs.HeaderBits.{header_word, is_set, code_in, command_in}
 use Rattle.shmem_header.specs.Layout.{signature_of}
 use Rattle.shmem_header.specs.Packing.{extended_words, reduced_word}
+use Rattle.pcc_steps.specs.Kinds.{is_headed, is_initiator, is_responder, may_acknowledge, IsHeaded, IsRegistered, IsInitiator, IsResponder, IsReduced}
 use Rattle.pcc_steps.specs.declared.wiring.Wiring.{Wiring}
 use Rattle.pcc_steps.specs.declared.wiring.Style.{Style}
 use Rattle.pcc_steps.specs.declared.wiring.Style.TheVariants.{Headed, Joined3, Separate3, Joined4, Separate4, Reduced5}
@@ -11,9 +12,9 @@ use Rattle.pcc_steps.specs.declared.wiring.Style.TheVariants.{Headed, Joined3, S
 -- the style by the type, and by whether the update register is the check register
 abbrev pub style_by : ℕ → Bool → Style
 style_by kind joined =
-    if ltb kind 3 then Headed
-    else if kind == 3 then (if joined then Joined3 else Separate3)
-    else if kind == 4 then (if joined then Joined4 else Separate4)
+    if is_headed kind then Headed
+    else if is_initiator kind then (if joined then Joined3 else Separate3)
+    else if is_responder kind then (if joined then Joined4 else Separate4)
     else Reduced5
 
 abbrev pub style_of : Wiring → Style
@@ -40,17 +41,17 @@ pub record IsRight (w : Wiring) : Type 0 where
   pub least : 8 ≤ w.room
   pub most : w.room ≤ 4096
   -- errors of types 0 to 2 stand in the header
-  pub reports : w.kind ≤ 2 → w.reports ≡ true
+  pub reports : IsHeaded w.kind → w.reports ≡ true
   -- completion of types 3 to 5 can be seen, and errors too where they are reported
-  pub check : 3 ≤ w.kind → w.check_mask ≢ 0
-  pub error : 3 ≤ w.kind → w.reports ≡ true → w.error_mask ≢ 0
+  pub check : IsRegistered w.kind → w.check_mask ≢ 0
+  pub error : IsRegistered w.kind → w.reports ≡ true → w.error_mask ≢ 0
   -- only types 3 and 4 have an update register
-  pub joined : w.kind ≢ 3 → w.kind ≢ 4 → w.joined ≡ false
+  pub joined : ¬ IsInitiator w.kind → ¬ IsResponder w.kind → w.joined ≡ false
   -- the asking side of type 3 can clear completion, the answering side of type 4 can set it
-  pub clears : w.kind ≡ 3 → w.joined ≡ true → bit_and (bit_or w.update.preserve w.update.set) w.check_mask ≡ 0
-  pub sets : w.kind ≡ 4 → w.joined ≡ true → bit_and w.update.set w.check_mask ≢ 0
+  pub clears : IsInitiator w.kind → w.joined ≡ true → bit_and (bit_or w.update.preserve w.update.set) w.check_mask ≡ 0
+  pub sets : IsResponder w.kind → w.joined ≡ true → bit_and w.update.set w.check_mask ≢ 0
   -- the header of type 5 has no place to ask for a notification
-  pub quiet : w.kind ≡ 5 → w.notify ≡ false
+  pub quiet : IsReduced w.kind → w.notify ≡ false
 
 -- ---- headers
 
@@ -114,7 +115,7 @@ asks_by _ header block = is_set (get_or block 0 0) 32
 
 -- the asking side of types 2 and 3 acknowledges the interrupt
 abbrev pub acknowledges : Wiring → Bool
-acknowledges w = if w.has_ack then (if w.kind == 2 then true else w.kind == 3) else false
+acknowledges w = if w.has_ack then may_acknowledge w.kind else false
 
 -- the answering side of type 4 acknowledges the doorbell, and rings one
 abbrev pub four_by : Style → Bool → Bool

@@ -5,10 +5,12 @@ ghost use Rattle.pcc_history.specs.Channel.{over};
 ghost use Rattle.pcc_steps.specs.declared.ask.AskStage.TheVariants.{AskRest, LookWord};
 ghost use Rattle.pcc_steps.specs.declared.wiring.Action.TheVariants.{Rest};
 ghost use Rattle.pcc_steps.specs.declared.ask.AskOutcome.TheVariants.{Clear, Drained};
+ghost use Rattle.pcc_steps.specs.Kinds.{IsHeaded};
 ghost use Rattle.pcc_steps.specs.Wires.{IsRight, block_of, sees_done, meets, update_place, acknowledges, tells_error, header_error, sent_header};
 ghost use Rattle.pcc_steps.specs.Asking.{Ask, AskOk, IsNewAsk, IsAskRunning, IsPosting, IsReading, IsWithin, ask_fed_at, ask_told_at, ask_next, ask_fed, ask_told, ask_begun, ask_looking, ask_budgeted, drained, rose, after_block, after_update, after_mark, after_bell, after_look};
 
 use crate::block::{fill_block, fill_opening, lay};
+use crate::kind::may_acknowledge;
 use crate::wiring::{Action, Style, Wiring, place};
 use pcc_gas::masked;
 use pcc_io::NoMemory;
@@ -241,7 +243,7 @@ pub fn ask_begin(ask: &mut AskState, code: u32, bytes: &[u8])
     requires free { ask.old.in_flight ≡ false }
     requires fits { length bytes.now ≤ ask.old.wiring.room }
     requires posts { ask.old.posts < 4096 }
-    requires code { ask.old.wiring.kind ≤ 2 → code < 256 }
+    requires code { IsHeaded ask.old.wiring.kind → code < 256 }
     ensures { ask.new ≡ ask_begun ask.old code bytes.now }
 {
     lay(&ask.space, bytes, &mut ask.input);
@@ -477,7 +479,7 @@ fn header_error(style: Style, word: u64) -> bool
 fn acknowledges(wiring: &Wiring) -> bool
     ensures { result ≡ acknowledges wiring.now }
 {
-    wiring.has_ack && (wiring.kind == 2 || wiring.kind == 3)
+    wiring.has_ack && may_acknowledge(wiring.kind)
 }
 
 fn after_block(style: Style) -> AskStage

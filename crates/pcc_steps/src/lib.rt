@@ -4,6 +4,7 @@
 mod answer;
 mod ask;
 mod block;
+mod kind;
 mod laws;
 mod wiring;
 mod words;
@@ -16,6 +17,7 @@ pub use answer::{
 pub use ask::{
     AskOutcome, AskStage, AskState, ask_begin, ask_budget, ask_feed, ask_look, ask_next,
 };
+pub use kind::{is_extended, is_headed, is_initiator, is_reduced, is_responder};
 pub use laws::{
     answering_laws, answering_tables, asking_laws, asking_tables, counting_laws, device_laws,
     ending_laws, history_laws, reached_laws, refusing_laws,

@@ -5,6 +5,7 @@ ghost use Rattle.pcc_steps.specs.Wires.{IsRight};
 use crate::{
     Action, AnswerOutcome, AnswerState, AskOutcome, AskState, Wiring, answer_feed, answer_next,
     answer_ran, answer_space, answer_start, ask_begin, ask_budget, ask_feed, ask_look, ask_next,
+    opening_words, perform,
 };
 use Action::{Load, Store, Swap};
 use pcc_exec::ExecStatus;
@@ -254,4 +255,17 @@ fn a_type_two_subspace_acknowledges_and_tells_errors(rt: HostRuntime) {
     ];
     assert!(rt; ask_along(&mut ask, &drained) == Some(AskOutcome::Drained { error: true }));
     assert!(rt; ask.space() == [1, 0, 0, 0, 0, 0, 0, 0].as_slice());
+}
+
+#[test]
+fn word_steps_on_a_plain_list(rt: HostRuntime) {
+    let wiring = headed(0, false, false);
+    let opening = opening_words(rt.alloc(), &wiring, &[1, 2, 0, 0, 0, 0, 0, 0]);
+    let opening = opening.expect(&rt, "memory");
+    let first = [0x0001_0000_5043_4300, 0, 0, 0, 0, 0, 0, 0, 0x201];
+    assert!(rt; opening.as_slice() == first.as_slice());
+    let mut words = [5, 6, 0, 8];
+    assert!(rt; perform(&mut words, Store(2, 1)) == 0 && words == [5, 6, 1, 8]);
+    assert!(rt; perform(&mut words, Swap(2, 0)) == 1 && words == [5, 6, 0, 8]);
+    assert!(rt; perform(&mut words, Load(3)) == 8 && words == [5, 6, 0, 8]);
 }

@@ -2,6 +2,7 @@
 ghost use Rattle.std.specs.Prelude.{◌≡◌, ◌+◌};
 ghost use Rattle.pcc_steps.specs.Wires.{style_of, heads_of, block_of};
 
+use crate::kind::{is_headed, is_initiator, is_responder};
 use pcc_gas::Masks;
 
 /// A subspace as its two ends see it. Masks are cut to the width of their register.
@@ -105,14 +106,24 @@ impl Wiring {
     pub(crate) fn style(&self) -> Style
         ensures { result ≡ style_of self.now }
     {
-        match (self.kind, self.joined) {
-            (0..=2, _) => Style::Headed,
-            (3, true) => Style::Joined3,
-            (3, false) => Style::Separate3,
-            (4, true) => Style::Joined4,
-            (4, false) => Style::Separate4,
-            _ => Style::Reduced5,
+        if is_headed(self.kind) {
+            return Style::Headed;
         }
+        if is_initiator(self.kind) {
+            return if self.joined {
+                Style::Joined3
+            } else {
+                Style::Separate3
+            };
+        }
+        if is_responder(self.kind) {
+            return if self.joined {
+                Style::Joined4
+            } else {
+                Style::Separate4
+            };
+        }
+        Style::Reduced5
     }
 }
 

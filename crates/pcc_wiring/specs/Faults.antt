@@ -1,7 +1,8 @@
 -- Why a structure can't be opened: the first of its faults, in their order.
-use Rattle.std.specs.Prelude.{◌≡◌, ℕ, ◌==◌, ◌&&◌, ◌||◌, not, ltb, Bool, true, false, if◌then◌else◌, List, [], ◌∷◌, Option, Some, None, Result, Ok, Err, bit_and, bit_or}
+use Rattle.std.specs.Prelude.{◌≡◌, ℕ, ◌==◌, ◌&&◌, ◌||◌, not, Bool, true, false, if◌then◌else◌, List, [], ◌∷◌, Option, Some, None, Result, Ok, Err, bit_and, bit_or}
 use Rattle.pcc_gas.specs.declared.address.Gas.{Gas}
 use Rattle.pcc_steps.specs.declared.wiring.Wiring.{Wiring}
+use Rattle.pcc_steps.specs.Kinds.{is_headed, is_initiator, is_responder}
 use Rattle.pcct_table.specs.declared.subspace.Subspace.{Subspace}
 use Rattle.pcct_table.specs.Subspaces.{memory_len_of}
 use Rattle.pcc_wiring.specs.declared.fault.Asks.{Asks}
@@ -29,8 +30,8 @@ first_of (Some fault ∷ more) = Some fault
 
 -- the platform asks on type 4, the operating system on the others
 abbrev pub is_asked_by : ℕ → Asks → Bool
-is_asked_by kind System = not (kind == 4)
-is_asked_by kind Platform = kind == 4
+is_asked_by kind System = not (is_responder kind)
+is_asked_by kind Platform = is_responder kind
 
 -- ---- registers
 
@@ -51,7 +52,7 @@ watched_fault role may_lack (Some r) = register_fault role may_lack r.gas
 -- the registers in the order of their roles: a doorbell is there but on type 4, a check and an update register are there
 abbrev pub registers_fault : ℕ → Roles → Option WiringFault
 registers_fault kind roles = first_of (
-    register_fault Doorbell (kind == 4) roles.doorbell.gas
+    register_fault Doorbell (is_responder kind) roles.doorbell.gas
     ∷ written_fault Acknowledge true roles.acknowledge
     ∷ watched_fault Check false roles.check
     ∷ written_fault Update false roles.update
@@ -64,9 +65,9 @@ registers_fault kind roles = first_of (
 -- on type 4 the answering side's write sets it
 abbrev pub masks_fault : Wiring → Option WiringFault
 masks_fault w = first_of (
-    unless (ltb w.kind 3 || not (w.check_mask == 0)) NoCheckMask
-    ∷ unless (not (w.kind == 3 && w.joined) || bit_and (bit_or w.update.preserve w.update.set) w.check_mask == 0) NeverClears
-    ∷ unless (not (w.kind == 4 && w.joined) || not (bit_and w.update.set w.check_mask == 0)) NeverSets
+    unless (is_headed w.kind || not (w.check_mask == 0)) NoCheckMask
+    ∷ unless (not (is_initiator w.kind && w.joined) || bit_and (bit_or w.update.preserve w.update.set) w.check_mask == 0) NeverClears
+    ∷ unless (not (is_responder w.kind && w.joined) || not (bit_and w.update.set w.check_mask == 0)) NeverSets
     ∷ [])
 
 -- ---- all of them

@@ -1,6 +1,7 @@
 -- The word that holds a byte of shared memory.
-use Rattle.std.specs.Prelude.{ℕ, ◌+◌, ◌-◌, ◌/◌, ◌==◌, nat_le, nat_lt, ltb, Bool, true, false, if◌then◌else◌, Option, Some, None}
+use Rattle.std.specs.Prelude.{ℕ, ◌+◌, ◌-◌, ◌/◌, ◌==◌, nat_le, nat_lt, Bool, true, false, if◌then◌else◌, Option, Some, None}
 use Rattle.pcc_steps.specs.declared.wiring.Wiring.{Wiring}
+use Rattle.pcc_steps.specs.Kinds.{is_headed}
 use Rattle.pcc_steps.specs.Wires.{block_of}
 
 -- The place of the word with this number, counted from the base, where the block has so many words. The words of the block stand from
@@ -11,4 +12,4 @@ place_in false block number = if nat_lt number block then Some (8 + number) else
 
 -- the place of the word that holds the byte at an address
 abbrev pub place_at : Wiring → ℕ → ℕ → Option ℕ
-place_at w base address = if nat_le base address then place_in (ltb w.kind 3) (block_of w) ((address - base) / 8) else None
+place_at w base address = if nat_le base address then place_in (is_headed w.kind) (block_of w) ((address - base) / 8) else None

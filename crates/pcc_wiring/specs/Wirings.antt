@@ -1,7 +1,8 @@
 -- How a structure is wired.
-use Rattle.std.specs.Prelude.{ℕ, ◌-◌, ◌*◌, ◌/◌, ◌%◌, ◌==◌, ◌&&◌, ◌||◌, not, min, Bool, true, false, if◌then◌else◌, Option, Some, None}
+use Rattle.std.specs.Prelude.{ℕ, ◌-◌, ◌*◌, ◌/◌, ◌%◌, ◌==◌, ◌&&◌, not, min, Bool, true, false, if◌then◌else◌, Option, Some, None}
 use Rattle.pcc_gas.specs.declared.mask.Masks.{Masks}
 use Rattle.pcc_steps.specs.declared.wiring.Wiring.{Wiring}
+use Rattle.pcc_steps.specs.Kinds.{is_extended, is_reduced}
 use Rattle.pcct_table.specs.declared.subspace.Subspace.{Subspace}
 use Rattle.pcct_table.specs.Subspaces.{kind_of, memory_len_of}
 use Rattle.pcc_wiring.specs.declared.roles.Roles.{Roles}
@@ -18,7 +19,7 @@ room_limit = 4096
 
 -- the bytes of the header at the front of the shared memory (ACPI 6.5, 14.2 and 14.3)
 abbrev pub header_len : ℕ → ℕ
-header_len kind = if kind == 3 || kind == 4 then 16 else 8
+header_len kind = if is_extended kind then 16 else 8
 
 -- the words of 8 bytes behind the header, in a shared memory of this length
 abbrev pub room_of : ℕ → ℕ → ℕ
@@ -61,7 +62,7 @@ abbrev pub wiring_by : ℕ → ℕ → ℕ → ℕ → Roles → Wiring
 wiring_by kind len id flags roles = record {
   kind = kind;
   id = id;
-  notify = not (kind == 5) && flags % 2 == 1;
+  notify = not (is_reduced kind) && flags % 2 == 1;
   joined = are_joined roles.check roles.update;
   has_bell = not (is_absent roles.doorbell.gas);
   has_ack = has_register roles.acknowledge;

@@ -5,7 +5,7 @@ ghost use Rattle.pcc_steps.specs.declared.wiring.Wiring.{Wiring};
 ghost use Rattle.pcc_wiring.specs.Places.{place_at};
 ghost use Rattle.pcc_wiring.specs.Wirings.{header_len};
 
-use pcc_steps::Wiring;
+use pcc_steps::{Wiring, is_headed};
 
 /// The place of the word that holds the byte at an address, in a shared memory with this base: a byte of the header or of the used
 /// communication space. Words have 8 bytes and count from the base (ACPI 6.5, 14.2 to 14.4).
@@ -17,7 +17,7 @@ pub fn place_of(wiring: &Wiring, base: u64, address: u64) -> Option<u32>
     }
     let number = (address - base) / 8;
     let words = u64::from(wiring.words());
-    if wiring.kind > 2 {
+    if !is_headed(wiring.kind) {
         return place_within(words, 8 + number);
     }
     if number == 0 {

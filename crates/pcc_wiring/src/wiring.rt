@@ -11,7 +11,7 @@ use crate::fault::{Asks, Role, WiringFault};
 use crate::register::{cut, is_absent, is_plain, is_reachable};
 use crate::roles::{Roles, Watched, Written, roles_of};
 use pcc_gas::{Gas, Masks};
-use pcc_steps::Wiring;
+use pcc_steps::{Wiring, is_extended, is_headed, is_initiator, is_reduced, is_responder};
 use pcct_table::Subspace;
 
 /// How many bytes a communication space has at most.
@@ -27,7 +27,7 @@ const NO_MASKS: Masks = Masks {
 fn header_len(kind: u8) -> u64
     ensures { result ≡ header_len kind }
 {
-    if kind == 3 || kind == 4 { 16 } else { 8 }
+    if is_extended(kind) { 16 } else { 8 }
 }
 
 // The bytes of the communication space in a shared memory of this length.
@@ -109,7 +109,7 @@ fn wiring_with(subspace: &Subspace, roles: &Roles, id: u8, flags: u32) -> Wiring
     Wiring {
         kind,
         id,
-        notify: kind != 5 && flags % 2 == 1,
+        notify: !is_reduced(kind) && flags % 2 == 1,
         joined: are_joined(roles),
         has_bell: !is_absent(roles.doorbell.gas),
         has_ack: has_register(&roles.acknowledge),
@@ -160,7 +160,7 @@ fn watched_test(role: Role, may_lack: bool, register: &Option<Watched>) -> Resul
 fn registers_test(kind: u8, roles: &Roles) -> Result<(), WiringFault>
     ensures { Tells result (registers_fault kind roles.now) }
 {
-    register_test(Role::Doorbell, kind == 4, roles.doorbell.gas)?;
+    register_test(Role::Doorbell, is_responder(kind), roles.doorbell.gas)?;
     written_test(Role::Acknowledge, true, &roles.acknowledge)?;
     watched_test(Role::Check, false, &roles.check)?;
     written_test(Role::Update, false, &roles.update)?;
@@ -171,16 +171,16 @@ fn masks_test(wiring: &Wiring) -> Result<(), WiringFault>
     ensures { Tells result (masks_fault wiring.now) }
 {
     let update = wiring.update;
-    if wiring.kind >= 3 && wiring.check_mask == 0 {
+    if !is_headed(wiring.kind) && wiring.check_mask == 0 {
         return Err(WiringFault::NoCheckMask);
     }
-    if wiring.kind == 3
+    if is_initiator(wiring.kind)
         && wiring.joined
         && (update.preserve | update.set) & wiring.check_mask != 0
     {
         return Err(WiringFault::NeverClears);
     }
-    if wiring.kind == 4 && wiring.joined && update.set & wiring.check_mask == 0 {
+    if is_responder(wiring.kind) && wiring.joined && update.set & wiring.check_mask == 0 {
         return Err(WiringFault::NeverSets);
     }
     Ok(())
@@ -190,8 +190,8 @@ fn is_asked_by(kind: u8, asks: Asks) -> bool
     ensures { result ≡ is_asked_by kind asks }
 {
     match asks {
-        Asks::System => kind != 4,
-        Asks::Platform => kind == 4,
+        Asks::System => !is_responder(kind),
+        Asks::Platform => is_responder(kind),
     }
 }
 
@@ -224,7 +224,6 @@ pub fn wiring_of(subspace: &Subspace, id: u8, flags: u32, asks: Asks) -> Result<
 }
 
 /// A structure without a fault has a wiring that both ends can work with, whatever its ID and the table's flags. It does nothing.
-
 pub fn right_wirings()
     ensures { (asks : Asks) (id flags : ℕ) (s : Subspace) → fault_of asks s ≡ None → IsRight (wiring_with id flags s) }
 {}
