@@ -1,7 +1,7 @@
 -- Facts of events, readings and lines that stay when more are put last.
 use Rattle.std.proofs.Common.{◌≡◌, ◌≤◌, ℕ, ◌+◌, Bool, true, false, cond, List, [], ◌∷◌, ◌++◌, length, map, zero, suc, refl, sym, ap, ◌∙◌, subst, arith}
-use Rattle.std.specs.Prelude.{Option, Some, None, ◌==◌, ◌&&◌}
-use Rattle.std.specs.List.{AllByRecursion, filter, flat_map, slice_get}
+use Rattle.std.specs.Prelude.{◌==◌, ◌&&◌}
+use Rattle.std.specs.List.{AllByRecursion, filter}
 use Rattle.std.proofs.lemmas.List.{append_assoc, append-nil, length-append, map-append}
 use Rattle.std.proofs.lemmas.List.Elements.{filter-append}
 use Rattle.std.proofs.lemmas.List.Concat.{flat_map-append}
@@ -54,7 +54,7 @@ match_more caller a lines es l e h k =
     let P : List CallLine → Type 0 = λ v. AllMatch v (calls caller a (es ++ e ∷ [])) in
     let Q : List Placed → Type 0 = λ v. AllMatch (mine_of caller lines ++ mine_of caller (l ∷ [])) v in
     let both : AllMatch (mine_of caller lines ++ mine_of caller (l ∷ [])) (calls caller a es ++ calls caller (after_from a es) (e ∷ [])) =
-      AllMatch-append (mine_of caller lines) (calls caller a es) (mine_of caller (l ∷ [])) (calls caller (after_from a es) (e ∷ [])) h k in
+    AllMatch-append (mine_of caller lines) (calls caller a es) (mine_of caller (l ∷ [])) (calls caller (after_from a es) (e ∷ [])) h k in
     subst P (sym (mine-append caller lines (l ∷ []))) (subst Q (sym (calls-append caller a es (e ∷ []))) both)
 
 -- a line that posted nothing
@@ -124,9 +124,6 @@ all_last rs [] e h k = (k, tt)
 all_last rs (x ∷ es) e h k = (h.0, all_last rs es e h.1 k)
 
 -- ---- lines that were answered too soon
-
-
-
 
 numbers-append : (caller : ℕ) (xs ys : List CallLine) → soon_numbers caller (xs ++ ys) ≡ soon_numbers caller xs ++ soon_numbers caller ys
 numbers-append caller xs ys =

@@ -1,13 +1,12 @@
 -- What holds of the log and the channel at each point of a run in one thread, and that it stays when a command completes.
-use Rattle.std.proofs.Common.{◌≡◌, ◌≤◌, ◌<◌, ℕ, ◌+◌, ◌*◌, ◌-◌, Bool, true, false, List, [], ◌∷◌, ◌++◌, length, refl, sym, ap, ◌∙◌, subst, arith}
+use Rattle.std.proofs.Common.{◌≡◌, ◌≤◌, ℕ, ◌+◌, ◌*◌, true, false, List, [], ◌∷◌, ◌++◌, length, refl, sym, ap, ◌∙◌, subst, arith}
 use Rattle.std.specs.Prelude.{Option, Some, None}
 use Rattle.std.specs.List.{AllByRecursion}
-use Rattle.std.proofs.lemmas.List.{append-nil, length-append, map-append}
+use Rattle.std.proofs.lemmas.List.{length-append, map-append}
 use Rattle.pcc_causes.specs.Clock.{line_reading}
 use Rattle.rate_limit.specs.declared.Times.{Times}
 use Rattle.pcc_journal.specs.declared.reserved.TheConstants.{MAX_ITEMS}
 use Rattle.pcc_journal.specs.declared.record.Record.{Record}
-use Rattle.pcc_journal.specs.declared.record.Pending.{Pending}
 use Rattle.pcc_journal.specs.declared.note.Note.{Note}
 use Rattle.pcc_journal.specs.Records.{times_of, times_of_record}
 use Rattle.pcc_journal.specs.Events.{Event, Drained, Completed, Noted, NotedPending, completed_of, events_of, noted, noted_pending, post_count}
@@ -102,23 +101,25 @@ drained_at start s now p n events flight h =
     let old_posts : post_count events ≡ length now.records + 1 = h.posts in
     let old_few : post_count events ≤ MAX_ITEMS = h.few in
     let old_count : length s.readings ≡ 2 * length now.records + 1 + length (soon_lines s.calls) = h.count in
-    let A : List Times → After = λ ts. record { space = c.output; flight = None; times = ts } in
-    (c, record {
-      are = ap (λ (x : List Noted). events_of 0 x None) (noted_last now.records s.notes r note h.notes) ∙ events_drained 0 ns pn en refl refl refl ∙ ap (λ (x : List Event). x ++ Drained c ∷ []) before;
-      notes = length-append s.notes (note ∷ []) ∙ ap (λ (m : ℕ). m + 1) h.notes ∙ sym more;
-      taken = long ∙ ap (λ (m : ℕ). m + 1) h.taken;
-      added = h.added;
-      pair = tt;
-      after = after-append (before_all start.opening) events (Drained c ∷ []) ∙ ap (λ (a : After). after_event a (Drained c)) h.after ∙ ap A (sym (map-append times_of_record now.records (r ∷ [])));
-      posts = omega (arith, counted, old_posts, more);
-      few = omega (arith, counted, old_few);
-      read = all_last rs events (Drained c) (all_read s.readings (v ∷ []) events h.read) (subst R is (subst S (from_zero k) (reading_first s.readings v [])));
-      rise = rise_events 0 events (Drained c) k (length rs) h.rise (omega arith, omega (arith, long));
-      own = λ caller. match_drained caller (before_all start.opening) (mine_of caller s.calls) events c (h.own caller);
-      soon = λ caller. rise_higher 0 (soon_numbers caller s.calls) k (length rs) (h.soon caller) le;
-      causes = causes_more t s.readings (v ∷ []) events (Drained c ∷ []) s.calls h.causes;
-      count = omega (arith, long, old_count, more);
-    })
+    let A : List Times → After = λ ts. record { space = c.output; flight = None; times = ts } in (
+      c,
+      record {
+        are = ap (λ (x : List Noted). events_of 0 x None) (noted_last now.records s.notes r note h.notes) ∙ events_drained 0 ns pn en refl refl refl ∙ ap (λ (x : List Event). x ++ Drained c ∷ []) before;
+        notes = length-append s.notes (note ∷ []) ∙ ap (λ (m : ℕ). m + 1) h.notes ∙ sym more;
+        taken = long ∙ ap (λ (m : ℕ). m + 1) h.taken;
+        added = h.added;
+        pair = tt;
+        after = after-append (before_all start.opening) events (Drained c ∷ []) ∙ ap (λ (a : After). after_event a (Drained c)) h.after ∙ ap A (sym (map-append times_of_record now.records (r ∷ [])));
+        posts = omega (arith, counted, old_posts, more);
+        few = omega (arith, counted, old_few);
+        read = all_last rs events (Drained c) (all_read s.readings (v ∷ []) events h.read) (subst R is (subst S (from_zero k) (reading_first s.readings v [])));
+        rise = rise_events 0 events (Drained c) k (length rs) h.rise (omega arith, omega (arith, long));
+        own = λ caller. match_drained caller (before_all start.opening) (mine_of caller s.calls) events c (h.own caller);
+        soon = λ caller. rise_higher 0 (soon_numbers caller s.calls) k (length rs) (h.soon caller) le;
+        causes = causes_more t s.readings (v ∷ []) events (Drained c ∷ []) s.calls h.causes;
+        count = omega (arith, long, old_count, more);
+      },
+    )
 
 -- ---- nothing was posted and no reading was taken
 

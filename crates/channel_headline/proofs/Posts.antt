@@ -12,15 +12,15 @@ use Rattle.pcc_journal.specs.declared.record.Record.{Record}
 use Rattle.pcc_journal.specs.declared.record.Pending.{Pending}
 use Rattle.pcc_journal.specs.declared.note.Note.{Note}
 use Rattle.pcc_journal.specs.Records.{times_of, times_of_record}
-use Rattle.pcc_journal.specs.Events.{Event, Answered as AnsweredEvent, Drained, Lost, Noted, NotedPending, calls_of, completed_of, events_of, noted, noted_pending, post_count, posted_of, posted_of_pending}
+use Rattle.pcc_journal.specs.Events.{Event, Answered as AnsweredEvent, Drained, Lost, Noted, NotedPending, completed_of, events_of, noted, post_count, posted_of, posted_of_pending}
 use Rattle.pcc_journal.proofs.EventsGrow.{last as events_last, noted_last, posted as events_posted, post_count-append}
 use Rattle.channel_turns.specs.Replies.{Reply, Done, BadCode, TooLong, JournalFull, StillPending, TooSoon, TimedOut}
-use Rattle.channel_turns.specs.ChannelRuns.{Answered, Call, ChannelStart, ChannelState, InFlight, answer_behind, answer_call, answer_unless, completed, count_in_flight, exchange_with, has_byte_codes, journal_limit, next_reading, pending_of, post_call, post_of, record_of, refusal_of}
+use Rattle.channel_turns.specs.ChannelRuns.{Answered, Call, ChannelStart, ChannelState, InFlight, answer_behind, answer_call, answer_unless, completed, count_in_flight, exchange_with, has_byte_codes, journal_limit, next_reading, post_call, record_of, refusal_of}
 use Rattle.channel_headline.specs.After.{After, IsReading, after_event, after_events, before_all, numbers_in}
-use Rattle.channel_headline.specs.Causes.{AllCaused, HasCause, IsBlocked, IsFull, IsTooSoon, Past, Terms}
+use Rattle.channel_headline.specs.Causes.{AllCaused, IsBlocked, IsFull, IsTooSoon, Past, Terms}
 use Rattle.channel_headline.specs.ChannelLog.{ChannelLog, drained, line_of, logged, reading_at, with_drained, with_reply}
 use Rattle.channel_headline.specs.Lines.{CallLine, line_refusal, mine_of, soon_lines, soon_numbers}
-use Rattle.channel_headline.specs.Matches.{AllMatch, Placed, own_calls, placed}
+use Rattle.channel_headline.specs.Matches.{Placed, own_calls, placed}
 use Rattle.channel_headline.specs.Runs.{terms_of}
 use Rattle.channel_headline.proofs.Growing.{after-append, all_last, all_read, match_more, match_quiet, one_match, reading_first, reading_second, rise_events, rise_higher, soon_count, soon_more, soon_other}
 use Rattle.channel_headline.proofs.Histories.{choose, decide}
@@ -63,7 +63,7 @@ answered_point start call now s events passes room h =
     let rs : List ℕ = s.readings ++ v ∷ w ∷ [] in
     let is : v ≡ next_reading start now = next_is start s now h.added h.taken in
     let is_too : w ≡ next_reading start later =
-      ap (λ (a : ℕ). line_reading start.clock.start start.clock.step a (k + 1)) h.added ∙ ap (λ (j : ℕ). line_reading start.clock.start start.clock.step now.added (j + 1)) h.taken in
+    ap (λ (a : ℕ). line_reading start.clock.start start.clock.step a (k + 1)) h.added ∙ ap (λ (j : ℕ). line_reading start.clock.start start.clock.step now.added (j + 1)) h.taken in
     let R : ℕ → Type 0 = IsReading rs (0 + k) in
     let S : ℕ → Type 0 = λ j. IsReading rs j v in
     let Q : ℕ → Type 0 = IsReading rs (0 + (k + 1)) in
@@ -91,7 +91,7 @@ answered_point start call now s events passes room h =
         posts = omega (arith, counted, old_posts, more);
         few = omega (arith, counted, room);
         read = all_last rs events e (all_read s.readings (v ∷ w ∷ []) events h.read)
-          (subst R is (subst S (from_zero k) (reading_first s.readings v (w ∷ []))), subst Q is_too (subst U (from_zero (k + 1)) (reading_second s.readings v w [])));
+            (subst R is (subst S (from_zero k) (reading_first s.readings v (w ∷ []))), subst Q is_too (subst U (from_zero (k + 1)) (reading_second s.readings v w [])));
         rise = rise_events 0 events e k (length rs) h.rise (omega arith, (omega arith, omega (arith, long)));
         own = λ caller. match_more caller (before_all start.opening) s.calls events l e (h.own caller) (one_match (call.caller == caller) l p ((refl, refl, input), refl, refl));
         soon = λ caller. soon_other caller s.calls l k (length rs) refl le (h.soon caller);
@@ -279,5 +279,6 @@ call_reached start call now s h =
   where
     at_least : (posts count : ℕ) → count ≡ posts → nat_le journal_limit posts ≡ true → MAX_ITEMS ≤ count
     at_least posts count are e = let le : MAX_ITEMS ≤ posts = leb-true MAX_ITEMS posts e in omega (arith, le, are)
+
     below : (posts count : ℕ) → count ≡ posts → nat_le journal_limit posts ≡ false → count < MAX_ITEMS
     below posts count are e = let lt : posts < MAX_ITEMS = leb-false MAX_ITEMS posts e in omega (arith, lt, are)

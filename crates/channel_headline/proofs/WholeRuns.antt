@@ -2,7 +2,7 @@
 use Rattle.std.proofs.Common.{◌≡◌, ◌≤◌, ℕ, ◌+◌, ◌*◌, Bool, true, false, cond, List, [], ◌∷◌, ◌++◌, length, map, take, refl, sym, ap, ◌∙◌, subst, arith}
 use Rattle.std.specs.Prelude.{Option, Some, None}
 use Rattle.std.specs.List.{AllByRecursion, filter}
-use Rattle.std.proofs.lemmas.List.{append-nil, length-map, map-append}
+use Rattle.std.proofs.lemmas.List.{length-map, map-append}
 use Rattle.std.proofs.lemmas.List.Elements.{filter-append}
 use Rattle.pcc_history.specs.Histories.{Legal, WholeHistory}
 use Rattle.rate_limit.specs.RateLimits.{WithinLimits}
@@ -16,7 +16,7 @@ use Rattle.channel_turns.specs.Replies.{Reply, Done, BadCode, TooLong, JournalFu
 use Rattle.channel_turns.specs.ChannelRuns.{Answered, Call, ChannelStart, ChannelState, InFlight, answer_call, count_in_flight, fresh, pending_of, post_of}
 use Rattle.channel_headline.specs.After.{IsRead, Rise, numbers_in}
 use Rattle.channel_headline.specs.Causes.{AllCaused, Terms}
-use Rattle.channel_headline.specs.ChannelLog.{ChannelLog, drained, empty_log, line_of, log_from, log_of, logged, with_drained, with_reply}
+use Rattle.channel_headline.specs.ChannelLog.{ChannelLog, drained, empty_log, line_of, log_from, log_of, logged, with_drained}
 use Rattle.channel_headline.specs.Headline.{Headline, NotedJournal, journal_events, pending_count, pending_post}
 use Rattle.channel_headline.specs.Lines.{CallLine, asked_by, is_post, soon_lines}
 use Rattle.channel_headline.specs.Matches.{Tied}
@@ -110,7 +110,6 @@ headline_is start now s k h =
     let R : List Record → Type 0 = λ v. WithinLimits start.head.limits (times_of v) (pending_post (noted_pending (pending_of now.in_flight) s.flight)) in
     let O : Option ℕ → Type 0 = WithinLimits start.head.limits (times_of now.records) in
     let are : journal_events t j ≡ h.events = p.are in
-
     let count : length s.readings ≡ 2 * length now.records + count_in_flight now.in_flight + length (soon_lines s.calls) = p.count in
     let entries : length j.entries ≡ length now.records = kept_length now.records s.notes in
     let flight : pending_count j.pending ≡ count_in_flight now.in_flight = kept_count now.in_flight s.flight in

@@ -5,3 +5,4 @@ pub mod Causes
 pub mod Headline
 pub mod ChannelLog
 pub mod Runs
+pub mod Worked

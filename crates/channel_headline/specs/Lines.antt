@@ -1,5 +1,5 @@
 -- The call lines on a channel, with their replies.
-use Rattle.std.specs.Prelude.{◌==◌, ◌&&◌, ℕ, nat_lt, if◌then◌else◌, length, Bool, true, false, List, map, Option, Some, None}
+use Rattle.std.specs.Prelude.{◌==◌, ◌&&◌, ℕ, nat_lt, if◌then◌else◌, Bool, true, false, List, map, Option, Some, None}
 use Rattle.std.specs.List.{filter}
 use Rattle.channel_turns.specs.Replies.{Reply, Done, BadCode, TooLong, TooSoon, TimedOut}
 use Rattle.channel_turns.specs.ChannelRuns.{has_byte_codes}

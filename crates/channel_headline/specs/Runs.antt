@@ -1,7 +1,7 @@
 -- A channel that is called in one thread, one call after the other, with waits between, and the headline of its journal.
 use Rattle.std.specs.Prelude.{ℕ, ◌+◌, List, [], ◌∷◌, length, take}
 use Rattle.pcc_journal.specs.Events.{noted, noted_pending}
-use Rattle.channel_turns.specs.ChannelRuns.{Call, ChannelStart, ChannelState, answer_call, fresh, pending_of}
+use Rattle.channel_turns.specs.ChannelRuns.{Call, ChannelStart, ChannelState, answer_call, pending_of}
 use Rattle.channel_headline.specs.Causes.{Terms}
 use Rattle.channel_headline.specs.ChannelLog.{ChannelLine, ChannelLog, Called, Waited, log_of}
 use Rattle.channel_headline.specs.Headline.{Headline, NotedJournal}
