@@ -20,7 +20,7 @@ use Rattle.pcc_steps.proofs.AskWalks.{asks_by_table}
 use Rattle.pcc_steps.proofs.AnswerWalks.{answer_steps_by_table, executes_by_table}
 
 -- a step leaves one step less
-one_less : {E : Type 0} (n : ℕ) (r : Run E) (x : Action) (next : ℕ → Run E) → Takes r x next → Within n r → (0 < n) × ((v : ℕ) → Within (n - 1) (next v))
+pub one_less : {E : Type 0} (n : ℕ) (r : Run E) (x : Action) (next : ℕ → Run E) → Takes r x next → Within n r → (0 < n) × ((v : ℕ) → Within (n - 1) (next v))
 one_less n (ends e) x next t w = absurd t
 one_less n (loads p f) x next t w = (w.0, λ v. subst (Within (n - 1)) (sym (t.1 v)) (w.1 v))
 one_less n (stores p u r) x next t w = (w.0, λ v. subst (Within (n - 1)) (sym (t.1 v)) w.1)
@@ -50,7 +50,7 @@ lowered true e a runs = refl
 lowered false e a runs = absurd (runs refl)
 
 -- nothing is told where the run goes on
-untold : (st : AskStage) (a : Ask) (v : ℕ) → (ask_fed_at st a v).stage ≢ AskRest → ask_told_at st a v ≡ None
+pub untold : (st : AskStage) (a : Ask) (v : ℕ) → (ask_fed_at st a v).stage ≢ AskRest → ask_told_at st a v ≡ None
 untold AskRest a v runs = refl
 untold (PostBlock j) a v runs = refl
 untold PostHeader a v runs = refl
@@ -86,7 +86,7 @@ served : (st : AnswerStage) → st ≢ AnswerRest → served_at st ≡ None
 served AnswerRest runs = absurd (runs refl)
 served _ runs = refl
 
-untold' : (st : AnswerStage) (a : Answer) (v : ℕ) → (answer_fed_at st a v).stage ≢ AnswerRest → answer_told_at st a v ≡ None
+pub untold' : (st : AnswerStage) (a : Answer) (v : ℕ) → (answer_fed_at st a v).stage ≢ AnswerRest → answer_told_at st a v ≡ None
 untold' AnswerRest a v runs = refl
 untold' TakeLine a v runs = took (eqb v 0) a runs
 untold' TakeAckLoad a v runs = refl
@@ -106,7 +106,7 @@ untold' CloseBellStore a v runs = served (after_close (asks_notify a)) runs
 untold' CloseLine a v runs = absurd (runs refl)
 
 -- a device takes no word step
-none_less : (n : ℕ) (r : Run AnswerEnd) (x : Action) (space : List ℕ) (next : Bool → List ℕ → Run AnswerEnd) → Gives r x space next → Within n r → (bad : Bool) (reply : List ℕ) → length reply ≡ length space → Within n (next bad reply)
+pub none_less : (n : ℕ) (r : Run AnswerEnd) (x : Action) (space : List ℕ) (next : Bool → List ℕ → Run AnswerEnd) → Gives r x space next → Within n r → (bad : Bool) (reply : List ℕ) → length reply ≡ length space → Within n (next bad reply)
 none_less n (ends e) x space next t w bad reply long = absurd t
 none_less n (loads p f) x space next t w bad reply long = absurd t
 none_less n (stores p u r) x space next t w bad reply long = absurd t

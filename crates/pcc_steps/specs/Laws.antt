@@ -1,5 +1,5 @@
 -- What the word steps of both ends keep, from any state that has the relation.
-use Rattle.std.specs.Prelude.{◌≢◌, ◌≡◌, ◌⊎◌, ℕ, ◌+◌, ◌*◌, ◌≤◌, ◌<◌, ◌^◌, Bool, true, false, List, [], ◌∷◌, ◌++◌, length, drop}
+use Rattle.std.specs.Prelude.{◌≢◌, ◌≡◌, ◌↔◌, ◌⊎◌, ℕ, ◌+◌, ◌-◌, ◌*◌, ◌≤◌, ◌<◌, ◌^◌, Bool, true, false, List, [], ◌∷◌, ◌++◌, length, drop, None}
 use Rattle.pcc_bytes.specs.Bytes.{IsBytes}
 use Rattle.pcc_history.specs.Devices.{Device}
 use Rattle.pcc_history.specs.Channel.{Exchange, over, exchange_of}
@@ -9,16 +9,16 @@ use Rattle.pcc_steps.specs.declared.wiring.Wiring.{Wiring}
 use Rattle.pcc_steps.specs.declared.ask.AskStage.TheVariants.{AskRest}
 use Rattle.pcc_steps.specs.declared.answer.AnswerStage.TheVariants.{AnswerRest, RunDevice}
 use Rattle.pcc_steps.specs.Wires.{style_of, heads_of, block_of, block_header, opening_words}
-use Rattle.pcc_steps.specs.Asking.{Ask, AskOk, IsNewAsk, IsAskRunning, ask_next, ask_fed, ask_told, ask_begun, ask_looking, ask_budgeted}
+use Rattle.pcc_steps.specs.Asking.{Ask, AskOk, IsNewAsk, IsAskRunning, ask_next, ask_fed, ask_told, ask_begun, ask_looking, ask_budgeted, rose}
 use Rattle.pcc_steps.specs.Answering.{Answer, AnswerOk, IsNewAnswer, IsAnswerStepping, answer_next, answer_fed, answer_told, answer_begun, answer_code, ran_with}
 use Rattle.pcc_steps.specs.Runs.{Within, post_run, look_run, answer_run}
 use Rattle.pcc_steps.specs.Walk.{ask_left, ask_after, answer_left, answer_after, Takes, Gives}
-use Rattle.pcc_steps.specs.Agree.{act, Finds, Asker, Answerer, asker_fed, answerer_fed, Agree}
+use Rattle.pcc_steps.specs.Agree.{act, Finds, Asker, Answerer, new_asker, asker_fed, asker_begun, answerer_fed, Agree}
 
 -- two new machines, over the opening content
 abbrev pub StartsAgreed : Type 0
 StartsAgreed = (exec : Device) (start : List ℕ) (w : Wiring) (opening : List ℕ) (a : Ask) (b : Answer) → IsNewAsk a w opening → IsNewAnswer b w → AskOk a → AnswerOk b → IsBytes opening
-    → Agree exec start (opening_words w (words_of opening)) (record { m = a; done = []; clears = 0 }) (record { m = b; device = start; done = [] })
+    → Agree exec start (opening_words w (words_of opening)) (new_asker a opening) (record { m = b; device = start; done = [] })
 
 -- a word step of the asking end, whatever it finds in its word
 abbrev pub AskStepAgrees : Type 0
@@ -27,7 +27,7 @@ AskStepAgrees = (exec : Device) (start ws : List ℕ) (x : Asker) (y : Answerer)
 -- a post is begun
 abbrev pub PostBeginAgrees : Type 0
 PostBeginAgrees = (exec : Device) (start ws : List ℕ) (x : Asker) (y : Answerer) (code : ℕ) (bytes : List ℕ) → x.m.stage ≡ AskRest → x.m.in_flight ≡ false → length bytes ≤ x.m.wiring.room → x.m.posts < 4096 → (x.m.wiring.kind ≤ 2 → code < 256) → code < 2 ^ 32 → IsBytes bytes
-    → Agree exec start ws x y → Agree exec start ws (record x { m = ask_begun x.m code bytes }) y
+    → Agree exec start ws x y → Agree exec start ws (asker_begun x code bytes) y
 
 -- a look is begun
 abbrev pub LookBeginAgrees : Type 0
@@ -90,7 +90,27 @@ AnswerStepsByTable = (a : Answer) → AnswerOk a → IsAnswerStepping a → Take
 abbrev pub ExecutesByTable : Type 0
 ExecutesByTable = (a : Answer) → AnswerOk a → a.stage ≡ RunDevice → Gives (answer_left a) (answer_next a) (bytes_of (drop (heads_of (style_of a.wiring)) a.loaded)) (λ bad reply. answer_left (ran_with (record a { space = reply }) bad))
 
+-- ---- where runs end
+
+-- a step of a run tells an outcome exactly where it leaves the machine at rest
+abbrev pub AskTellsEnds : Type 0
+AskTellsEnds = (a : Ask) (v : ℕ) → AskOk a → IsAskRunning a → (ask_told a v ≡ None) ↔ IsAskRunning (ask_fed a v)
+
+abbrev pub AnswerTellsEnds : Type 0
+AnswerTellsEnds = (a : Answer) (v : ℕ) → AnswerOk a → IsAnswerStepping a → (answer_told a v ≡ None) ↔ ((answer_fed a v).stage ≢ AnswerRest)
+
 -- ---- how long runs are
+
+-- each step is counted, until the count stands at its end
+abbrev pub AskStepsCount : Type 0
+AskStepsCount = (a : Ask) (v : ℕ) → (ask_fed a v).steps ≡ rose a.steps
+
+abbrev pub AnswerStepsCount : Type 0
+AnswerStepsCount = (a : Answer) (v : ℕ) → (answer_fed a v).steps ≡ rose a.steps
+
+-- below 2^64 - 1 the count rises by one, and there it stands still
+abbrev pub CountRises : Type 0
+CountRises = (n : ℕ) → (n < 2 ^ 64 - 1 → rose n ≡ n + 1) × (2 ^ 64 - 1 ≤ n → rose n ≡ n)
 
 abbrev pub PostsWithin : Type 0
 PostsWithin = (w : Wiring) (code : ℕ) (block : List ℕ) → length block ≡ block_of w → Within (block_of w + 7) (post_run w code block)
@@ -105,6 +125,11 @@ AnswersWithin = (w : Wiring) → Within (2 * block_of w + 11) (answer_run w)
 abbrev pub IsAskRun : Ask → List ℕ → Type 0
 IsAskRun a [] = Unit {0}
 IsAskRun a (v ∷ vs) = AskOk a × IsAskRunning a × IsAskRun (ask_fed a v) vs
+
+-- the machine after these steps
+abbrev pub ask_ran : Ask → List ℕ → Ask
+ask_ran a [] = a
+ask_ran a (v ∷ vs) = ask_ran (ask_fed a v) vs
 
 -- what happens to the answering machine: a word step finds a value, or the device leaves a reply
 pub data Event : Type 0 where
@@ -127,3 +152,20 @@ AskRunsWithin = (n : ℕ) (a : Ask) (vs : List ℕ) → Within n (ask_left a) �
 
 abbrev pub AnswerRunsWithin : Type 0
 AnswerRunsWithin = (n : ℕ) (a : Answer) (es : List Event) → Within n (answer_left a) → IsAnswerRun a es → word_steps es ≤ n
+
+-- the machine after these events
+abbrev pub answer_came : Answer → List Event → Answer
+answer_came a [] = a
+answer_came a (finds v ∷ es) = answer_came (answer_fed a v) es
+answer_came a (replies bad reply ∷ es) = answer_came (ran_with (record a { space = reply }) bad) es
+
+-- a run raises the count by no more than its table has steps
+abbrev pub AskCountWithin : Type 0
+AskCountWithin = (n : ℕ) (a : Ask) (vs : List ℕ) → Within n (ask_left a) → IsAskRun a vs → (ask_ran a vs).steps ≤ a.steps + n
+
+abbrev pub AnswerCountWithin : Type 0
+AnswerCountWithin = (n : ℕ) (a : Answer) (es : List Event) → Within n (answer_left a) → IsAnswerRun a es → (answer_came a es).steps ≤ a.steps + n
+
+-- one step of a run leaves a table with one step less
+abbrev pub AskStepWithin : Type 0
+AskStepWithin = (n : ℕ) (a : Ask) (v : ℕ) → AskOk a → IsAskRunning a → Within n (ask_left a) → (0 < n) × (ask_told a v ≡ None → Within (n - 1) (ask_left (ask_fed a v)))

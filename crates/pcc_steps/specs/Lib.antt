@@ -5,5 +5,5 @@ pub mod Answering
 pub mod Agree
 pub mod Lending
 pub mod Laws
+pub mod Reached
 pub mod Walk
-pub mod Asked

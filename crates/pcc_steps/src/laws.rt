@@ -1,8 +1,8 @@
 //! What holds of the words and both ends between any two word steps, as laws. Each step goes from any state that has the
 //! relation, from the stepping end's own state and its one word, so the laws serve one owner of the words, and two
 //! threads that share them.
-ghost use Rattle.pcc_steps.specs.Laws.{StartsAgreed, AskStepAgrees, PostBeginAgrees, LookBeginAgrees, BudgetAgrees, AnswerBeginAgrees, AnswerStepAgrees, DeviceStays, DeviceTurns, DeviceRests, HistoriesAgree, PostsByTable, LooksByTable, AsksByTable, PostsWithin, LooksWithin, AskRunsWithin, AnswersByTable, AnswerStepsByTable, ExecutesByTable, AnswersWithin, AnswerRunsWithin};
-ghost use Rattle.pcc_steps.specs.Asked.{AskedNothing, AsksMore, LookAsksNothing, BudgetAsksNothing, StepAsksNothing};
+ghost use Rattle.pcc_steps.specs.Laws.{StartsAgreed, AskStepAgrees, PostBeginAgrees, LookBeginAgrees, BudgetAgrees, AnswerBeginAgrees, AnswerStepAgrees, DeviceStays, DeviceTurns, DeviceRests, HistoriesAgree, PostsByTable, LooksByTable, AsksByTable, PostsWithin, LooksWithin, AskRunsWithin, AnswersByTable, AnswerStepsByTable, ExecutesByTable, AnswersWithin, AnswerRunsWithin, AskTellsEnds, AnswerTellsEnds, AskStepsCount, AnswerStepsCount, CountRises, AskCountWithin, AnswerCountWithin, AskStepWithin};
+ghost use Rattle.pcc_steps.specs.Reached.{ReachedIsSound};
 
 use pcc_exec::Executor;
 
@@ -24,16 +24,6 @@ pub fn answering_laws<E: Executor>()
     ensures device { DeviceStays E.exec_of E.is_state E.room_of }
 {}
 
-/// The asking end's history is whole: each input is the space before it with the bytes that were asked over its front,
-/// in the order in which they were asked. It does nothing.
-pub fn asked_laws()
-    ensures starts { AskedNothing }
-    ensures post { AsksMore }
-    ensures look { LookAsksNothing }
-    ensures budget { BudgetAsksNothing }
-    ensures step { StepAsksNothing }
-{}
-
 /// The asking machine walks the tables of its runs, and how long they are. It does nothing.
 pub fn asking_tables()
     ensures post { PostsByTable }
@@ -44,6 +34,23 @@ pub fn asking_tables()
     ensures posts { PostsWithin }
     ensures looks { LooksWithin }
     ensures runs { AskRunsWithin }
+{}
+
+/// A run of either machine ends exactly with the step that tells its outcome. It does nothing.
+pub fn ending_laws()
+    ensures asks { AskTellsEnds }
+    ensures answers { AnswerTellsEnds }
+{}
+
+/// The count of word steps of either machine: each step raises it by one until it stands at 2^64 - 1, and a run raises
+/// it by no more than its table has steps. It does nothing.
+pub fn counting_laws()
+    ensures rises { CountRises }
+    ensures asks { AskStepsCount }
+    ensures answers { AnswerStepsCount }
+    ensures within { AskStepWithin }
+    ensures ask_run { AskCountWithin }
+    ensures answer_run { AnswerCountWithin }
 {}
 
 /// The answering machine walks the table of its runs, and how long they are. It does nothing.
@@ -66,4 +73,10 @@ pub fn device_laws()
 /// Each end's history, by the relation. It does nothing.
 pub fn history_laws()
     ensures { HistoriesAgree }
+{}
+
+/// The theorem for every list of steps: each state that is reached from new machines over the opening content, by calls
+/// that are begun and single word steps of either end in any order, is sound. It does nothing.
+pub fn reached_laws<E: Executor>()
+    ensures { ReachedIsSound E.exec_of E.is_state E.room_of }
 {}
