@@ -13,13 +13,13 @@ use Rattle.pcc_steps.specs.declared.answer.AnswerStage.{AnswerStage}
 use Rattle.pcc_steps.specs.declared.answer.AnswerStage.TheVariants.{AnswerRest, TakeLine, TakeAckLoad, TakeAckStore, TakeHeader, TakeBlock, RunDevice, ReplyBlock, ReplyError, ReplyHeader, ReplyUpdateLoad, ReplyUpdateStore, ReplyMarkLoad, ReplyMarkStore, CloseBellLoad, CloseBellStore, CloseLine}
 use Rattle.pcc_steps.specs.Asking.{Ask, Flies}
 use Rattle.pcc_steps.specs.Answering.{Answer, answer_next, answer_fed, answer_fed_at}
-use Rattle.pcc_steps.specs.Agree.{act, Finds, Core, Asker, Answerer, Agree, Turn, Fits, resting, pose_at, turn, settle, settle_at, answerer_fed, answerer_stepped}
+use Rattle.pcc_steps.specs.Agree.{act, Finds, Core, Asker, Answerer, Agree, Turn, Fits, resting, pose_at, turn, settle, settle_at, answerer_fed, answerer_stepped, found}
 use Rattle.pcc_steps.specs.Laws.{AnswerBeginAgrees, AnswerStepAgrees, DeviceStays, HistoriesAgree}
-use Rattle.channel_plain.specs.Picks.{PlainState, found, started_at, command_of}
-use Rattle.channel_plain.specs.Standing.{asker_of, answerer_of, carried, carried_at, Stands, Holds}
+use Rattle.channel_plain.specs.Picks.{PlainState, started_at, command_of}
+use Rattle.channel_plain.specs.Standing.{Unkept, asker_of, answerer_of, carried, carried_at, Stands, Holds}
 use Rattle.channel_plain.specs.Holding.{Executions}
 use Rattle.channel_plain.specs.Steps.{IsSettled, SettlesIf, ready_after}
-use Rattle.channel_plain.proofs.Keeps.{long_act, finds_found}
+use Rattle.pcc_steps.proofs.WordSteps.{long_act, finds_found}
 
 -- ---- lists
 
@@ -120,70 +120,70 @@ module _ (exec : Device) where
   same_answerer v s = let m : Answer = answer_fed_at (stepping s).stage (stepping s) v in
       ap answerer_stepped (framed m.stage m s.device (exchanges_of_commands s.executed)) ∙ ap (λ (l : List Exchange). record { m = (after_step v s).m; device = (after_step v s).device; done = l }) (sym (grown s.executed (after_step v s).done))
 
-  begins_by : AnswerBeginAgrees → (st : AnswerStage) (s : PlainState) (clears : ℕ) → s.answer.stage ≡ st → Agree exec s.start s.words (asker_of s clears) (answerer_of s) → Agree exec s.start s.words (asker_of s clears) (record (answerer_of s) { m = started_at st s.answer })
-  begins_by law AnswerRest s clears e g = law exec s.start s.words (asker_of s clears) (answerer_of s) e g
-  begins_by law TakeLine s clears e g = g
-  begins_by law TakeAckLoad s clears e g = g
-  begins_by law TakeAckStore s clears e g = g
-  begins_by law TakeHeader s clears e g = g
-  begins_by law (TakeBlock j) s clears e g = g
-  begins_by law RunDevice s clears e g = g
-  begins_by law (ReplyBlock j) s clears e g = g
-  begins_by law ReplyError s clears e g = g
-  begins_by law ReplyHeader s clears e g = g
-  begins_by law ReplyUpdateLoad s clears e g = g
-  begins_by law ReplyUpdateStore s clears e g = g
-  begins_by law ReplyMarkLoad s clears e g = g
-  begins_by law ReplyMarkStore s clears e g = g
-  begins_by law CloseBellLoad s clears e g = g
-  begins_by law CloseBellStore s clears e g = g
-  begins_by law CloseLine s clears e g = g
+  begins_by : AnswerBeginAgrees → (st : AnswerStage) (s : PlainState) (u : Unkept) → s.answer.stage ≡ st → Agree exec s.start s.words (asker_of s u) (answerer_of s) → Agree exec s.start s.words (asker_of s u) (record (answerer_of s) { m = started_at st s.answer })
+  begins_by law AnswerRest s u e g = law exec s.start s.words (asker_of s u) (answerer_of s) e g
+  begins_by law TakeLine s u e g = g
+  begins_by law TakeAckLoad s u e g = g
+  begins_by law TakeAckStore s u e g = g
+  begins_by law TakeHeader s u e g = g
+  begins_by law (TakeBlock j) s u e g = g
+  begins_by law RunDevice s u e g = g
+  begins_by law (ReplyBlock j) s u e g = g
+  begins_by law ReplyError s u e g = g
+  begins_by law ReplyHeader s u e g = g
+  begins_by law ReplyUpdateLoad s u e g = g
+  begins_by law ReplyUpdateStore s u e g = g
+  begins_by law ReplyMarkLoad s u e g = g
+  begins_by law ReplyMarkStore s u e g = g
+  begins_by law CloseBellLoad s u e g = g
+  begins_by law CloseBellStore s u e g = g
+  begins_by law CloseLine s u e g = g
 
   module _ (is_state : List ℕ → Type 0) (room_of : List ℕ → ℕ) where
-    pub answered : AnswerBeginAgrees → AnswerStepAgrees exec is_state room_of → (s : PlainState) (v : ℕ) → v ≡ found (answer_next (stepping s)) s.words → v < 2 ^ 64 → (k : Stands exec is_state room_of s) → Agree exec s.start (act (answer_next (stepping s)) s.words) (asker_of s k.clears) (answerer_of (answered_with v s))
-    answered start step s v e small k = subst (λ (y : Answerer). Agree exec s.start (act (answer_next (stepping s)) s.words) (asker_of s k.clears) y) (same_answerer v s)
-        (step s.start s.words (asker_of s k.clears) (record (answerer_of s) { m = stepping s }) v k.start k.room (begins_by start s.answer.stage s k.clears refl k.agree) (subst (λ (n : ℕ). Finds (answer_next (stepping s)) s.words n) (sym e) (finds_found (answer_next (stepping s)) s.words)) small)
+    pub answered : AnswerBeginAgrees → AnswerStepAgrees exec is_state room_of → (s : PlainState) (v : ℕ) → v ≡ found (answer_next (stepping s)) s.words → v < 2 ^ 64 → (k : Stands exec is_state room_of s) → Agree exec s.start (act (answer_next (stepping s)) s.words) (asker_of s k.unkept) (answerer_of (answered_with v s))
+    answered start step s v e small k = subst (λ (y : Answerer). Agree exec s.start (act (answer_next (stepping s)) s.words) (asker_of s k.unkept) y) (same_answerer v s)
+        (step s.start s.words (asker_of s k.unkept) (record (answerer_of s) { m = stepping s }) v k.start k.room (begins_by start s.answer.stage s k.unkept refl k.agree) (subst (λ (n : ℕ). Finds (answer_next (stepping s)) s.words n) (sym e) (finds_found (answer_next (stepping s)) s.words)) small)
 
-    pub fed_wiring : (s : PlainState) (v clears : ℕ) (ws : List ℕ) → Agree exec s.start ws (asker_of s clears) (answerer_of (answered_with v s)) → (answer_fed (stepping s) v).wiring ≡ s.ask.wiring
-    fed_wiring s v clears ws g = let m : Answer = answer_fed_at (stepping s).stage (stepping s) v in sym (settled_wiring m.stage (record { m = m; device = s.device; done = [] })) ∙ g.1.2.same
+    pub fed_wiring : (s : PlainState) (v : ℕ) (u : Unkept) (ws : List ℕ) → Agree exec s.start ws (asker_of s u) (answerer_of (answered_with v s)) → (answer_fed (stepping s) v).wiring ≡ s.ask.wiring
+    fed_wiring s v u ws g = let m : Answer = answer_fed_at (stepping s).stage (stepping s) v in sym (settled_wiring m.stage (record { m = m; device = s.device; done = [] })) ∙ g.1.2.same
 
     longer : (s : PlainState) (v : ℕ) → length (exchanges_of_commands (answered_with v s).executed) ≡ length s.executed + length (after_step v s).done
     longer s v = let l = length-map exchange_of_command (answered_with v s).executed in let k = length-append s.executed (map command_of (after_step v s).done) in let n = length-map command_of (after_step v s).done in omega (arith, l, k, n)
 
     -- where a command is executed, it is the one in flight, and the memory for it is there
-    pub settles : HistoriesAgree → (s : PlainState) (v clears : ℕ) (ws : List ℕ) (st : AnswerStage) (ready : Bool) → Agree exec s.start s.words (asker_of s clears) (answerer_of s) → Agree exec s.start ws (asker_of s clears) (answerer_of (answered_with v s))
+    pub settles : HistoriesAgree → (s : PlainState) (v : ℕ) (u : Unkept) (ws : List ℕ) (st : AnswerStage) (ready : Bool) → Agree exec s.start s.words (asker_of s u) (answerer_of s) → Agree exec s.start ws (asker_of s u) (answerer_of (answered_with v s))
         → (carried s.ask ≡ true → length s.executed ≡ length s.calls.records → ready ≡ true) → (answer_fed (stepping s) v).stage ≡ st → SettlesIf st ready
-    settles law s v clears ws RunDevice ready g g' h e = let x : Asker = asker_of s clears in let y : Answerer = answerer_of s in let z : Answerer = answerer_of (answered_with v s) in let m : Answer = answer_fed_at (stepping s).stage (stepping s) v in
+    settles law s v u ws RunDevice ready g g' h e = let x : Asker = asker_of s u in let y : Answerer = answerer_of s in let z : Answerer = answerer_of (answered_with v s) in let m : Answer = answer_fed_at (stepping s).stage (stepping s) v in
         let one : length (after_step v s).done ≡ 1 = settled_more m.stage m s.device e in
         let a = least x.done y.done (law exec s.start s.words x y g).0 in let b = most x.done z.done (law exec s.start ws x z g').0 in let l = longer s v in
         let n = length-map exchange_of_command s.executed in
         let other : length z.done ≡ length x.done → ⊥ = λ q. omega (arith, one, a, b, l, n, q) in
         let equal : length s.executed ≡ length x.done = omega (arith, one, a, b, l, n) in
         h (carried_if s.ask.stage s.ask (turn z.m) x z g'.0 g'.1.2.ask_ok.flies g'.1.2.fits other) (equal ∙ lengths s.calls.records)
-    settles law s v clears ws AnswerRest ready g g' h e = tt
-    settles law s v clears ws TakeLine ready g g' h e = tt
-    settles law s v clears ws TakeAckLoad ready g g' h e = tt
-    settles law s v clears ws TakeAckStore ready g g' h e = tt
-    settles law s v clears ws TakeHeader ready g g' h e = tt
-    settles law s v clears ws (TakeBlock j) ready g g' h e = tt
-    settles law s v clears ws (ReplyBlock j) ready g g' h e = tt
-    settles law s v clears ws ReplyError ready g g' h e = tt
-    settles law s v clears ws ReplyHeader ready g g' h e = tt
-    settles law s v clears ws ReplyUpdateLoad ready g g' h e = tt
-    settles law s v clears ws ReplyUpdateStore ready g g' h e = tt
-    settles law s v clears ws ReplyMarkLoad ready g g' h e = tt
-    settles law s v clears ws ReplyMarkStore ready g g' h e = tt
-    settles law s v clears ws CloseBellLoad ready g g' h e = tt
-    settles law s v clears ws CloseBellStore ready g g' h e = tt
-    settles law s v clears ws CloseLine ready g g' h e = tt
+    settles law s v u ws AnswerRest ready g g' h e = tt
+    settles law s v u ws TakeLine ready g g' h e = tt
+    settles law s v u ws TakeAckLoad ready g g' h e = tt
+    settles law s v u ws TakeAckStore ready g g' h e = tt
+    settles law s v u ws TakeHeader ready g g' h e = tt
+    settles law s v u ws (TakeBlock j) ready g g' h e = tt
+    settles law s v u ws (ReplyBlock j) ready g g' h e = tt
+    settles law s v u ws ReplyError ready g g' h e = tt
+    settles law s v u ws ReplyHeader ready g g' h e = tt
+    settles law s v u ws ReplyUpdateLoad ready g g' h e = tt
+    settles law s v u ws ReplyUpdateStore ready g g' h e = tt
+    settles law s v u ws ReplyMarkLoad ready g g' h e = tt
+    settles law s v u ws ReplyMarkStore ready g g' h e = tt
+    settles law s v u ws CloseBellLoad ready g g' h e = tt
+    settles law s v u ws CloseBellStore ready g g' h e = tt
+    settles law s v u ws CloseLine ready g g' h e = tt
 
-    ready_on : HistoriesAgree → (s : PlainState) (v clears : ℕ) (ws : List ℕ) (st : AnswerStage) (ready : Bool) → Agree exec s.start s.words (asker_of s clears) (answerer_of s)
+    ready_on : HistoriesAgree → (s : PlainState) (v : ℕ) (u : Unkept) (ws : List ℕ) (st : AnswerStage) (ready : Bool) → Agree exec s.start s.words (asker_of s u) (answerer_of s)
         → (carried s.ask ≡ true → length s.executed ≡ length s.calls.records → ready ≡ true) → (answer_fed (stepping s) v).stage ≡ st → carried s.ask ≡ true → length (answered_with v s).executed ≡ length s.calls.records → ready_after st ready ≡ true
-    ready_on law s v clears ws RunDevice ready g h e q n = let x : Asker = asker_of s clears in let y : Answerer = answerer_of s in let m : Answer = answer_fed_at (stepping s).stage (stepping s) v in
+    ready_on law s v u ws RunDevice ready g h e q n = let x : Asker = asker_of s u in let y : Answerer = answerer_of s in let m : Answer = answer_fed_at (stepping s).stage (stepping s) v in
         let one : length (after_step v s).done ≡ 1 = settled_more m.stage m s.device e in
         let a = least x.done y.done (law exec s.start s.words x y g).0 in let l = longer s v in let k = length-map exchange_of_command s.executed in let j = length-map exchange_of_command (answered_with v s).executed in let i = lengths s.calls.records in
         absurd (omega (arith, one, a, l, k, j, i, n))
-    ready_on law s v clears ws st ready g h e q n = let x : Asker = asker_of s clears in let y : Answerer = answerer_of s in
+    ready_on law s v u ws st ready g h e q n = let x : Asker = asker_of s u in let y : Answerer = answerer_of s in
         let a = least x.done y.done (law exec s.start s.words x y g).0 in let l = longer s v in let k = length-map exchange_of_command s.executed in let j = length-map exchange_of_command (answered_with v s).executed in let i = lengths s.calls.records in
         h q (omega (arith, a, l, k, j, i, n))
 
@@ -192,7 +192,7 @@ module _ (exec : Device) where
         → Holds exec is_state room_of (answered_with v s) (ready_after (answer_fed (stepping s) v).stage ready) room
     answer_holds start step law s v ready room e small h = let k = h.0 in (
       record {
-        clears = k.clears;
+        unkept = k.unkept;
         agree = answered start step s v e small k;
         long = long_act (answer_next (stepping s)) s.words ∙ k.long;
         start = k.start;
@@ -202,7 +202,7 @@ module _ (exec : Device) where
         looks = k.looks;
         own = k.own;
       },
-      record { fits = h.1.fits; taken = λ q n. ready_on law s v k.clears s.words (answer_fed (stepping s) v).stage ready k.agree h.1.taken refl q n },
+      record { fits = h.1.fits; taken = λ q n. ready_on law s v k.unkept s.words (answer_fed (stepping s) v).stage ready k.agree h.1.taken refl q n },
     )
 
     -- ---- in the words of the code
@@ -215,14 +215,14 @@ module _ (exec : Device) where
 
     pub settle_ready : AnswerBeginAgrees → AnswerStepAgrees exec is_state room_of → HistoriesAgree → (s : PlainState) (ready : Bool) (room : ℕ) (b f : Answer) (t : Action) (v : ℕ) → b ≡ stepping s → t ≡ answer_next b → v ≡ found t s.words → v < 2 ^ 64 → f ≡ answer_fed b v → Holds exec is_state room_of s ready room → SettlesIf f.stage ready
     settle_ready start step law s ready room b f t v eb et ev small ef h = let k = h.0 in
-        settles law s v k.clears (act (answer_next (stepping s)) s.words) f.stage ready k.agree (answered start step s v (found_by s b t v eb et ev) small k) h.1.taken (sym (ap (λ (a : Answer). a.stage) (fed_by s b f v eb ef)))
+        settles law s v k.unkept (act (answer_next (stepping s)) s.words) f.stage ready k.agree (answered start step s v (found_by s b t v eb et ev) small k) h.1.taken (sym (ap (λ (a : Answer). a.stage) (fed_by s b f v eb ef)))
 
     pub settle_wiring : AnswerBeginAgrees → AnswerStepAgrees exec is_state room_of → (s : PlainState) (ready : Bool) (room : ℕ) (b f : Answer) (t : Action) (v : ℕ) → b ≡ stepping s → t ≡ answer_next b → v ≡ found t s.words → v < 2 ^ 64 → f ≡ answer_fed b v → Holds exec is_state room_of s ready room → f.wiring ≡ s.ask.wiring
     settle_wiring start step s ready room b f t v eb et ev small ef h = let k = h.0 in
-        ap (λ (a : Answer). a.wiring) (fed_by s b f v eb ef) ∙ fed_wiring s v k.clears (act (answer_next (stepping s)) s.words) (answered start step s v (found_by s b t v eb et ev) small k)
+        ap (λ (a : Answer). a.wiring) (fed_by s b f v eb ef) ∙ fed_wiring s v k.unkept (act (answer_next (stepping s)) s.words) (answered start step s v (found_by s b t v eb et ev) small k)
 
     pub device_room : DeviceStays exec is_state room_of → (s : PlainState) (ready : Bool) (room : ℕ) → Holds exec is_state room_of s ready room → room_of s.device ≡ s.ask.wiring.room
-    device_room law s ready room h = let k = h.0 in (law s.start s.words (asker_of s k.clears) (answerer_of s) k.start k.room k.agree).1
+    device_room law s ready room h = let k = h.0 in (law s.start s.words (asker_of s k.unkept) (answerer_of s) k.start k.room k.agree).1
 
     pub same_settle : (s : PlainState) (f : Answer) (v : ℕ) → f ≡ answer_fed (stepping s) v → settle exec (record { m = f; device = s.device; done = [] }) ≡ after_step v s
     same_settle s f v e = let m : Answer = answer_fed_at (stepping s).stage (stepping s) v in ap (λ (a : Answer). settle exec (record { m = a; device = s.device; done = [] })) e ∙ counted m.stage (record { m = m; device = s.device; done = [] })

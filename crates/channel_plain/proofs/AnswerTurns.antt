@@ -21,12 +21,12 @@ use Rattle.pcc_steps.specs.Runs.{Run, ends, loads, stores, swaps, executes, Answ
 use Rattle.pcc_steps.specs.Walk.{Takes, Gives, answer_left, answer_after}
 use Rattle.pcc_steps.specs.Asking.{has_more}
 use Rattle.pcc_steps.specs.Answering.{Answer, AnswerOk, answer_code, answer_next, answer_next_at, answer_fed, answer_fed_at, answer_told, answer_told_at, answer_begun, after_ack, after_take, after_error, after_reply, after_close, after_done, after_update, done_stage, asks_notify, served_at, take_on, take_told, load_on, reply_on, ran_with}
-use Rattle.pcc_steps.specs.Agree.{act, Answerer, IsBetween, settle, settle_at, executed}
+use Rattle.pcc_steps.specs.Agree.{act, Answerer, IsBetween, settle, settle_at, executed, found}
 use Rattle.pcc_steps.specs.Laws.{AnswersByTable, AnswerStepsByTable, ExecutesByTable}
 use Rattle.channel_plain.specs.declared.trace.Side.{Side}
 use Rattle.channel_plain.specs.declared.trace.TraceEnd.TheVariants as end
 use Rattle.channel_plain.specs.declared.trace.TraceLine.{TraceLine}
-use Rattle.channel_plain.specs.Picks.{PlainState, found, started_at, command_of, answer_end, answer_picked, line_of}
+use Rattle.channel_plain.specs.Picks.{PlainState, started_at, command_of, answer_end, answer_picked, line_of}
 use Rattle.channel_plain.specs.Standing.{Stands}
 use Rattle.channel_plain.specs.WordRuns.{Answered, Answers, more, AnswerWalks, answer_from, answer_on, execute, next_of}
 use Rattle.channel_plain.proofs.WordSteps.{not_false, takes_next, takes_rest}
@@ -343,7 +343,7 @@ module _ (exec : Device) (w : Wiring) where
       let b : Answer = stepping exec s in let v : ℕ = found (answer_next b) s.words in let m : Answer = answer_fed b v in let y : Answerer = after_step exec v s in
       let same : s.answer.wiring ≡ w = k.agree.1.2.same ∙ wired in
       let e : settle exec (record { m = m; device = s.device; done = [] }) ≡ y = same_settle exec is_state room_of s m v refl in
-      let mw : m.wiring ≡ w = fed_wiring exec is_state room_of s v k'.clears (act (answer_next b) s.words) k'.agree ∙ wired in
+      let mw : m.wiring ≡ w = fed_wiring exec is_state room_of s v k'.unkept (act (answer_next b) s.words) k'.agree ∙ wired in
       let ok' : is_run m.stage ≡ false → AnswerOk m = λ q. subst (λ (z : Answerer). AnswerOk z.m) (sym e ∙ settle_plain exec m.stage (record { m = m; device = s.device; done = [] }) q) k'.agree.1.2.answer_ok in
       let rest : is_rest y.m.stage ≡ is_rest m.stage = ap (λ (z : Answerer). is_rest z.m.stage) (sym e) ∙ settle_rest m.stage (record { m = m; device = s.device; done = [] }) refl in
       go tie same e mw ok' rest

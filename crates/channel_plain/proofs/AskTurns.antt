@@ -22,7 +22,7 @@ use Rattle.pcc_steps.specs.Wires.{style_of, heads_of, block_header, sees_done, a
 use Rattle.pcc_steps.specs.Runs.{Run, post_run, look_run}
 use Rattle.pcc_steps.specs.Walk.{ask_left, ask_after}
 use Rattle.pcc_steps.specs.Asking.{Ask, AskOk, Flies, LooksLeft, PostsLeft, after_block, has_more, store_on, look_on, read_on, block_on, line_on, lowered_on, ask_next, ask_fed, ask_told, ask_fed_at, ask_looking, ask_budgeted}
-use Rattle.pcc_steps.specs.Agree.{act, flying}
+use Rattle.pcc_steps.specs.Agree.{act, flying, found}
 use Rattle.pcc_steps.specs.Laws.{PostsByTable, LooksByTable, AsksByTable}
 use Rattle.channel_plain.specs.declared.sent.Sent.{Sent}
 use Rattle.channel_plain.specs.declared.trace.Asked.{Asked}
@@ -30,7 +30,7 @@ use Rattle.channel_plain.specs.declared.trace.Side.{Side}
 use Rattle.channel_plain.specs.declared.trace.TraceEnd.{TraceEnd}
 use Rattle.channel_plain.specs.declared.trace.TraceEnd.TheVariants as end
 use Rattle.channel_plain.specs.declared.trace.TraceLine.{TraceLine}
-use Rattle.channel_plain.specs.Picks.{PlainState, Picked, found, ask_picked_at, ask_stepped, begins, call_begun, call_ended, earliest_call, from_rest, line_of, post_or_soon, posting, refusal_of, served}
+use Rattle.channel_plain.specs.Picks.{PlainState, Picked, ask_picked_at, ask_stepped, begins, call_begun, call_ended, earliest_call, from_rest, line_of, post_or_soon, posting, refusal_of, served}
 use Rattle.channel_plain.specs.Standing.{HavePolls, IsCarried, IsServing, LooksBegun, Stands, carried, carried_at, is_rest}
 use Rattle.channel_plain.specs.Weaving.{reading_of}
 use Rattle.channel_plain.specs.WordRuns.{Calls, Serves, goes_on, begins as begins_now, Turns, idles, refuses, delays, end_call, take_reading, posts_call, earliest_at, in_flight, refusal_at}

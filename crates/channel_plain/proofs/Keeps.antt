@@ -1,5 +1,5 @@
 -- What a pick of the asking side keeps.
-use Rattle.std.proofs.Common.{◌≡◌, ◌≢◌, ℕ, ◌+◌, ◌^◌, ◌<◌, ◌≤◌, Bool, true, false, nat_eq, List, [], ◌∷◌, ◌++◌, length, take, drop, refl, sym, ap, ◌∙◌, subst, arith, length-set}
+use Rattle.std.proofs.Common.{◌≡◌, ◌≢◌, ℕ, ◌+◌, ◌^◌, ◌<◌, ◌≤◌, Bool, true, false, nat_eq, List, [], ◌∷◌, ◌++◌, length, take, drop, refl, sym, ap, ◌∙◌, subst, arith}
 use Rattle.std.specs.Prelude.{Option, Some, None, ltb}
 use Rattle.std.proofs.lemmas.List.{map-append, append-nil, drop_all, take_all}
 use Rattle.std.proofs.lemmas.Bool.{lt-ltb}
@@ -11,7 +11,6 @@ use Rattle.pcc_journal.specs.declared.record.Record.{Record}
 use Rattle.pcc_journal.specs.Records.{exchanges_of, exchange_of_record}
 use Rattle.pcc_steps.specs.declared.wiring.Wiring.{Wiring}
 use Rattle.pcc_steps.specs.declared.wiring.Action.{Action}
-use Rattle.pcc_steps.specs.declared.wiring.Action.TheVariants.{Load, Store, Swap, Execute, Rest}
 use Rattle.pcc_steps.specs.declared.wiring.Style.{Style}
 use Rattle.pcc_steps.specs.declared.wiring.Style.TheVariants.{Headed, Joined3, Separate3, Joined4, Separate4, Reduced5}
 use Rattle.pcc_steps.specs.declared.ask.AskStage.{AskStage}
@@ -20,31 +19,19 @@ use Rattle.pcc_steps.specs.declared.ask.AskOutcome.{AskOutcome}
 use Rattle.pcc_steps.specs.declared.ask.AskOutcome.TheVariants.{Posted, Clear, Drained}
 use Rattle.pcc_steps.specs.Wires.{style_of, block_of}
 use Rattle.pcc_steps.specs.Asking.{Ask, LooksLeft, CodeFits, ask_next, ask_fed, ask_told, ask_fed_at, ask_begun, ask_looking, ask_budgeted}
-use Rattle.pcc_steps.specs.Agree.{act, Finds, Asker, Answerer, Agree, done_after, clears_after}
+use Rattle.pcc_steps.specs.Agree.{act, Finds, Asker, Answerer, Agree, done_after, clears_after, found}
 use Rattle.pcc_steps.specs.Laws.{AskStepAgrees, PostBeginAgrees, LookBeginAgrees, BudgetAgrees}
 use Rattle.channel_plain.specs.declared.sent.Sent.{Sent}
 use Rattle.channel_plain.specs.declared.trace.Asked.{Asked}
-use Rattle.channel_plain.specs.Picks.{CallBook, PlainState, Ended, found, ask_ended, call_begun, call_posted, clear_ended, drained_calls, recorded, is_late, given_up}
+use Rattle.channel_plain.specs.Picks.{CallBook, PlainState, Ended, ask_ended, call_begun, call_posted, clear_ended, drained_calls, recorded, is_late, given_up}
 use Rattle.channel_plain.specs.Holding.{FliesIf, FliesWith}
+use Rattle.pcc_steps.proofs.WordSteps.{long_act, finds_found}
+use Rattle.channel_plain.specs.News.{opening_of}
 use Rattle.channel_plain.specs.Standing.{asker_of, answerer_of, carried, carried_at, is_rest, IsCarried, LooksBegun, Holds, owns}
 use Rattle.channel_plain.specs.Steps.{budget_by}
 use Rattle.channel_plain.proofs.Feeds.{Fed, fed, stepped, not_rest}
 
 -- ---- small facts
-
-pub long_act : (t : Action) (ws : List ℕ) → length (act t ws) ≡ length ws
-long_act (Load p) ws = refl
-long_act (Store p v) ws = length-set ws p v
-long_act (Swap p v) ws = length-set ws p v
-long_act (Execute code) ws = refl
-long_act Rest ws = refl
-
-pub finds_found : (t : Action) (ws : List ℕ) → Finds t ws (found t ws)
-finds_found (Load p) ws = refl
-finds_found (Store p v) ws = tt
-finds_found (Swap p v) ws = refl
-finds_found (Execute code) ws = tt
-finds_found Rest ws = tt
 
 above_none : (n b : ℕ) → n < b → 0 < b
 above_none n b h = omega (arith, h)
@@ -197,13 +184,14 @@ module _ (exec : Device) (is_state : List ℕ → Type 0) (room_of : List ℕ �
   pub step_holds : AskStepAgrees → (r v : ℕ) (s : PlainState) (ready : Bool) (room : ℕ) → v ≡ found (ask_next s.ask) s.words → v < 2 ^ 64 → s.ask.stage ≢ AskRest → Holds exec is_state room_of s ready room → Holds exec is_state room_of (stepped_with v r s) ready room
   step_holds law r v s ready room e small runs h = let k = h.0 in let a : Ask = s.ask in let st : AskStage = a.stage in let ok = k.agree.1.2.ask_ok in let told : Option AskOutcome = ask_told a v in
       let z : Ask = ask_fed_at st a v in let b : Ask = ask_fed a v in let f : Fed st a b told = stepped st a z told b.steps (fed st a v (not_rest st runs) ok.flies) in
-      let x : Asker = asker_of s k.clears in let y : Answerer = answerer_of s in let ws : List ℕ = act (ask_next a) s.words in let c : CallBook = (ask_ended told r b s.calls).calls in
+      let x : Asker = asker_of s k.unkept in let y : Answerer = answerer_of s in let ws : List ℕ = act (ask_next a) s.words in let c : CallBook = (ask_ended told r b s.calls).calls in
       let g = law exec s.start s.words x y v k.agree (subst (λ (n : ℕ). Finds (ask_next a) s.words n) (sym e) (finds_found (ask_next a) s.words)) small in
       let begun : s.calls.begun ≡ true = k.runs (not_rest st runs) in
       let t : After b c (done_after told (exchanges_of s.calls.records) b) = told_on st a b told r s.calls f (left_most b.stage b.looks b.budget g.1.2.ask_ok.looks) k.carries begun (begun_looks (both (is_rest st) a.in_flight) a.looks a.budget (k.looks begun)) k.own in (
         record {
-          clears = clears_after told k.clears;
-          agree = subst (λ (l : List Exchange). Agree exec s.start ws (record { m = b; done = l; clears = clears_after told k.clears }) y) (sym (t.list ∙ done_same told (exchanges_of s.calls.records) z b.steps)) g;
+          unkept = record k.unkept { clears = clears_after told k.unkept.clears };
+          agree = subst (λ (p : List Exchange × List ℕ). Agree exec s.start ws (record { m = b; done = p.0; clears = clears_after told k.unkept.clears; opening = p.1; asked = k.unkept.asked }) y)
+              (λ i. (sym (t.list ∙ done_same told (exchanges_of s.calls.records) z b.steps) i, ap opening_of (sym f.wiring) i)) g;
           long = long_act (ask_next a) s.words ∙ (k.long ∙ ap (λ (w : Wiring). 8 + block_of w) (sym f.wiring));
           start = k.start;
           room = k.room ∙ ap (λ (w : Wiring). w.room) (sym f.wiring);
@@ -221,8 +209,8 @@ module _ (exec : Device) (is_state : List ℕ → Type 0) (room_of : List ℕ �
       let left : a.looks < a.budget = subst (λ (z : Bool). LooksBegun z a.looks a.budget) (rested_waits (is_rest a.stage) a.in_flight (at_rest a.stage rest) ∙ flies) (k.looks begun) in
       let same : a.in_flight ≡ carried a = sym (ap (λ (st : AskStage). carried_at st a.in_flight) rest) in (
         record {
-          clears = k.clears;
-          agree = law exec s.start s.words (asker_of s k.clears) (answerer_of s) rest flies left k.agree;
+          unkept = k.unkept;
+          agree = law exec s.start s.words (asker_of s k.unkept) (answerer_of s) rest flies left k.agree;
           long = k.long;
           start = k.start;
           room = k.room;
@@ -239,8 +227,8 @@ module _ (exec : Device) (is_state : List ℕ → Type 0) (room_of : List ℕ �
       → Holds exec is_state room_of (record s { ask = budget_by begins polls s.ask; calls = c }) ready room
   rest_holds law s ready room true polls c rest rs sent begins h = let k = h.0 in let a : Ask = s.ask in (
     record {
-      clears = k.clears;
-      agree = subst (λ (l : List Record). Agree exec s.start s.words (record { m = ask_budgeted a polls; done = exchanges_of l; clears = k.clears }) (answerer_of s)) (sym rs) (law exec s.start s.words (asker_of s k.clears) (answerer_of s) polls rest k.agree);
+      unkept = k.unkept;
+      agree = subst (λ (l : List Record). Agree exec s.start s.words (record { m = ask_budgeted a polls; done = exchanges_of l; clears = k.unkept.clears; opening = opening_of a.wiring; asked = k.unkept.asked }) (answerer_of s)) (sym rs) (law exec s.start s.words (asker_of s k.unkept) (answerer_of s) polls rest k.agree);
       long = k.long;
       start = k.start;
       room = k.room;
@@ -257,8 +245,8 @@ module _ (exec : Device) (is_state : List ℕ → Type 0) (room_of : List ℕ �
       polled false p l = l
   rest_holds law s ready room false polls c rest rs sent begins h = let k = h.0 in let a : Ask = s.ask in (
     record {
-      clears = k.clears;
-      agree = subst (λ (l : List Record). Agree exec s.start s.words (record { m = a; done = exchanges_of l; clears = k.clears }) (answerer_of s)) (sym rs) k.agree;
+      unkept = k.unkept;
+      agree = subst (λ (l : List Record). Agree exec s.start s.words (record { m = a; done = exchanges_of l; clears = k.unkept.clears; opening = opening_of a.wiring; asked = k.unkept.asked }) (answerer_of s)) (sym rs) k.agree;
       long = k.long;
       start = k.start;
       room = k.room;
@@ -275,8 +263,8 @@ module _ (exec : Device) (is_state : List ℕ → Type 0) (room_of : List ℕ �
       → Holds exec is_state room_of s ready room → Holds exec is_state room_of (record s { ask = ask_begun s.ask c.code c.bytes; calls = call_posted c s.ask.space r (call_begun s.calls) }) true room
   post_holds law s ready room c r rest free fits posts code bytes least h = let k = h.0 in let a : Ask = s.ask in (
     record {
-      clears = k.clears;
-      agree = law exec s.start s.words (asker_of s k.clears) (answerer_of s) c.code c.bytes rest free fits posts (narrow s.ask.wiring c.code code) (small (style_of s.ask.wiring) c.code code) bytes k.agree;
+      unkept = record k.unkept { asked = k.unkept.asked ++ c.bytes ∷ [] };
+      agree = law exec s.start s.words (asker_of s k.unkept) (answerer_of s) c.code c.bytes rest free fits posts (narrow s.ask.wiring c.code code) (small (style_of s.ask.wiring) c.code code) bytes k.agree;
       long = k.long;
       start = k.start;
       room = k.room;
@@ -317,7 +305,7 @@ module _ (exec : Device) (is_state : List ℕ → Type 0) (room_of : List ℕ �
       → Holds exec is_state room_of s ready room → FliesIf told s.calls.sent (length b.space)
   told_flies law s ready room t v b told e q small runs fb ft h = let k = h.0 in let a : Ask = s.ask in let st : AskStage = a.stage in let z : Ask = ask_fed_at st a v in
       let f : Fed st a (ask_fed a v) (ask_told a v) = stepped st a z (ask_told a v) (ask_fed a v).steps (fed st a v (not_rest st runs) k.agree.1.2.ask_ok.flies) in
-      let g = law exec s.start s.words (asker_of s k.clears) (answerer_of s) v k.agree (subst (λ (n : ℕ). Finds (ask_next a) s.words n) (sym (q ∙ ap (λ (t : Action). found t s.words) e)) (finds_found (ask_next a) s.words)) small in
+      let g = law exec s.start s.words (asker_of s k.unkept) (answerer_of s) v k.agree (subst (λ (n : ℕ). Finds (ask_next a) s.words n) (sym (q ∙ ap (λ (t : Action). found t s.words) e)) (finds_found (ask_next a) s.words)) small in
       let i : length a.input ≡ a.wiring.room = k.agree.1.2.ask_ok.sized.input in
       let o : length (ask_fed a v).space ≡ a.wiring.room = g.1.2.ask_ok.sized.space ∙ ap (λ (w : Wiring). w.room) f.wiring in
       subst (λ (p : Option AskOutcome × Ask). FliesIf p.0 s.calls.sent (length p.1.space)) (λ i. (sym ft i, sym fb i)) (flies_fed st a (ask_fed a v) (ask_told a v) s.calls.sent a.wiring.room f k.carries i o)

@@ -7,10 +7,10 @@ use Rattle.pcc_steps.specs.declared.ask.AskStage.{AskStage}
 use Rattle.pcc_steps.specs.declared.ask.AskOutcome.{AskOutcome}
 use Rattle.pcc_steps.specs.declared.ask.AskOutcome.TheVariants.{Posted, Clear, Drained}
 use Rattle.pcc_steps.specs.Asking.{Ask, Flies, ask_next, ask_fed, ask_told, ask_fed_at, ask_looking, ask_budgeted}
-use Rattle.pcc_steps.specs.Agree.{act, flying}
+use Rattle.pcc_steps.specs.Agree.{act, flying, found}
 use Rattle.channel_plain.specs.declared.trace.Asked.{Asked}
 use Rattle.channel_plain.specs.declared.trace.TraceEnd.{TraceEnd}
-use Rattle.channel_plain.specs.Picks.{CallBook, PlainState, Picked, found, ask_ended, ask_picked_at, ask_stepped, begins, call_begun, clear_ended, drained_calls, earliest_call, from_rest, is_late, picked_by, post_or_soon, posting, recorded, refusal_of, served}
+use Rattle.channel_plain.specs.Picks.{CallBook, PlainState, Picked, ask_ended, ask_picked_at, ask_stepped, begins, call_begun, clear_ended, drained_calls, earliest_call, from_rest, is_late, picked_by, post_or_soon, posting, recorded, refusal_of, served}
 use Rattle.channel_plain.specs.Standing.{Stands, is_rest}
 use Rattle.channel_plain.proofs.Feeds.{Fed, fed, stepped, rest_is}
 use Rattle.channel_plain.proofs.AskPicks.{running}

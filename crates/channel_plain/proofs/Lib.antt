@@ -5,8 +5,6 @@ pub mod Posts
 pub mod AskPicks
 pub mod Starts
 pub mod ServeKeeps
-pub mod Weaves
-pub mod Lined
 pub mod WordSteps
 pub mod AskTurns
 pub mod AnswerTurns
@@ -17,4 +15,7 @@ pub mod Goods
 pub mod Polls
 pub mod Stayings
 pub mod Written
+pub mod PickLoop
+pub mod LinesOut
+pub mod WeaveRuns
 pub mod LostEnds

@@ -9,17 +9,15 @@ use Rattle.pcc_journal.specs.declared.record.Record.{Record}
 use Rattle.shmem_header.specs.Spelling.{words_of}
 use Rattle.pcc_steps.specs.declared.wiring.Wiring.{Wiring}
 use Rattle.pcc_steps.specs.declared.wiring.Action.{Action}
-use Rattle.pcc_steps.specs.declared.wiring.Action.TheVariants.{Load, Store, Swap, Execute, Rest}
+use Rattle.pcc_steps.specs.declared.wiring.Action.TheVariants.{Load, Store, Swap, Rest}
 use Rattle.pcc_steps.specs.Runs.{Run, ends, loads, stores, swaps, executes, AskEnd, posts, sees_clear, drains, AnswerEnd, finds_none, serves, look_run, post_run}
 use Rattle.channel_plain.specs.declared.sent.Sent.{Sent}
-use Rattle.channel_plain.specs.declared.trace.Side.{Side}
 use Rattle.channel_plain.specs.declared.trace.Asked.{Asked}
 use Rattle.channel_plain.specs.declared.trace.TraceEnd.{TraceEnd}
 use Rattle.channel_plain.specs.declared.trace.TraceEnd.TheVariants as end
 use Rattle.channel_plain.specs.declared.trace.TraceLine.{TraceLine}
 use Rattle.channel_plain.specs.WordRuns.{Answered, Answers, AnswerWalks, Calls, Cut, IsAnswering, IsAsking, IsRun, IsUnfinished, Serves, Turn, Turns, Walks, answer_from, answer_on, answered_end, begins, delays, gives_up, goes_on, idles, looking, looks_on, next_of, posts_call, refuses, rest_of, sending, sends, takes, unanswered, whole}
 use Rattle.channel_plain.specs.WordRuns.{none, more}
-
 use Rattle.channel_plain.specs.Picks.{drained_end, given_up_end}
 use Rattle.channel_plain.specs.declared.trace.Side.TheVariants.{System, Platform}
 use Rattle.channel_plain.specs.WorkedPicks.{line, no_bytes, swap_call, wired}
@@ -242,11 +240,11 @@ module _ (w : Wiring) (limits : Limits) (calls : List Asked) where
     -- the run that is cut is what stands after the last end
     cut_tail : IsAsking w limits calls opening lines readings records sent → (x : Calls) × (rs : List ℕ) × Cut w limits calls x (open_tail lines) rs × (all_mid lines ≡ true → x ≡ at_first opening)
     cut_tail a = (
-        a.after,
-        a.taken,
-        subst (λ (ls : List TraceLine). Cut w limits calls a.after ls a.taken) (sym (tail_of a.past a.last stops (cut_mid a.after a.last a.taken a.cut)) ∙ ap open_tail (sym a.all)) a.cut,
-        λ e. sym (none_ended (at_first opening) a.after a.past a.runs (not_mid a.past stops (front_mid a.past a.last (ap all_mid (sym a.all) ∙ e)))),
-      )
+      a.after,
+      a.taken,
+      subst (λ (ls : List TraceLine). Cut w limits calls a.after ls a.taken) (sym (tail_of a.past a.last stops (cut_mid a.after a.last a.taken a.cut)) ∙ ap open_tail (sym a.all)) a.cut,
+      λ e. sym (none_ended (at_first opening) a.after a.past a.runs (not_mid a.past stops (front_mid a.past a.last (ap all_mid (sym a.all) ∙ e)))),
+    )
       where
         stops : StopsWell a.past
         stops = turns_stop (at_first opening) a.after a.past a.runs
@@ -268,13 +266,13 @@ module _ (exec : Device) (w : Wiring) (start : List ℕ) where
   answer_tail : (lines : List TraceLine) (executed : List Exchange) → IsAnswering exec w start lines executed
       → (d : List ℕ) × (es : List Exchange) × (b : Answered) × AnswerWalks exec w (answer_from exec w d es) (open_tail lines) b × IsUnfinished b.run × (all_mid lines ≡ true → (d ≡ start) × (es ≡ []))
   answer_tail lines executed a = (
-      a.device,
-      a.before,
-      a.now,
-      subst (λ (ls : List TraceLine). AnswerWalks exec w (answer_from exec w a.device a.before) ls a.now) (sym (tail_of a.past a.last stops (answer_mid exec w (answer_from exec w a.device a.before) a.now a.last a.cut)) ∙ ap open_tail (sym a.all)) a.cut,
-      a.unfinished,
-      λ e. none_answered a.past a.device a.before a.runs (not_mid a.past stops (front_mid a.past a.last (ap all_mid (sym a.all) ∙ e))),
-    )
+    a.device,
+    a.before,
+    a.now,
+    subst (λ (ls : List TraceLine). AnswerWalks exec w (answer_from exec w a.device a.before) ls a.now) (sym (tail_of a.past a.last stops (answer_mid exec w (answer_from exec w a.device a.before) a.now a.last a.cut)) ∙ ap open_tail (sym a.all)) a.cut,
+    a.unfinished,
+    λ e. none_answered a.past a.device a.before a.runs (not_mid a.past stops (front_mid a.past a.last (ap all_mid (sym a.all) ∙ e))),
+  )
     where
       stops : StopsWell a.past
       stops = answers_stop a.past a.device a.before a.runs

@@ -12,13 +12,13 @@ use Rattle.pcc_steps.specs.declared.ask.AskStage.TheVariants.{AskRest, PostBlock
 use Rattle.pcc_steps.specs.declared.ask.AskOutcome.{AskOutcome}
 use Rattle.pcc_steps.specs.declared.ask.AskOutcome.TheVariants.{Posted, Clear, Drained}
 use Rattle.pcc_steps.specs.Asking.{Ask, Flies, PostsLeft, ask_next, ask_fed, ask_told, ask_fed_at, ask_looking, ask_budgeted}
-use Rattle.pcc_steps.specs.Agree.{flying}
+use Rattle.pcc_steps.specs.Agree.{flying, found}
 use Rattle.channel_plain.specs.declared.sent.Sent.{Sent}
 use Rattle.channel_plain.specs.declared.trace.Asked.{Asked}
 use Rattle.channel_plain.specs.declared.trace.Side.{Side}
 use Rattle.channel_plain.specs.declared.trace.TraceEnd.{TraceEnd}
 use Rattle.channel_plain.specs.declared.trace.TraceEnd.TheVariants as end
-use Rattle.channel_plain.specs.Picks.{CallBook, PlainState, found, asks_by, ask_ended, ask_stepped, ask_picked_at, begins, call_begun, clear_ended, drained_calls, earliest_call, from_rest, is_late, is_wide, picked, picked_by, post_or_soon, posting, recorded, refusal_of, served}
+use Rattle.channel_plain.specs.Picks.{CallBook, PlainState, asks_by, ask_ended, ask_stepped, ask_picked_at, begins, call_begun, clear_ended, drained_calls, earliest_call, from_rest, is_late, is_wide, picked, picked_by, post_or_soon, posting, recorded, refusal_of, served}
 use Rattle.channel_plain.specs.Standing.{IsServing, Serving, Stands, carried, carried_at, is_rest, owns}
 use Rattle.channel_plain.proofs.Feeds.{Fed, fed, stepped}
 

@@ -12,7 +12,7 @@ use Rattle.pcc_steps.specs.declared.wiring.Wiring.{Wiring}
 use Rattle.pcc_steps.specs.Runs.{look_run}
 use Rattle.pcc_steps.specs.declared.wiring.Action.TheVariants.{Swap}
 use Rattle.pcc_steps.specs.Walk.{answer_after, answer_left, ask_after, ask_left}
-use Rattle.pcc_steps.specs.Agree.{act}
+use Rattle.pcc_steps.specs.Agree.{act, found}
 use Rattle.pcc_steps.specs.Asking.{Ask, AskOk, ask_fed, ask_next, ask_told}
 use Rattle.pcc_steps.specs.Answering.{Answer, AnswerOk, answer_fed, answer_next, answer_told}
 use Rattle.pcc_steps.specs.Laws.{PostsByTable, LooksByTable, AsksByTable, AnswersByTable, AnswerStepsByTable, ExecutesByTable}
@@ -21,7 +21,7 @@ use Rattle.channel_plain.specs.declared.sent.Sent.{Sent}
 use Rattle.channel_plain.specs.declared.trace.Asked.{Asked}
 use Rattle.channel_plain.specs.declared.trace.Side.{Side}
 use Rattle.channel_plain.specs.declared.trace.TraceLine.{TraceLine}
-use Rattle.channel_plain.specs.Picks.{CallBook, PlainState, Picked, answer_picked, ask_picked_at, asks_by, found, line_of, picked_by}
+use Rattle.channel_plain.specs.Picks.{CallBook, PlainState, Picked, answer_picked, ask_picked_at, asks_by, line_of, picked_by}
 use Rattle.channel_plain.specs.Holding.{Takes}
 use Rattle.channel_plain.specs.News.{opening_of}
 use Rattle.channel_plain.specs.Standing.{HavePolls, IsCarried, IsServing, Stands, carried, carried_at, is_rest}
@@ -99,10 +99,10 @@ ask_unfinished law a ok runs = (ask_next a, takes_next (ask_left a) (ask_next a)
 
 answer_unfinished : AnswerStepsByTable → (a : Answer) → AnswerOk a → is_run a.stage ≡ false → is_rest_a a.stage ≡ false → IsUnfinished (answer_left a)
 answer_unfinished law a ok turn runs = (
-    answer_next a,
-    takes_next (answer_left a) (answer_next a) (λ v. answer_after (answer_told a v) (answer_fed a v))
-        (law a ok (λ e. not_false (is_rest_a a.stage) (ap is_rest_a e) runs, λ e. not_false (is_run a.stage) (ap is_run e) turn)),
-  )
+  answer_next a,
+  takes_next (answer_left a) (answer_next a) (λ v. answer_after (answer_told a v) (answer_fed a v))
+      (law a ok (λ e. not_false (is_rest_a a.stage) (ap is_rest_a e) runs, λ e. not_false (is_run a.stage) (ap is_run e) turn)),
+)
 
 module _ (w : Wiring) (limits : Limits) (calls : List Asked) where
   abbrev pub from_new : List ℕ → Calls

@@ -4,9 +4,9 @@ pub mod WordRuns
 pub mod Wholes
 pub mod WorkedPicks
 pub mod Holding
+pub mod News
 pub mod Standing
 pub mod Steps
-pub mod News
 pub mod Weaving
 pub mod Good
 pub mod LostEnds

@@ -1,5 +1,5 @@
 -- A channel on a plain list of words, and what a pick of one of its ends makes of it.
-use Rattle.std.specs.Prelude.{◌==◌, ℕ, ◌+◌, ltb, Bool, true, false, if◌then◌else◌, List, [], ◌∷◌, ◌++◌, length, map, get_or, Option, Some, None}
+use Rattle.std.specs.Prelude.{◌==◌, ℕ, ◌+◌, ltb, Bool, true, false, if◌then◌else◌, List, [], ◌∷◌, ◌++◌, length, map, Option, Some, None}
 use Rattle.std.specs.List.{slice_get}
 use Rattle.pcc_history.specs.Devices.{Device}
 use Rattle.pcc_history.specs.Channel.{Exchange, over}
@@ -11,7 +11,7 @@ use Rattle.pcc_journal.specs.declared.command.Command.{Command}
 use Rattle.pcc_journal.specs.Records.{times_of}
 use Rattle.pcc_steps.specs.declared.wiring.Wiring.{Wiring}
 use Rattle.pcc_steps.specs.declared.wiring.Action.{Action}
-use Rattle.pcc_steps.specs.declared.wiring.Action.TheVariants.{Load, Store, Swap, Execute, Rest}
+use Rattle.pcc_steps.specs.declared.wiring.Action.TheVariants.{Rest}
 use Rattle.pcc_steps.specs.declared.ask.AskStage.{AskStage}
 use Rattle.pcc_steps.specs.declared.ask.AskStage.TheVariants.{AskRest}
 use Rattle.pcc_steps.specs.declared.ask.AskOutcome.{AskOutcome}
@@ -22,7 +22,7 @@ use Rattle.pcc_steps.specs.declared.answer.AnswerOutcome.{AnswerOutcome}
 use Rattle.pcc_steps.specs.declared.answer.AnswerOutcome.TheVariants.{Idle, Served}
 use Rattle.pcc_steps.specs.Asking.{Ask, ask_next, ask_fed, ask_told, ask_begun, ask_looking, ask_budgeted}
 use Rattle.pcc_steps.specs.Answering.{Answer, answer_next, answer_told, answer_begun}
-use Rattle.pcc_steps.specs.Agree.{act, Answerer, answerer_fed, flying}
+use Rattle.pcc_steps.specs.Agree.{act, Answerer, answerer_fed, flying, found}
 use Rattle.channel_plain.specs.declared.sent.Sent.{Sent}
 use Rattle.channel_plain.specs.declared.trace.Side.{Side}
 use Rattle.channel_plain.specs.declared.trace.Side.TheVariants.{System, Platform}
@@ -63,14 +63,6 @@ pub record Picked : Type 0 where
 abbrev pub asks_by : ℕ → Side → Bool
 asks_by kind System = if kind == 4 then false else true
 asks_by kind Platform = kind == 4
-
--- the value that a word step loads or finds
-abbrev pub found : Action → List ℕ → ℕ
-found (Load place) words = get_or words place 0
-found (Swap place word) words = get_or words place 0
-found (Store place word) words = 0
-found (Execute code) words = 0
-found Rest words = 0
 
 -- ---- the calls
 

@@ -13,10 +13,17 @@ use Rattle.pcc_steps.specs.Agree.{Asker, Answerer, Agree, flying}
 use Rattle.channel_plain.specs.declared.sent.Sent.{Sent}
 use Rattle.channel_plain.specs.declared.trace.Asked.{Asked}
 use Rattle.channel_plain.specs.Picks.{CallBook, PlainState, is_wide}
+use Rattle.channel_plain.specs.News.{opening_of}
+
+-- what the asking end has done that the channel doesn't keep: the looks that saw the command incomplete, and the bytes of each command that was
+-- posted or is being posted
+pub record Unkept : Type 0 where
+  pub clears : ℕ
+  pub asked : List (List ℕ)
 
 -- both ends with their histories: what was drained is in the records, what was executed is in the commands
-abbrev pub asker_of : PlainState → ℕ → Asker
-asker_of s clears = record { m = s.ask; done = exchanges_of s.calls.records; clears = clears }
+abbrev pub asker_of : PlainState → Unkept → Asker
+asker_of s u = record { m = s.ask; done = exchanges_of s.calls.records; clears = u.clears; opening = opening_of s.ask.wiring; asked = u.asked }
 
 abbrev pub answerer_of : PlainState → Answerer
 answerer_of s = record { m = s.answer; device = s.device; done = exchanges_of_commands s.executed }
@@ -106,8 +113,8 @@ pub record IsReady (s : PlainState) (ready : Bool) (room : ℕ) : Type 0 where
 module _ (exec : Device) (is_state : List ℕ → Type 0) (room_of : List ℕ → ℕ) where
   pub record Stands (s : PlainState) : Type 0 where
     -- the relation of the words with both ends
-    pub clears : ℕ
-    pub agree : Agree exec s.start s.words (asker_of s clears) (answerer_of s)
+    pub unkept : Unkept
+    pub agree : Agree exec s.start s.words (asker_of s unkept) (answerer_of s)
     pub long : length s.words ≡ 8 + block_of s.ask.wiring
     pub start : is_state s.start
     pub room : room_of s.start ≡ s.ask.wiring.room

@@ -14,14 +14,14 @@ use Rattle.pcc_steps.specs.declared.wiring.Action.{Action}
 use Rattle.pcc_steps.specs.declared.wiring.Action.TheVariants.{Load, Store, Swap, Rest}
 use Rattle.pcc_steps.specs.Wires.{style_of, heads_of, block_header, opening_words}
 use Rattle.pcc_steps.specs.Runs.{Run, ends, loads, stores, swaps, executes, AskEnd, posts, sees_clear, drains, AnswerEnd, finds_none, serves, post_run, look_run, answer_run}
-use Rattle.pcc_steps.specs.Agree.{act}
+use Rattle.pcc_steps.specs.Agree.{act, found}
 use Rattle.channel_plain.specs.declared.sent.Sent.{Sent}
 use Rattle.channel_plain.specs.declared.trace.Side.{Side}
 use Rattle.channel_plain.specs.declared.trace.Asked.{Asked}
 use Rattle.channel_plain.specs.declared.trace.TraceEnd.{TraceEnd}
 use Rattle.channel_plain.specs.declared.trace.TraceEnd.TheVariants as end
 use Rattle.channel_plain.specs.declared.trace.TraceLine.{TraceLine}
-use Rattle.channel_plain.specs.Picks.{asks_by, found, given_up_end, record_of, refusal_of, sent_by, drained_end}
+use Rattle.channel_plain.specs.Picks.{asks_by, given_up_end, record_of, refusal_of, sent_by, drained_end}
 
 -- ---- the words
 

@@ -18,17 +18,17 @@ ghost use Rattle.channel_plain.specs.News.{IsNew};
 
 use crate::book::Book;
 use crate::memory::zeros;
-use crate::opening::opening_words;
 use crate::pick::Pick;
 use crate::register::Register;
-use crate::step::{fit, fit_code, perform, settle, start};
+use crate::step::{fit, fit_code, settle, start};
 use crate::trace::{Asked, TraceEnd};
 use pcc_exec::Executor;
 use pcc_io::{Clock, NoMemory};
 use pcc_journal::{Commands, Journal, Pending};
 use pcc_steps::{
     Action, AnswerOutcome, AnswerState, AskState, Wiring, answer_feed, answer_next, answering_laws,
-    ask_begin, ask_budget, ask_feed, ask_look, ask_next, asking_laws, history_laws,
+    ask_begin, ask_budget, ask_feed, ask_look, ask_next, asking_laws, history_laws, opening_words,
+    perform,
 };
 use rate_limit::Limits;
 use std::alloc::Global;

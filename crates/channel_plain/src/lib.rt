@@ -3,8 +3,8 @@
 
 mod book;
 mod ends;
+mod lines;
 mod memory;
-mod opening;
 mod pick;
 mod plain;
 mod register;
@@ -12,14 +12,14 @@ mod sent;
 mod step;
 mod text;
 mod trace;
+mod weaving;
 mod worked;
 
-pub use opening::opening_words;
-pub use plain::{Plain, weave, weave_lines};
+pub use plain::Plain;
 pub use sent::{Flight, Sent};
-pub use step::perform;
 pub use text::trace_lines;
 pub use trace::{Asked, Side, Trace, TraceEnd, TraceLine};
+pub use weaving::{weave, weave_lines};
 pub use worked::{lost_ends, worked_picks};
 
 #[cfg(test)]

@@ -1,38 +1,15 @@
-//! One word step on a list of words, and the device's turn.
+//! The device's turn, and what a step needs to know of its bytes.
 
-ghost use Rattle.std.specs.Prelude.{◌≡◌, ◌<◌, ◌^◌, [], length};
+ghost use Rattle.std.specs.Prelude.{◌≡◌, ◌<◌, ◌^◌, []};
 ghost use Rattle.pcc_bytes.specs.Bytes.{IsBytes};
-ghost use Rattle.pcc_steps.specs.Agree.{act, settle};
-ghost use Rattle.pcc_steps.specs.Asking.{IsWithin};
-ghost use Rattle.channel_plain.specs.Picks.{found, started_at};
+ghost use Rattle.pcc_steps.specs.Agree.{settle};
+ghost use Rattle.channel_plain.specs.Picks.{started_at};
 ghost use Rattle.channel_plain.specs.Steps.{IsSettled, SettlesIf};
 
 use crate::register::Register;
 use crate::trace::Asked;
 use pcc_exec::Executor;
 use pcc_steps::{Action, AnswerState, answer_next, answer_ran, answer_space, answer_start};
-
-/// Makes a word step. Answers the value that was loaded or found, and 0 where there is none.
-#[inline(always)]
-pub fn perform(words: &mut [u64], action: Action) -> u64
-    requires { IsWithin (length words.old) action }
-    ensures words { words.new ≡ act action words.old }
-    ensures value { result ≡ found action words.old }
-{
-    match action {
-        Action::Load(place) => words[place as usize],
-        Action::Store(place, word) => {
-            words[place as usize] = word;
-            0
-        }
-        Action::Swap(place, word) => {
-            let value = words[place as usize];
-            words[place as usize] = word;
-            value
-        }
-        Action::Execute { .. } | Action::Rest => 0,
-    }
-}
 
 /// A slice of bytes has bytes. It does nothing.
 pub(crate) fn fit(bytes: &[u8])

@@ -1,7 +1,8 @@
 use Rattle.std.proofs.Common.{rules, ◌≡◌, ℕ, List, length, take, drop, ◌++◌, refl, sym, ap, ◌∙◌}
 use Rattle.pcc_steps.specs.declared.wiring.Wiring.{Wiring}
 use Rattle.pcc_steps.specs.declared.wiring.Action.{Action}
-use Rattle.channel_plain.specs.Picks.{PlainState, found}
+use Rattle.pcc_steps.specs.Agree.{found}
+use Rattle.channel_plain.specs.Picks.{PlainState}
 use Rattle.channel_plain.proofs.Keeps.{whole}
 use Rattle.channel_plain.proofs.AnswerHolds.{device_room, settle_ready, settle_wiring, settled_holds}
 use Rattle.channel_plain.proofs.ends.Ends.answer_pick.Goals as goal

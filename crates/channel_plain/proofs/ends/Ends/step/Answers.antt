@@ -1,7 +1,8 @@
 use Rattle.std.proofs.Common.{rules, ◌≡◌, ◌≢◌, ℕ, List, length, take, drop, ◌++◌, sym, ap, ◌∙◌, subst}
 use Rattle.pcc_steps.specs.declared.wiring.Action.{Action}
 use Rattle.pcc_steps.specs.declared.ask.AskStage.TheVariants.{AskRest}
-use Rattle.channel_plain.specs.Picks.{PlainState, found}
+use Rattle.pcc_steps.specs.Agree.{found}
+use Rattle.channel_plain.specs.Picks.{PlainState}
 use Rattle.channel_plain.proofs.Keeps.{told_flies, told_holds, whole}
 use Rattle.channel_plain.proofs.ends.Ends.step.Goals as goal
 
