@@ -17,6 +17,7 @@ use Rattle.aml_pkg.specs.Spelling.{element_bytes, AmlBytes}
 use Rattle.aml_pkg.specs.Faults.{ItemWrong}
 use Rattle.pcc_gas.specs.Addresses.{RegisterBytes}
 use Rattle.cpc_package.specs.declared.rows.Role.{Role}
+use Rattle.cpc_package.specs.declared.rows.TheConstants.{ENTRIES}
 use Rattle.cpc_package.specs.declared.rows.Role.TheVariants as role
 use Rattle.cpc_package.specs.declared.fault.CpcKind.{CpcKind}
 use Rattle.cpc_package.specs.declared.fault.CpcKind.TheVariants.{Short, BadLead, BadLength, UnknownOp, TooDeep, NotPackage, EntryCount, NotInteger, WrongCount, WrongRevision, NotRegister, BadDescriptor, BadEndTag, BadChecksum}
@@ -28,7 +29,7 @@ use Rattle.cpc_package.specs.Entries.{register_in}
 
 -- how many entries a package may have
 abbrev pub IsCount : ℕ → Type 0
-IsCount n = n ≡ 23
+IsCount n = n ≡ ENTRIES
 
 -- the revision of a package with so many
 abbrev pub revision_of : ℕ → ℕ

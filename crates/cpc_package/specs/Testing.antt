@@ -8,6 +8,7 @@ use Rattle.aml_pkg.specs.declared.item.Item.{Item}
 use Rattle.aml_pkg.specs.declared.item.Item.TheVariants as item
 use Rattle.aml_pkg.specs.Spelling.{element_bytes}
 use Rattle.cpc_package.specs.declared.rows.Role.{Role}
+use Rattle.cpc_package.specs.declared.rows.TheConstants.{ENTRIES}
 use Rattle.cpc_package.specs.declared.rows.Role.TheVariants as role
 use Rattle.cpc_package.specs.declared.fault.CpcKind.{CpcKind}
 use Rattle.cpc_package.specs.declared.fault.CpcKind.TheVariants.{NotPackage, EntryCount, NotInteger, WrongCount, WrongRevision, NotRegister, BadDescriptor, BadEndTag, BadChecksum}
@@ -49,5 +50,5 @@ entries_fault count n at (e ∷ es) = found_at (entry_kind count (role_of n) e) 
 -- the first fault of an item
 abbrev pub item_fault : Item → Option CpcFault
 item_fault (item.Element e) = Some (record { entry = 0; at = 0; kind = NotPackage })
-item_fault (item.Package len elements) = if length elements == 23 then entries_fault (length elements) 0 (3 + len.follow) elements
+item_fault (item.Package len elements) = if length elements == ENTRIES then entries_fault (length elements) 0 (3 + len.follow) elements
     else Some (record { entry = 0; at = 2 + len.follow; kind = EntryCount })

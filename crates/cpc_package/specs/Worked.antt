@@ -1,5 +1,5 @@
 -- Worked packages.
-use Rattle.std.specs.Prelude.{ℕ, List, [], ◌∷◌, ◌++◌, replicate}
+use Rattle.std.specs.Prelude.{ℕ, ◌+◌, List, [], ◌∷◌, ◌++◌, drop, replicate, take}
 use Rattle.aml_pkg.specs.declared.item.Form.{Form}
 use Rattle.aml_pkg.specs.declared.item.Form.TheVariants.{Zero, Byte, Word}
 use Rattle.aml_pkg.specs.declared.item.Element.{Element}
@@ -17,13 +17,18 @@ buffer bytes = element.Buffer (record { len = record { value = 20; follow = 0 };
 abbrev pub no_register : Element
 no_register = buffer (0x82 ∷ 0x0c ∷ 0x00 ∷ (replicate 12 0 ++ 0x79 ∷ 0 ∷ []))
 
+-- a register: its space, its width and offset in bits, its access byte, which is the subspace, and the byte where it begins
+abbrev pub register : ℕ → ℕ → ℕ → ℕ → ℕ → Element
+register space width offset access byte =
+    buffer (0x82 ∷ 0x0c ∷ 0x00 ∷ space ∷ width ∷ offset ∷ access ∷ byte ∷ (replicate 7 0 ++ 0x79 ∷ 0 ∷ []))
+
 -- a register of subspace 0 at a byte
 abbrev pub field_at : ℕ → ℕ → Element
-field_at width byte = buffer (0x82 ∷ 0x0c ∷ 0x00 ∷ 0x0a ∷ width ∷ 0 ∷ 0 ∷ byte ∷ (replicate 7 0 ++ 0x79 ∷ 0 ∷ []))
+field_at width byte = register 0x0a width 0 0 byte
 
 -- the desired, the minimum and the maximum performance, both counters, and whether performance was limited
-abbrev pub six_fields : Item
-six_fields = item.Package (record { value = 278; follow = 1 }) (
+abbrev pub six_elements : List Element
+six_elements =
     integer 23 Byte
     ∷ integer 3 Byte
     ∷ integer 300 Word
@@ -47,4 +52,11 @@ six_fields = item.Package (record { value = 278; follow = 1 }) (
     ∷ integer 100 Byte
     ∷ integer 400 Word
     ∷ integer 2000 Word
-    ∷ [])
+    ∷ []
+
+abbrev pub six_fields : Item
+six_fields = item.Package (record { value = 278; follow = 1 }) six_elements
+
+-- the same with another element for entry number n
+abbrev pub with_entry : ℕ → Element → Item
+with_entry n e = item.Package (record { value = 278; follow = 1 }) (take n six_elements ++ e ∷ drop (n + 1) six_elements)

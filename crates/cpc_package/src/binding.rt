@@ -26,9 +26,11 @@ ghost use Rattle.cpc_package.specs.Bindings.{
   share_bit,
   source_of,
 };
+ghost use Rattle.cpc_package.specs.declared.rows.TheConstants.{ENTRIES};
 
 use crate::entry::Entry;
 use crate::package::Cpc;
+use crate::rows::ENTRIES;
 use pcc_gas::{Field, Gas};
 use pcc_io::Items;
 
@@ -51,7 +53,7 @@ pub enum Source1 {
 pub struct Binding {
     /// The subspace's index in the table.
     pub subspace: u8,
-    pub sources: [Source1; 23],
+    pub sources: [Source1; ENTRIES],
 }
 
 /// Bindings in order, one for each processor.
@@ -145,7 +147,7 @@ fn first_subspace(cpc: &Cpc) -> Option<u8>
 /// The first of the entries before number n whose register shares a bit with another.
 #[tactic(auto, unfolding(crate::specs::Bindings::first_sharing), using(crate::proofs::First::front_more, crate::proofs::First::front_hit, crate::proofs::First::front_end))]
 fn first_sharing(cpc: &Cpc, n: u8, gas: Gas) -> Option<u8>
-    requires few { n < 23 }
+    requires few { n < ENTRIES }
     requires within { n < length (entries_of cpc.now) }
     ensures { result ≡ first_sharing (field_of gas) (take n (entries_of cpc.now)) }
 {
@@ -168,7 +170,7 @@ fn register_fault(
     gas: Gas,
 ) -> Option<BindFault>
     requires first { subspace ≡ first_subspace (entries_of cpc.now) }
-    requires few { entry < 23 }
+    requires few { entry < ENTRIES }
     requires within { entry < length (entries_of cpc.now) }
     ensures { result ≡ register_test (entries_of cpc.now) space_len entry (Some gas) }
 {
@@ -295,13 +297,13 @@ fn source_of(entry: Entry, space_len: u32) -> Source1
 
 /// What the entries of a package give that can be bound.
 #[tactic(auto, using(crate::proofs::Bound::sources_start, crate::proofs::Bound::sources_more, crate::proofs::Bound::sources_none, crate::proofs::Bound::sources_each, crate::proofs::Bound::inside))]
-fn sources_of(cpc: &Cpc, space_len: u32) -> [Source1; 23]
+fn sources_of(cpc: &Cpc, space_len: u32) -> [Source1; ENTRIES]
     requires small { space_len < 2 ^ 29 }
     requires right { bind_fault (entries_of cpc.now) space_len ≡ None }
     ensures none { (n : ℕ) → n < 2 → slice_index_or result n Missing ≡ Missing }
     ensures each { (n : ℕ) → 2 ≤ n → slice_index_or result n Missing ≡ source_of (entry_at (entries_of cpc.now) n) }
 {
-    let mut sources = [Source1::Missing; 23];
+    let mut sources = [Source1::Missing; ENTRIES];
     for n in 2..cpc.entries() {
         sources[usize::from(n)] = source_of(cpc.entry(n), space_len);
     }

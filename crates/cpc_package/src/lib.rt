@@ -18,9 +18,9 @@ pub use binding::{BindFault, Binding, Cpus, Source1, bind, share_law};
 pub use entry::Entry;
 pub use fault::{CpcError, CpcFault, CpcKind};
 pub use package::{Cpc, cpc_from, cpc_to, package_laws};
-pub use rows::Role;
+pub use rows::{ENTRIES, Role, limits_are};
 pub use text::cpc_lines;
-pub use worked::{SIX_FIELDS_PACKAGE, worked_packages};
+pub use worked::{SIX_FIELDS_PACKAGE, worked_bindings, worked_packages};
 
 #[cfg(test)]
 mod tests;

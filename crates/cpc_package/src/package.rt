@@ -6,6 +6,7 @@ ghost use Rattle.cpc_package.specs.Entries.{elements_of, entries_of, entry_at};
 ghost use Rattle.cpc_package.specs.Packages.{CpcBytes, CpcWrong, HasFault, HasPackage, HasSeventeen, IsCpc, IsTold, Tells};
 ghost use Rattle.cpc_package.specs.declared.fault.CpcFault.{CpcFault};
 ghost use Rattle.cpc_package.specs.declared.fault.CpcError.TheVariants.{NoMemory as OutOfMemory};
+ghost use Rattle.cpc_package.specs.declared.rows.TheConstants.{ENTRIES};
 
 use crate::entry::Entry;
 use crate::fault::CpcError;
@@ -39,7 +40,7 @@ impl Cpc {
     pub(crate) fn elements(&self) -> &[Element]
         ensures value { result.now ≡ elements_of self.now }
         ensures sized { All HasSeventeen result.now }
-        ensures all { length result.now ≡ 23 }
+        ensures all { length result.now ≡ ENTRIES }
         ensures right { IsCpc self.now }
     {
         match &self.item {
@@ -52,7 +53,7 @@ impl Cpc {
     #[tactic(auto, using(crate::proofs::Sizes::entries_length))]
     pub fn entries(&self) -> u8
         ensures count { result ≡ length (entries_of self.now) }
-        ensures all { result ≡ 23 }
+        ensures all { result ≡ ENTRIES }
         ensures right { IsCpc self.now }
     {
         self.elements().len() as u8
@@ -61,7 +62,7 @@ impl Cpc {
     /// What an entry says, by its number.
     #[tactic(auto, using(crate::proofs::Sizes::entry_read))]
     pub fn entry(&self, n: u8) -> Entry
-        requires { n < 23 }
+        requires { n < ENTRIES }
         ensures { result ≡ entry_at (entries_of self.now) n }
     {
         entry_of(&self.elements()[usize::from(n)])

@@ -1,6 +1,7 @@
 //! The entries of a package: the name of each, and what it holds.
 ghost use Rattle.std.specs.Prelude.{◌≡◌, ◌<◌, length};
 ghost use Rattle.cpc_package.specs.Rows.{entry_rows, name_of, role_of, rows_of};
+ghost use Rattle.cpc_package.specs.declared.rows.TheConstants.{ENTRIES};
 
 /// What an entry holds.
 #[derive(Clone, Copy, Debug, PartialEq, Eq)]
@@ -19,8 +20,11 @@ pub enum Role {
 #[derive(Clone, Copy, Debug)]
 pub struct Row(pub &'static [u8], pub Role);
 
+/// How many entries a package of revision 3 has (ACPI 6.5, 8.4.6.1).
+pub const ENTRIES: usize = 23;
+
 /// The entries in their order (ACPI 6.5, 8.4.6.1).
-const ROWS: [Row; 23] = [
+const ROWS: [Row; ENTRIES] = [
     Row(b"NumEntries", Role::Count),
     Row(b"Revision", Role::Revision),
     Row(b"HighestPerformance", Role::Either),
@@ -48,7 +52,7 @@ const ROWS: [Row; 23] = [
 
 fn rows() -> &'static [Row]
     ensures rows { rows_of result.now ≡ entry_rows }
-    ensures all { length result.now ≡ 23 }
+    ensures all { length result.now ≡ ENTRIES }
 {
     &ROWS
 }
@@ -56,9 +60,14 @@ fn rows() -> &'static [Row]
 /// The row of an entry, by its number.
 #[tactic(auto, using(crate::proofs::RowTable::row_name, crate::proofs::RowTable::row_role))]
 pub fn row_of(n: usize) -> Row
-    requires { n < 23 }
+    requires { n < ENTRIES }
     ensures name { result.0.now ≡ name_of n }
     ensures role { result.1 ≡ role_of n }
 {
     rows()[n]
 }
+
+/// The number of entries, so that it doesn't change unseen. It does nothing.
+pub fn limits_are()
+    ensures entries { ENTRIES ≡ 23 }
+{}

@@ -4,14 +4,12 @@ ghost use Rattle.aml_pkg.specs.declared.item.Element.TheVariants as element;
 ghost use Rattle.std.specs.List.{AllByRecursion, flat_map};
 ghost use Rattle.aml_pkg.specs.Spelling.{IsElement, IsItem, element_bytes};
 ghost use Rattle.cpc_package.specs.Testing.{entries_fault, entry_kind, item_fault, register_kind};
+ghost use Rattle.cpc_package.specs.declared.rows.TheConstants.{ENTRIES};
 
 use crate::fault::{CpcFault, CpcKind};
 use crate::register::REGISTER_LEN;
-use crate::rows::{Role, row_of};
+use crate::rows::{ENTRIES, Role, row_of};
 use aml_pkg::{Buffer, Element, Int, Item};
-
-/// How many entries a package has.
-const ENTRIES: usize = 23;
 
 /// The revision of a package.
 const REVISION: u64 = 3;
@@ -78,7 +76,7 @@ fn entry_kind(count: usize, role: Role, element: &Element) -> Option<CpcKind>
 #[tactic(auto, using(crate::proofs::Tested::entries_hit, crate::proofs::Tested::entries_more, crate::proofs::Tested::entries_end, crate::proofs::Tested::room_more))]
 fn entries_fault(elements: &[Element], at: u32) -> Option<CpcFault>
     requires each { AllByRecursion IsElement elements.now }
-    requires all { length elements.now ≡ 23 }
+    requires all { length elements.now ≡ ENTRIES }
     requires room { at + length (flat_map element_bytes elements.now) < 2 ^ 32 }
     ensures { result ≡ entries_fault (length elements.now) 0 at elements.now }
 {

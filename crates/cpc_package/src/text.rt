@@ -3,6 +3,7 @@ ghost use Rattle.std.specs.Prelude.{◌≡◌, ◌<◌, ◌++◌, IfOk, OnOk};
 ghost use Rattle.pcc_text.specs.Pieces.{spelled};
 ghost use Rattle.cpc_package.specs.Packages.{HasSeventeen};
 ghost use Rattle.cpc_package.specs.PackageText.{absent_line, entry_line, form_text, integer_line, package_text, register_line};
+ghost use Rattle.cpc_package.specs.declared.rows.TheConstants.{ENTRIES};
 
 use crate::entry::Entry;
 use crate::package::Cpc;
@@ -95,7 +96,7 @@ fn put_absent(out: &mut Vec<u8>, n: usize, name: &[u8], checksum: u8) -> Result<
 
 fn put_entry(out: &mut Vec<u8>, n: usize, element: &Element) -> Result<(), NoMemory>
     requires sized { HasSeventeen element.now }
-    requires within { n < 23 }
+    requires within { n < ENTRIES }
     ensures { OnOk result (out.new.items ≡ out.old.items ++ spelled (entry_line n element.now)) }
 {
     let name = row_of(n).0;

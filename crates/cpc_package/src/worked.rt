@@ -1,13 +1,23 @@
 //! Worked packages, on which the definitions are evaluated.
-ghost use Rattle.std.specs.Prelude.{◌≡◌, Some, None};
+ghost use Rattle.std.specs.Prelude.{◌≡◌, [], ◌∷◌, Some, None};
+ghost use Rattle.std.specs.List.{AllByRecursion};
 ghost use Rattle.aml_pkg.specs.declared.item.Form.TheVariants.{Byte};
 ghost use Rattle.cpc_package.specs.Bindings.{bind_fault};
 ghost use Rattle.cpc_package.specs.Entries.{entries_of};
-ghost use Rattle.cpc_package.specs.Packages.{CpcBytes, EntryWrong};
+ghost use Rattle.cpc_package.specs.Packages.{CpcBytes, EntryWrong, IsOfRole};
 ghost use Rattle.cpc_package.specs.Rows.{role_of};
-ghost use Rattle.cpc_package.specs.Worked.{integer, six_fields};
-ghost use Rattle.cpc_package.specs.declared.binding.BindFault.TheVariants.{FieldOutside};
-ghost use Rattle.cpc_package.specs.declared.fault.CpcKind.TheVariants.{NotRegister};
+ghost use Rattle.cpc_package.specs.Worked.{integer, no_register, register, six_fields, with_entry};
+ghost use Rattle.cpc_package.specs.declared.binding.BindFault.TheVariants.{
+  BadScale,
+  BadWidth,
+  FieldOutside,
+  FieldsOverlap,
+  NoBound,
+  NoDesired,
+  NotPcc,
+  TwoSubspaces,
+};
+ghost use Rattle.cpc_package.specs.declared.fault.CpcKind.TheVariants.{NotInteger, NotRegister, WrongCount, WrongRevision};
 
 /// A package of revision 3 with six registers in subspace 0: the desired, the minimum and the maximum performance at bytes 0, 4 and 8,
 /// the counters of reference and of delivered performance at 16 and 24, and whether performance was limited at 12.
@@ -29,10 +39,35 @@ pub const SIX_FIELDS_PACKAGE: [u8; 279] =
     \x11\x14\x0a\x11\x82\x0c\0\0\0\0\0\0\0\0\0\0\0\0\0\x79\0\
     \x0a\x64\x0b\x90\x01\x0b\xd0\x07";
 
-/// What it says, and in which space it can be bound.
+/// What it says, and which elements may stand in its entries. It does nothing.
 pub fn worked_packages()
     ensures package { CpcBytes SIX_FIELDS_PACKAGE six_fields }
+
+    // The first two entries are integers, the number of entries and the revision.
+    ensures count_buffer { EntryWrong 23 (role_of 0) no_register NotInteger }
+    ensures revision_buffer { EntryWrong 23 (role_of 1) no_register NotInteger }
+    ensures count_other { EntryWrong 23 (role_of 0) (integer 22 Byte) WrongCount }
+    ensures revision_other { EntryWrong 23 (role_of 1) (integer 2 Byte) WrongRevision }
+
+    // These entries are registers and no integers, and these may be integers.
+    ensures registers { AllByRecursion (λ n. EntryWrong 23 (role_of n) (integer 5 Byte) NotRegister)
+        (6 ∷ 7 ∷ 8 ∷ 9 ∷ 10 ∷ 11 ∷ 13 ∷ 14 ∷ 15 ∷ 16 ∷ 18 ∷ 19 ∷ []) }
+    ensures integers { AllByRecursion (λ n. IsOfRole 23 (role_of n) (integer 5 Byte)) (2 ∷ 3 ∷ 4 ∷ 5 ∷ 12 ∷ 17 ∷ 20 ∷ 21 ∷ 22 ∷ []) }
+{}
+
+/// In which space it can be bound, and each reason why it can't, where one of its entries is another. It does nothing.
+pub fn worked_bindings()
     ensures bound { bind_fault (entries_of six_fields) 32 ≡ None }
+    ensures not_pcc { bind_fault (entries_of (with_entry 7 (register 0x0b 32 0 0 0))) 32 ≡ Some (NotPcc 7) }
+    ensures two_subspaces { bind_fault (entries_of (with_entry 9 (register 0x0a 32 0 1 8))) 32 ≡ Some (TwoSubspaces 9) }
+    ensures no_width { bind_fault (entries_of (with_entry 8 (register 0x0a 0 0 0 4))) 32 ≡ Some (BadWidth 8) }
+    ensures too_wide { bind_fault (entries_of (with_entry 14 (register 0x0a 65 0 0 20))) 32 ≡ Some (BadWidth 14) }
     ensures outside { bind_fault (entries_of six_fields) 31 ≡ Some (FieldOutside 14) }
-    ensures desired_integer { EntryWrong 23 (role_of 7) (integer 5 Byte) NotRegister }
+    ensures offset_outside { bind_fault (entries_of (with_entry 14 (register 0x0a 64 1 0 24))) 32 ≡ Some (FieldOutside 14) }
+    ensures overlap { bind_fault (entries_of (with_entry 9 (register 0x0a 32 0 0 7))) 32 ≡ Some (FieldsOverlap 8 9) }
+    ensures no_desired { bind_fault (entries_of (with_entry 7 no_register)) 32 ≡ Some NoDesired }
+    ensures no_lowest { bind_fault (entries_of (with_entry 5 no_register)) 32 ≡ Some (NoBound 5) }
+    ensures no_highest { bind_fault (entries_of (with_entry 2 no_register)) 32 ≡ Some (NoBound 2) }
+    ensures scale_low { bind_fault (entries_of (with_entry 5 (integer 201 Byte))) 32 ≡ Some (BadScale 201 200 300) }
+    ensures scale_high { bind_fault (entries_of (with_entry 2 (integer 199 Byte))) 32 ≡ Some (BadScale 10 200 199) }
 {}

@@ -1,10 +1,7 @@
 use Rattle.std.proofs.Common.{◌≡◌, ℕ, List, length, refl, arith, lit<}
 use Rattle.aml_pkg.specs.Spelling.{IsElement}
-use Rattle.pcc_bytes.specs.Bytes.{number_at}
-use Rattle.pcc_gas.specs.Addresses.{address_in}
-use Rattle.cpc_package.specs.Bindings.{bind_fault, registers_fault, first_subspace, first_sharing}
-use Rattle.cpc_package.specs.Entries.{entries_of, register_in, is_absent_in}
-use Rattle.cpc_package.specs.Packages.{NoRegister}
+use Rattle.aml_pkg.specs.declared.item.Form.TheVariants.{Byte}
+use Rattle.cpc_package.specs.Packages.{CountBuffer, NoRegister, OtherCount, OtherRevision, RevisionBuffer}
 use Rattle.cpc_package.specs.Rows.{role_of}
 use Rattle.cpc_package.specs.Worked.{buffer, six_fields}
 use Rattle.cpc_package.proofs.Laws.{is_right}
@@ -31,14 +28,26 @@ returns-clause-package c = record {
   right = is_right six_fields refl;
 }
 
-pub returns-clause-bound : goal.returns-clause-bound
-unfolding bind_fault registers_fault first_subspace first_sharing entries_of register_in is_absent_in address_in number_at
-returns-clause-bound c = refl
-
-pub returns-clause-outside : goal.returns-clause-outside
-unfolding bind_fault registers_fault first_subspace first_sharing entries_of register_in is_absent_in address_in number_at
-returns-clause-outside c = refl
-
-pub returns-clause-desired_integer : goal.returns-clause-desired_integer
+pub returns-clause-count_buffer : goal.returns-clause-count_buffer
 unfolding role_of
-returns-clause-desired_integer c = NoRegister _
+returns-clause-count_buffer c = CountBuffer _
+
+pub returns-clause-revision_buffer : goal.returns-clause-revision_buffer
+unfolding role_of
+returns-clause-revision_buffer c = RevisionBuffer _
+
+pub returns-clause-count_other : goal.returns-clause-count_other
+unfolding role_of
+returns-clause-count_other c = OtherCount (record { value = 22; form = Byte }) (λ e. omega arith)
+
+pub returns-clause-revision_other : goal.returns-clause-revision_other
+unfolding role_of
+returns-clause-revision_other c = OtherRevision (record { value = 2; form = Byte }) (λ e. omega arith)
+
+pub returns-clause-registers : goal.returns-clause-registers
+unfolding role_of
+returns-clause-registers c = (NoRegister _, (NoRegister _, (NoRegister _, (NoRegister _, (NoRegister _, (NoRegister _, (NoRegister _, (NoRegister _, (NoRegister _, (NoRegister _, (NoRegister _, (NoRegister _, tt))))))))))))
+
+pub returns-clause-integers : goal.returns-clause-integers
+unfolding role_of
+returns-clause-integers c = (tt, (tt, (tt, (tt, (tt, (tt, (tt, (tt, (tt, tt)))))))))
