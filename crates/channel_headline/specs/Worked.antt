@@ -9,6 +9,7 @@ use Rattle.channel_turns.specs.Replies.{Reply, Done, TimedOut}
 use Rattle.channel_turns.specs.ChannelRuns.{Call, ChannelStart, InFlight, fresh}
 use Rattle.channel_headline.specs.ChannelLog.{ChannelLine, Called, log_of}
 use Rattle.channel_headline.specs.Headline.{Headline}
+use Rattle.channel_headline.specs.Lines.{CallLine}
 use Rattle.channel_headline.specs.Runs.{Calls, ChannelRun, HeadlineOf, Waits, run_from, terms_of}
 
 abbrev pub bank : ℕ → ChannelStart
@@ -65,6 +66,13 @@ lost_command = record { caller = 0; code = 16; input = 1 ∷ 0 ∷ []; post = 0 
 
 abbrev pub note_at : ℕ → ℕ → ℕ → Note
 note_at post done looks = record { post_at = post; done_at = done; looks = looks }
+
+-- a call that was posted and hasn't ended, and the headline with such lines
+abbrev pub open_line : CallLine
+open_line = record { caller = 0; code = 16; bytes = 1 ∷ []; polls = 3; reply = None; number = 0 }
+
+abbrev pub KeepsOpen : List CallLine → Option Pending → Option Note → Type 0
+KeepsOpen calls pending note = Headline (terms_of (bank 0)) (0 ∷ []) [] calls (record { entries = []; pending = noted_pending pending note })
 
 -- ---- runs
 
