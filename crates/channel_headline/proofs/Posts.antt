@@ -17,7 +17,7 @@ use Rattle.pcc_journal.proofs.EventsGrow.{last as events_last, noted_last, poste
 use Rattle.channel_core.specs.Refusals as refusals
 use Rattle.channel_core.specs.declared.answers.CallRefusal.TheVariants as refusal
 use Rattle.channel_turns.specs.Replies.{Reply, Done, BadCode, TooLong, JournalFull, StillPending, TooSoon, TimedOut}
-use Rattle.channel_turns.specs.ChannelRuns.{Answered, Call, ChannelStart, ChannelState, InFlight, answer_behind, answer_call, answer_unless, completed, count_in_flight, exchange_with, journal_limit, next_reading, post_call, record_of, refusal_of}
+use Rattle.channel_turns.specs.ChannelRuns.{Answered, Call, ChannelStart, ChannelState, InFlight, answer_behind, answer_call, answer_unless, completed, count_in_flight, exchange_with, journal_limit, next_reading, post_call, record_of}
 use Rattle.channel_headline.specs.After.{After, IsReading, after_event, after_events, before_all, numbers_in}
 use Rattle.channel_headline.specs.Causes.{AllCaused, IsBlocked, IsFull, IsTooSoon, Past, Terms}
 use Rattle.channel_headline.specs.ChannelLog.{ChannelLog, drained, line_of, logged, reading_at, with_drained, with_reply}
