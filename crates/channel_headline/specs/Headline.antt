@@ -31,8 +31,8 @@ journal_events t j = events_of t.before j.entries j.pending
 
 -- The records are one legal history of the channel as one thread sees it. Each command was sent whole, with the bytes asked. The posts are
 -- within the limits, that of the pending command included, and there are 4,096 at most. At most the last line has no reply. The calls of each
--- caller match its lines, and the reply of each line has its cause. Posts and completions are the clock's readings with their numbers, which rise; so do the numbers of each
--- caller's replies `too soon`; and the clock gave no other readings.
+-- caller match its lines, and the reply of each line has its cause. Posts and completions are the clock's readings with their numbers, which
+-- rise; so do the numbers of each caller's replies `too soon`; and the clock gave no other readings.
 pub record Headline (t : Terms) (readings : List ℕ) (asked : List (List ℕ)) (lines : List CallLine) (j : NotedJournal) : Type 0 where
   pub legal : Legal t.device t.reports t.state (exchanges_of (records_of j.entries))
   pub whole : WholeHistory t.opening (exchanges_of (records_of j.entries)) asked

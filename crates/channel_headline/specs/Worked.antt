@@ -30,7 +30,8 @@ swapped caller bytes reply = Called (swap caller bytes 0) reply
 
 -- the record of a swap
 abbrev pub kept : ℕ → List ℕ → List ℕ → ℕ → ℕ → Bool → Record
-kept caller input output post done late = record { caller = caller; code = 16; input = input; error = false; output = output; post = post; done = done; late = late }
+kept caller input output post done late =
+    record { caller = caller; code = 16; input = input; error = false; output = output; post = post; done = done; late = late }
 
 abbrev pub ok : List ℕ → Reply
 ok output = Done false output
@@ -41,7 +42,8 @@ flying (Some p) = Some (record { command = p; left = 0 })
 
 -- a journal of these records and a pending command keeps the headline with these lines
 abbrev pub KeepsWith : ℕ → List ChannelLine → List Record → Option Pending → Type 0
-KeepsWith turnaround lines records pending = HeadlineOf (bank turnaround) lines (record (fresh (bank turnaround)) { records = records; in_flight = flying pending })
+KeepsWith turnaround lines records pending =
+    HeadlineOf (bank turnaround) lines (record (fresh (bank turnaround)) { records = records; in_flight = flying pending })
 
 abbrev pub Keeps : List ChannelLine → List Record → Option Pending → Type 0
 Keeps = KeepsWith 0
@@ -82,4 +84,5 @@ late_run = run_from (bank 0) (fresh (bank 0)) (Calls (swap 0 (1 ∷ []) 3) ∷ C
 
 -- a swap, one that is too soon, a wait, and one that isn't
 abbrev pub soon_run : ChannelRun
-soon_run = run_from (bank 500) (fresh (bank 500)) (Calls (swap 0 (1 ∷ []) 0) ∷ Calls (swap 0 (2 ∷ []) 0) ∷ Waits 480 ∷ Calls (swap 0 (3 ∷ []) 0) ∷ [])
+soon_run =
+    run_from (bank 500) (fresh (bank 500)) (Calls (swap 0 (1 ∷ []) 0) ∷ Calls (swap 0 (2 ∷ []) 0) ∷ Waits 480 ∷ Calls (swap 0 (3 ∷ []) 0) ∷ [])

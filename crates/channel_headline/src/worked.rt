@@ -7,7 +7,8 @@ ghost use Rattle.channel_headline.specs.Worked.{Keeps, KeepsNoted, KeepsOpen, Ke
 /// What the lines of two runs say of their readings and notes. It does nothing.
 pub fn worked_logs()
     ensures late_lines { late_run.lines ≡ (Called (swap 0 (1 ∷ []) 3) (TimedOut 3)) ∷ swapped 1 (2 ∷ []) (ok (1 ∷ 0 ∷ [])) ∷ [] }
-    ensures late_records { late_run.now.records ≡ kept 0 (1 ∷ 0 ∷ []) (0 ∷ 0 ∷ []) 0 10 true ∷ kept 1 (2 ∷ 0 ∷ []) (1 ∷ 0 ∷ []) 20 30 false ∷ [] }
+    ensures late_records { late_run.now.records ≡ kept 0 (1 ∷ 0 ∷ []) (0 ∷ 0 ∷ []) 0 10 true
+        ∷ kept 1 (2 ∷ 0 ∷ []) (1 ∷ 0 ∷ []) 20 30 false ∷ [] }
     ensures late_log { log_of (bank 0).clock late_run.lines ≡ record {
       added = 0;
       readings = 0 ∷ 10 ∷ 20 ∷ 30 ∷ [];
@@ -20,7 +21,8 @@ pub fn worked_logs()
       readings = 0 ∷ 10 ∷ 20 ∷ 510 ∷ 520 ∷ [];
       notes = note_at 0 1 0 ∷ note_at 3 4 0 ∷ [];
       flight = None;
-      calls = line_of (swap 0 (1 ∷ []) 0) (ok (0 ∷ 0 ∷ [])) 0 ∷ line_of (swap 0 (2 ∷ []) 0) (TooSoon 20 510) 2 ∷ line_of (swap 0 (3 ∷ []) 0) (ok (1 ∷ 0 ∷ [])) 0 ∷ [];
+      calls = line_of (swap 0 (1 ∷ []) 0) (ok (0 ∷ 0 ∷ [])) 0 ∷ line_of (swap 0 (2 ∷ []) 0) (TooSoon 20 510) 2
+          ∷ line_of (swap 0 (3 ∷ []) 0) (ok (1 ∷ 0 ∷ [])) 0 ∷ [];
     } }
 {}
 
@@ -71,7 +73,8 @@ pub fn worked_lies()
     ensures invented_now { KeepsWith 500 (first_line ∷ swapped 0 (3 ∷ []) (TooSoon 25 510) ∷ []) (first_record ∷ []) None → ⊥ }
 
     // numbers of readings that fall
-    ensures falling_numbers { KeepsNoted ((1 ∷ 2 ∷ []) ∷ []) (first_line ∷ []) (kept 0 (1 ∷ 2 ∷ []) (0 ∷ 0 ∷ []) 10 0 false ∷ []) (note_at 1 0 0 ∷ []) None None → ⊥ }
+    ensures falling_numbers { KeepsNoted ((1 ∷ 2 ∷ []) ∷ []) (first_line ∷ [])
+        (kept 0 (1 ∷ 2 ∷ []) (0 ∷ 0 ∷ []) 10 0 false ∷ []) (note_at 1 0 0 ∷ []) None None → ⊥ }
     // a number that no reading has
     ensures unread_number { KeepsNoted ((1 ∷ 2 ∷ []) ∷ []) (first_line ∷ []) (first_record ∷ []) (note_at 0 2 0 ∷ []) None None → ⊥ }
     // a call that was posted and hasn't ended, with no record and nothing pending
