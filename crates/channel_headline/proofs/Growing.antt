@@ -1,6 +1,6 @@
 -- Facts of events, readings and lines that stay when more are put last.
 use Rattle.std.proofs.Common.{◌≡◌, ◌≤◌, ℕ, ◌+◌, Bool, true, false, cond, List, [], ◌∷◌, ◌++◌, length, map, zero, suc, refl, sym, ap, ◌∙◌, subst, arith}
-use Rattle.std.specs.Prelude.{◌==◌, ◌&&◌}
+use Rattle.std.specs.Prelude.{◌==◌, ◌&&◌, Option, Some, None}
 use Rattle.std.specs.List.{AllByRecursion, filter}
 use Rattle.std.proofs.lemmas.List.{append_assoc, append-nil, length-append, map-append}
 use Rattle.std.proofs.lemmas.List.Elements.{filter-append}
@@ -9,7 +9,7 @@ use Rattle.pcc_journal.specs.Events.{Event, Answered, Lost, Drained, Completed, 
 use Rattle.channel_turns.specs.Replies.{Reply, Done, BadCode, TooLong, JournalFull, StillPending, TooSoon, TimedOut}
 use Rattle.channel_headline.specs.After.{After, IsRead, IsReading, Rise, after_event, after_from, numbers_in, numbers_of}
 use Rattle.channel_headline.specs.Causes.{EachAfter, HasCause, IsBlocked, IsFull, IsTooSoon, Past, Terms}
-use Rattle.channel_headline.specs.Lines.{CallLine, is_post, is_too_soon, mine_of, soon_lines, soon_numbers}
+use Rattle.channel_headline.specs.Lines.{CallLine, was_posted, was_too_soon, mine_of, soon_lines, soon_numbers}
 use Rattle.channel_headline.specs.Matches.{AllMatch, Matches, Placed, own_calls, placed}
 
 -- ---- what events leave
@@ -32,7 +32,7 @@ calls-append caller a xs ys =
 -- ---- matches
 
 abbrev posted_by : ℕ → CallLine → Bool
-posted_by caller l = is_post l.reply && (l.caller == caller)
+posted_by caller l = was_posted l.reply && (l.caller == caller)
 
 mine-append : (caller : ℕ) (xs ys : List CallLine) → mine_of caller (xs ++ ys) ≡ mine_of caller xs ++ mine_of caller ys
 mine-append caller xs ys = filter-append (posted_by caller) xs ys
@@ -58,7 +58,7 @@ match_more caller a lines es l e h k =
     subst P (sym (mine-append caller lines (l ∷ []))) (subst Q (sym (calls-append caller a es (e ∷ []))) both)
 
 -- a line that posted nothing
-pub match_quiet : (caller : ℕ) (lines : List CallLine) (l : CallLine) (ps : List Placed) → is_post l.reply ≡ false → AllMatch (mine_of caller lines) ps → AllMatch (mine_of caller (lines ++ l ∷ [])) ps
+pub match_quiet : (caller : ℕ) (lines : List CallLine) (l : CallLine) (ps : List Placed) → was_posted l.reply ≡ false → AllMatch (mine_of caller lines) ps → AllMatch (mine_of caller (lines ++ l ∷ [])) ps
 match_quiet caller lines l ps e h =
     let P : List CallLine → Type 0 = λ v. AllMatch v ps in
     let none : mine_of caller (l ∷ []) ≡ [] = ap (λ (b : Bool). cond (b && (l.caller == caller)) (l ∷ []) []) e in
@@ -127,11 +127,11 @@ all_last rs (x ∷ es) e h k = (h.0, all_last rs es e h.1 k)
 
 numbers-append : (caller : ℕ) (xs ys : List CallLine) → soon_numbers caller (xs ++ ys) ≡ soon_numbers caller xs ++ soon_numbers caller ys
 numbers-append caller xs ys =
-    let by : CallLine → Bool = λ l. is_too_soon l.reply && (l.caller == caller) in
+    let by : CallLine → Bool = λ l. was_too_soon l.reply && (l.caller == caller) in
     ap (λ (v : List CallLine). map (λ (l : CallLine). l.number) v) (filter-append by xs ys) ∙ map-append (λ (l : CallLine). l.number) (filter by xs) (filter by ys)
 
 -- a line with another reply
-pub soon_other : (caller : ℕ) (lines : List CallLine) (l : CallLine) (high more : ℕ) → is_too_soon l.reply ≡ false → high ≤ more → Rise 0 (soon_numbers caller lines) high → Rise 0 (soon_numbers caller (lines ++ l ∷ [])) more
+pub soon_other : (caller : ℕ) (lines : List CallLine) (l : CallLine) (high more : ℕ) → was_too_soon l.reply ≡ false → high ≤ more → Rise 0 (soon_numbers caller lines) high → Rise 0 (soon_numbers caller (lines ++ l ∷ [])) more
 soon_other caller lines l high more e le h =
     let P : List ℕ → Type 0 = λ v. Rise 0 v more in
     let none : soon_numbers caller (l ∷ []) ≡ [] = ap (λ (b : Bool). map (λ (x : CallLine). x.number) (cond (b && (l.caller == caller)) (l ∷ []) [])) e in
@@ -143,7 +143,7 @@ one_number true l high e = (omega arith, omega arith)
 one_number false l high e = omega arith
 
 -- a line with such a reply has the next number
-pub soon_more : (caller : ℕ) (lines : List CallLine) (l : CallLine) (high : ℕ) → is_too_soon l.reply ≡ true → l.number ≡ high → Rise 0 (soon_numbers caller lines) high → Rise 0 (soon_numbers caller (lines ++ l ∷ [])) (high + 1)
+pub soon_more : (caller : ℕ) (lines : List CallLine) (l : CallLine) (high : ℕ) → was_too_soon l.reply ≡ true → l.number ≡ high → Rise 0 (soon_numbers caller lines) high → Rise 0 (soon_numbers caller (lines ++ l ∷ [])) (high + 1)
 soon_more caller lines l high e at h =
     let P : List ℕ → Type 0 = λ v. Rise 0 v (high + 1) in
     let Q : Bool → Type 0 = λ b. Rise high (map (λ (x : CallLine). x.number) (cond (b && (l.caller == caller)) (l ∷ []) [])) (high + 1) in
@@ -152,7 +152,7 @@ soon_more caller lines l high e at h =
 
 pub soon_count : (lines : List CallLine) (l : CallLine) → length (soon_lines (lines ++ l ∷ [])) ≡ length (soon_lines lines) + length (soon_lines (l ∷ []))
 soon_count lines l =
-    let by : CallLine → Bool = λ x. is_too_soon x.reply in
+    let by : CallLine → Bool = λ x. was_too_soon x.reply in
     ap (λ (v : List CallLine). length v) (filter-append by lines (l ∷ [])) ∙ length-append (soon_lines lines) (soon_lines (l ∷ []))
 
 -- ---- causes
@@ -161,19 +161,20 @@ abbrev past-append : (es fs : List Event) (earlier : List CallLine) (l : CallLin
 past-append es fs earlier l m =
     record { past = m.past; later = m.later ++ fs; parts = ap (λ (v : List Event). v ++ fs) m.parts ∙ append_assoc m.past m.later fs; own = m.own }
 
-pub cause-append : (t : Terms) (rs qs : List ℕ) (es fs : List Event) (earlier : List CallLine) (l : CallLine) (r : Reply) → HasCause t rs es earlier l r → HasCause t (rs ++ qs) (es ++ fs) earlier l r
-cause-append t rs qs es fs earlier l (Done error output) h = h
-cause-append t rs qs es fs earlier l (BadCode code) h = h
-cause-append t rs qs es fs earlier l (TooLong len room) h = h
-cause-append t rs qs es fs earlier l JournalFull h =
+pub cause-append : (t : Terms) (rs qs : List ℕ) (es fs : List Event) (earlier : List CallLine) (l : CallLine) (r : Option Reply) → HasCause t rs es earlier l r → HasCause t (rs ++ qs) (es ++ fs) earlier l r
+cause-append t rs qs es fs earlier l None h = h
+cause-append t rs qs es fs earlier l (Some (Done error output)) h = h
+cause-append t rs qs es fs earlier l (Some (BadCode code)) h = h
+cause-append t rs qs es fs earlier l (Some (TooLong len room)) h = h
+cause-append t rs qs es fs earlier l (Some JournalFull) h =
     let old : IsFull es earlier l = h.1 in
     let new : IsFull (es ++ fs) earlier l = record { moment = past-append es fs earlier l old.moment; full = old.full } in
     (h.0, new)
-cause-append t rs qs es fs earlier l (StillPending looks) h =
+cause-append t rs qs es fs earlier l (Some (StillPending looks)) h =
     let old : IsBlocked t.opening es earlier l = h.2 in
     let new : IsBlocked t.opening (es ++ fs) earlier l = record { moment = past-append es fs earlier l old.moment; post = old.post; flies = old.flies } in
     (h.0, h.1, new)
-cause-append t rs qs es fs earlier l (TooSoon now earliest) h =
+cause-append t rs qs es fs earlier l (Some (TooSoon now earliest)) h =
     let old : IsTooSoon t rs es earlier l now earliest = h.1 in
     let new : IsTooSoon t (rs ++ qs) (es ++ fs) earlier l now earliest = record {
       moment = past-append es fs earlier l old.moment;
@@ -184,7 +185,7 @@ cause-append t rs qs es fs earlier l (TooSoon now earliest) h =
       above = old.above;
     } in
     (h.0, new)
-cause-append t rs qs es fs earlier l (TimedOut looks) h = h
+cause-append t rs qs es fs earlier l (Some (TimedOut looks)) h = h
 
 pub each_as : (P Q : List CallLine → CallLine → Type 0) → ((b : List CallLine) (l : CallLine) → P b l → Q b l) → (b ls : List CallLine) → EachAfter P b ls → EachAfter Q b ls
 each_as P Q f b [] h = tt

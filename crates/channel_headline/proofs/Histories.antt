@@ -1,6 +1,6 @@
 -- What was asked so far is recorded, but for the command in flight, as a legal and whole history within the limits.
 use Rattle.std.proofs.Common.{◌≡◌, ℕ, ◌+◌, ◌≤◌, Bool, true, false, cond, List, [], ◌∷◌, ◌++◌, length, take, refl, sym, ap, ◌∙◌, subst, arith}
-use Rattle.std.specs.Prelude.{Option, Some, None, IfSome, nat_lt}
+use Rattle.std.specs.Prelude.{Option, Some, None, IfSome, ◌&&◌, nat_lt, nat_le}
 use Rattle.std.proofs.lemmas.List.{append-nil, length-map, map-append, take-append-le, take_all}
 use Rattle.pcc_history.specs.Devices.{Device}
 use Rattle.pcc_history.specs.Channel.{Exchange, Object, both, over}
@@ -13,8 +13,9 @@ use Rattle.rate_limit.specs.declared.Times.{Times}
 use Rattle.rate_limit.specs.RateLimits.{WithinLimits, earliest_of}
 use Rattle.rate_limit.proofs.Law.{exact as post_exact, completed as completion_keeps}
 use Rattle.std.proofs.lemmas.Bool.{ltb-false}
+use Rattle.channel_core.specs.Refusals as refusals
 use Rattle.channel_turns.specs.Replies.{Reply, BadCode, TooLong, JournalFull}
-use Rattle.channel_turns.specs.ChannelRuns.{Answered, Call, ChannelStart, ChannelState, InFlight, after_post, answer_behind, answer_call, answer_unless, completed, exchange_with, fresh, next_reading, post_call, post_of, record_of, refusal_of}
+use Rattle.channel_turns.specs.ChannelRuns.{Answered, Call, ChannelStart, ChannelState, InFlight, after_post, answer_behind, answer_call, answer_unless, completed, count_in_flight, exchange_with, fresh, journal_limit, next_reading, post_call, post_of, record_of, refusal_of}
 use Rattle.channel_headline.specs.Lines.{is_post}
 
 -- ---- histories that grow
@@ -173,8 +174,17 @@ no_post false true c code len room = refl
 no_post false false true code len room = refl
 no_post false false false code len room = tt
 
+-- the tests of a call, one after the other
+pub refusal_is : (start : ChannelStart) (call : Call) (now : ChannelState)
+    → refusal_of start.head call now ≡ cond (refusals.has_byte_codes start.head.kind && nat_lt 255 call.code) (Some (BadCode call.code))
+    (cond (nat_lt start.head.room (length call.bytes)) (Some (TooLong (length call.bytes) start.head.room))
+    (cond (nat_le journal_limit (length now.records + count_in_flight now.in_flight)) (Some JournalFull) None))
+refusal_is start call now = refl
+
 pub refusals_post_nothing : (start : ChannelStart) (call : Call) (now : ChannelState) → IfSome (refusal_of start.head call now) (λ r. is_post r ≡ false)
-refusals_post_nothing start call now = no_post _ _ _ call.code (length call.bytes) start.head.room
+refusals_post_nothing start call now =
+    let P : Option Reply → Type 0 = λ o. IfSome o (λ r. is_post r ≡ false) in
+    subst P (sym (refusal_is start call now)) (no_post _ _ _ call.code (length call.bytes) start.head.room)
 
 pub call_keeps : (start : ChannelStart) (call : Call) (now : ChannelState) (asked : List (List ℕ)) → Kept start now asked
     → let a = answer_call start call now in Kept start a.now (asked ++ added_by a.reply call.bytes)

@@ -1,9 +1,12 @@
 -- What it says of a caller that its calls are tied to its lines.
-use Rattle.std.proofs.Common.{◌≡◌, ℕ, suc, Bool, true, false, cond, List, [], ◌∷◌, length, map, refl, sym, ap, ◌∙◌, subst}
+use Rattle.std.proofs.Common.{◌≡◌, ℕ, zero, suc, Bool, true, false, cond, List, [], ◌∷◌, length, map, refl, sym, ap, ◌∙◌, subst}
+use Rattle.std.specs.Prelude.{Some}
+use Rattle.std.specs.List.{slice_get}
+use Rattle.std.proofs.lemmas.Option.{same_Some}
 use Rattle.pcc_journal.specs.Events.{Event, Own, calls_of, is_call_of}
 use Rattle.channel_headline.specs.After.{After, after_event, before_all}
 use Rattle.channel_headline.specs.Lines.{CallLine, mine_of}
-use Rattle.channel_headline.specs.Matches.{AllMatch, Placed, Tied, own_calls, placed}
+use Rattle.channel_headline.specs.Matches.{AllMatch, Matches, Placed, Tied, own_calls, placed}
 
 abbrev events_in : List Placed → List Event
 events_in ps = map (λ p. p.event) ps
@@ -37,6 +40,30 @@ pub owned : (opening : List ℕ) (lines : List CallLine) (events : List Event) �
 owned opening lines events h caller =
     let ps : List Placed = own_calls caller (placed (before_all opening) events) in
     (events_in ps, own_events caller (before_all opening) events, matched_length (mine_of caller lines) ps (h.own caller))
+
+-- ---- by places
+
+call_matches : (ls : List CallLine) (ps : List Placed) (i : ℕ) (p : Placed) → AllMatch ls ps → slice_get ps i ≡ Some p → (l : CallLine) × (slice_get ls i ≡ Some l) × Matches l p.before l.reply p.event
+call_matches [] [] i p h e = absurd cc
+call_matches [] (q ∷ ps) i p h e = absurd h
+call_matches (l ∷ ls) [] i p h e = absurd cc
+call_matches (l ∷ ls) (q ∷ ps) zero p h e = let P : Placed → Type 0 = λ x. Matches l x.before l.reply x.event in (l, refl, subst P (same_Some q p e) h.0)
+call_matches (l ∷ ls) (q ∷ ps) (suc i) p h e = call_matches ls ps i p h.1 e
+
+line_matches : (ls : List CallLine) (ps : List Placed) (i : ℕ) (l : CallLine) → AllMatch ls ps → slice_get ls i ≡ Some l → (p : Placed) × (slice_get ps i ≡ Some p) × Matches l p.before l.reply p.event
+line_matches [] [] i l h e = absurd cc
+line_matches [] (p ∷ ps) i l h e = absurd h
+line_matches (k ∷ ls) [] i l h e = absurd h
+line_matches (k ∷ ls) (p ∷ ps) zero l h e = let P : CallLine → Type 0 = λ x. Matches x p.before x.reply p.event in (p, refl, subst P (same_Some k l e) h.0)
+line_matches (k ∷ ls) (p ∷ ps) (suc i) l h e = line_matches ls ps i l h.1 e
+
+pub call_at : (opening : List ℕ) (lines : List CallLine) (events : List Event) → Tied opening lines events → (caller place : ℕ) (p : Placed)
+    → slice_get (own_calls caller (placed (before_all opening) events)) place ≡ Some p → (l : CallLine) × (slice_get (mine_of caller lines) place ≡ Some l) × Matches l p.before l.reply p.event
+call_at opening lines events h caller place p e = call_matches (mine_of caller lines) (own_calls caller (placed (before_all opening) events)) place p (h.own caller) e
+
+pub line_at : (opening : List ℕ) (lines : List CallLine) (events : List Event) → Tied opening lines events → (caller place : ℕ) (l : CallLine)
+    → slice_get (mine_of caller lines) place ≡ Some l → (p : Placed) × (slice_get (own_calls caller (placed (before_all opening) events)) place ≡ Some p) × Matches l p.before l.reply p.event
+line_at opening lines events h caller place l e = line_matches (mine_of caller lines) (own_calls caller (placed (before_all opening) events)) place l (h.own caller) e
 
 pub strangers : (opening : List ℕ) (lines : List CallLine) (events : List Event) → Tied opening lines events → (caller : ℕ) → mine_of caller lines ≡ [] → Own events caller []
 strangers opening lines events h caller none =

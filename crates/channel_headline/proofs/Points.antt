@@ -16,7 +16,7 @@ use Rattle.channel_turns.specs.Replies.{Reply}
 use Rattle.channel_headline.specs.After.{After, IsRead, IsReading, Rise, after_event, after_events, before_all, numbers_in}
 use Rattle.channel_headline.specs.Causes.{AllCaused, HasCause, Terms}
 use Rattle.channel_headline.specs.ChannelLog.{ChannelLog, line_of, reading_at, with_drained}
-use Rattle.channel_headline.specs.Lines.{CallLine, is_post, is_too_soon, mine_of, soon_lines, soon_numbers}
+use Rattle.channel_headline.specs.Lines.{CallLine, HasReply, is_post, is_too_soon, mine_of, soon_lines, soon_numbers}
 use Rattle.channel_headline.specs.Matches.{AllMatch, own_calls, placed}
 use Rattle.channel_headline.specs.Runs.{terms_of}
 use Rattle.channel_headline.proofs.Growing.{after-append, all_last, all_read, cause-append, each_as, each_last, match_drained, match_quiet, reading_first, rise_events, rise_higher, soon_count, soon_other}
@@ -51,6 +51,7 @@ pub record Point (start : ChannelStart) (s : ChannelLog) (now : ChannelState) (o
   pub few : post_count events ≤ MAX_ITEMS
   pub read : AllByRecursion (IsRead s.readings) events
   pub rise : Rise 0 (numbers_in events) (length s.readings)
+  pub ended : AllByRecursion (λ l. HasReply l.reply) s.calls
   pub own : (caller : ℕ) → AllMatch (mine_of caller s.calls) (own_calls caller (placed (before_all start.opening) events))
   pub soon : (caller : ℕ) → Rise 0 (soon_numbers caller s.calls) (length s.readings)
   pub causes : AllCaused (terms_of start) s.readings events s.calls
@@ -73,6 +74,10 @@ causes_more t rs qs es fs ls h =
 
 pub causes_last : (t : Terms) (rs : List ℕ) (es : List Event) (ls : List CallLine) (l : CallLine) → AllCaused t rs es ls → HasCause t rs es ls l l.reply → AllCaused t rs es (ls ++ l ∷ [])
 causes_last t rs es ls l h k = each_last (λ (b : List CallLine) (x : CallLine). HasCause t rs es b x x.reply) [] ls l h k
+
+pub ends_last : (ls : List CallLine) (l : CallLine) → AllByRecursion (λ x. HasReply x.reply) ls → HasReply l.reply → AllByRecursion (λ x. HasReply x.reply) (ls ++ l ∷ [])
+ends_last [] l h k = (k, tt)
+ends_last (x ∷ ls) l h k = (h.0, ends_last ls l h.1 k)
 
 -- ---- a command in flight completes
 
@@ -114,6 +119,7 @@ drained_at start s now p n events flight h =
         few = omega (arith, counted, old_few);
         read = all_last rs events (Drained c) (all_read s.readings (v ∷ []) events h.read) (subst R is (subst S (from_zero k) (reading_first s.readings v [])));
         rise = rise_events 0 events (Drained c) k (length rs) h.rise (omega arith, omega (arith, long));
+        ended = h.ended;
         own = λ caller. match_drained caller (before_all start.opening) (mine_of caller s.calls) events c (h.own caller);
         soon = λ caller. rise_higher 0 (soon_numbers caller s.calls) k (length rs) (h.soon caller) le;
         causes = causes_more t s.readings (v ∷ []) events (Drained c ∷ []) s.calls h.causes;
@@ -124,7 +130,7 @@ drained_at start s now p n events flight h =
 -- ---- nothing was posted and no reading was taken
 
 pub line_point : (start : ChannelStart) (call : Call) (reply : Reply) (now : ChannelState) (o : Option InFlight) (s : ChannelLog) (events : List Event) → is_post reply ≡ false → is_too_soon reply ≡ false
-    → HasCause (terms_of start) s.readings events s.calls (line_of call reply 0) reply → Point start s now o events
+    → HasCause (terms_of start) s.readings events s.calls (line_of call reply 0) (Some reply) → Point start s now o events
     → Point start (record s { calls = s.calls ++ line_of call reply 0 ∷ [] }) now o events
 line_point start call reply now o s events unposted unsoon cause h =
     let l : CallLine = line_of call reply 0 in
@@ -141,13 +147,14 @@ line_point start call reply now o s events unposted unsoon cause h =
       few = h.few;
       read = h.read;
       rise = h.rise;
+      ended = ends_last s.calls l h.ended tt;
       own = λ caller. match_quiet caller s.calls l (own_calls caller (placed (before_all start.opening) events)) unposted (h.own caller);
       soon = λ caller. soon_other caller s.calls l (length s.readings) (length s.readings) unsoon (omega arith) (h.soon caller);
       causes = causes_last (terms_of start) s.readings events s.calls l h.causes cause;
       count = h.count ∙ ap (λ (m : ℕ). 2 * length now.records + count_in_flight o + m) (sym same);
     }
   where
-    none_soon : (r : Reply) (l : CallLine) → is_too_soon r ≡ false → length (soon_lines (record l { reply = r } ∷ [])) ≡ 0
+    none_soon : (r : Reply) (l : CallLine) → is_too_soon r ≡ false → length (soon_lines (record l { reply = Some r } ∷ [])) ≡ 0
     none_soon r l e = rw e refl
 
 -- less is left of the hold of a command in flight
@@ -155,10 +162,10 @@ pub rest_point : (start : ChannelStart) (now : ChannelState) (p : InFlight) (lef
     → let q : InFlight = record p { left = left } in Point start s (record now { in_flight = Some q }) (Some q) events
 rest_point start now p left s events h =
     let q : InFlight = record p { left = left } in
-    record { are = h.are; notes = h.notes; taken = h.taken; added = h.added; pair = both_rest p q s.flight h.pair; after = h.after; posts = h.posts; few = h.few; read = h.read; rise = h.rise; own = h.own; soon = h.soon; causes = h.causes; count = h.count }
+    record { are = h.are; notes = h.notes; taken = h.taken; added = h.added; pair = both_rest p q s.flight h.pair; after = h.after; posts = h.posts; few = h.few; read = h.read; rise = h.rise; ended = h.ended; own = h.own; soon = h.soon; causes = h.causes; count = h.count }
 
 -- the clock is moved up
 pub wait_point : (start : ChannelStart) (now : ChannelState) (o : Option InFlight) (n : ℕ) (s : ChannelLog) (events : List Event) → Point start s now o events
     → Point start (record s { added = s.added + n }) (record now { added = now.added + n }) o events
 wait_point start now o n s events h =
-    record { are = h.are; notes = h.notes; taken = h.taken; added = ap (λ (a : ℕ). a + n) h.added; pair = h.pair; after = h.after; posts = h.posts; few = h.few; read = h.read; rise = h.rise; own = h.own; soon = h.soon; causes = h.causes; count = h.count }
+    record { are = h.are; notes = h.notes; taken = h.taken; added = ap (λ (a : ℕ). a + n) h.added; pair = h.pair; after = h.after; posts = h.posts; few = h.few; read = h.read; rise = h.rise; ended = h.ended; own = h.own; soon = h.soon; causes = h.causes; count = h.count }

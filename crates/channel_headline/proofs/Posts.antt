@@ -14,18 +14,20 @@ use Rattle.pcc_journal.specs.declared.note.Note.{Note}
 use Rattle.pcc_journal.specs.Records.{times_of, times_of_record}
 use Rattle.pcc_journal.specs.Events.{Event, Answered as AnsweredEvent, Drained, Lost, Noted, NotedPending, completed_of, events_of, noted, post_count, posted_of, posted_of_pending}
 use Rattle.pcc_journal.proofs.EventsGrow.{last as events_last, noted_last, posted as events_posted, post_count-append}
+use Rattle.channel_core.specs.Refusals as refusals
+use Rattle.channel_core.specs.declared.answers.CallRefusal.TheVariants as refusal
 use Rattle.channel_turns.specs.Replies.{Reply, Done, BadCode, TooLong, JournalFull, StillPending, TooSoon, TimedOut}
-use Rattle.channel_turns.specs.ChannelRuns.{Answered, Call, ChannelStart, ChannelState, InFlight, answer_behind, answer_call, answer_unless, completed, count_in_flight, exchange_with, has_byte_codes, journal_limit, next_reading, post_call, record_of, refusal_of}
+use Rattle.channel_turns.specs.ChannelRuns.{Answered, Call, ChannelStart, ChannelState, InFlight, answer_behind, answer_call, answer_unless, completed, count_in_flight, exchange_with, journal_limit, next_reading, post_call, record_of}
 use Rattle.channel_headline.specs.After.{After, IsReading, after_event, after_events, before_all, numbers_in}
 use Rattle.channel_headline.specs.Causes.{AllCaused, IsBlocked, IsFull, IsTooSoon, Past, Terms}
 use Rattle.channel_headline.specs.ChannelLog.{ChannelLog, drained, line_of, logged, reading_at, with_drained, with_reply}
-use Rattle.channel_headline.specs.Lines.{CallLine, line_refusal, mine_of, soon_lines, soon_numbers}
+use Rattle.channel_headline.specs.Lines.{CallLine, mine_of, soon_lines, soon_numbers}
 use Rattle.channel_headline.specs.Matches.{Placed, own_calls, placed}
 use Rattle.channel_headline.specs.Runs.{terms_of}
 use Rattle.channel_headline.proofs.Growing.{after-append, all_last, all_read, match_more, match_quiet, one_match, reading_first, reading_second, rise_events, rise_higher, soon_count, soon_more, soon_other}
-use Rattle.channel_headline.proofs.Histories.{choose, decide}
+use Rattle.channel_headline.proofs.Histories.{choose, decide, refusal_is}
 use Rattle.channel_headline.proofs.Owned.{own_length}
-use Rattle.channel_headline.proofs.Points.{Point, both_none, both_some, causes_last, causes_more, drained_at, from_zero, line_point, next_is, rest_point}
+use Rattle.channel_headline.proofs.Points.{Point, both_none, both_some, causes_last, causes_more, drained_at, ends_last, from_zero, line_point, next_is, rest_point}
 
 -- the command of a call that is posted now
 abbrev command_of : ChannelStart → Call → ChannelState → Pending
@@ -33,7 +35,7 @@ command_of start call now = record { caller = call.caller; code = call.code; inp
 
 -- no call line of this kind is refused by itself
 abbrev Passes : ChannelStart → Call → Type 0
-Passes start call = line_refusal start.head.kind start.head.room call.code (length call.bytes) ≡ None
+Passes start call = refusals.refusal_of start.head.kind start.head.room call.code (length call.bytes) 0 ≡ None
 
 -- some events are those of the log and the channel
 pub record Reached (start : ChannelStart) (s : ChannelLog) (now : ChannelState) (o : Option InFlight) : Type 0 where
@@ -93,6 +95,7 @@ answered_point start call now s events passes room h =
         read = all_last rs events e (all_read s.readings (v ∷ w ∷ []) events h.read)
             (subst R is (subst S (from_zero k) (reading_first s.readings v (w ∷ []))), subst Q is_too (subst U (from_zero (k + 1)) (reading_second s.readings v w [])));
         rise = rise_events 0 events e k (length rs) h.rise (omega arith, (omega arith, omega (arith, long)));
+        ended = ends_last s.calls l h.ended tt;
         own = λ caller. match_more caller (before_all start.opening) s.calls events l e (h.own caller) (one_match (call.caller == caller) l p ((refl, refl, input), refl, refl));
         soon = λ caller. soon_other caller s.calls l k (length rs) refl le (h.soon caller);
         causes = causes_last t rs (events ++ e ∷ []) s.calls l (causes_more t s.readings (v ∷ w ∷ []) events (e ∷ []) s.calls h.causes) passes;
@@ -141,6 +144,7 @@ timed_out_point start call now left s events passes room h =
         few = omega (arith, counted, room);
         read = all_last rs events e (all_read s.readings (v ∷ []) events h.read) (subst R is (subst S (from_zero k) (reading_first s.readings v [])));
         rise = rise_events 0 events e k (length rs) h.rise (omega arith, omega (arith, long));
+        ended = ends_last s.calls l h.ended tt;
         own = λ caller. match_more caller (before_all start.opening) s.calls events l e (h.own caller) (one_match (call.caller == caller) l p ((refl, refl, input), refl, refl));
         soon = λ caller. soon_other caller s.calls l k (length rs) refl le (h.soon caller);
         causes = causes_last t rs (events ++ e ∷ []) s.calls l (causes_more t s.readings (v ∷ []) events (e ∷ []) s.calls h.causes) passes;
@@ -195,6 +199,7 @@ too_soon_point start call now s events passes below h =
         few = h.few;
         read = all_read s.readings (v ∷ []) events h.read;
         rise = rise_higher 0 (numbers_in events) k (length rs) h.rise le;
+        ended = ends_last s.calls l h.ended tt;
         own = λ caller. match_quiet caller s.calls l (own_calls caller (placed (before_all start.opening) events)) refl (h.own caller);
         soon = λ caller. rise_higher 0 (soon_numbers caller (s.calls ++ l ∷ [])) (k + 1) (length rs) (soon_more caller s.calls l k refl refl (h.soon caller)) to;
         causes = causes_last t rs events s.calls l causes (passes, cause);
@@ -242,7 +247,7 @@ behind_reached start call now (Some p) s events is passes room h =
 
 -- by a code, by too many bytes, or by a full journal
 unless_reached : (start : ChannelStart) (call : Call) (now : ChannelState) (s : ChannelLog) (events : List Event) (bad long full : Bool)
-    → line_refusal start.head.kind start.head.room call.code (length call.bytes) ≡ cond bad (Some (BadCode call.code)) (cond long (Some (TooLong (length call.bytes) start.head.room)) None)
+    → refusals.refusal_of start.head.kind start.head.room call.code (length call.bytes) 0 ≡ cond bad (Some (refusal.BadCode call.code)) (cond long (Some (refusal.TooLong (length call.bytes) start.head.room)) None)
     → (full ≡ true → MAX_ITEMS ≤ post_count events) → (full ≡ false → post_count events < MAX_ITEMS) → Point start s now now.in_flight events
     → let a = answer_unless start call now (cond bad (Some (BadCode call.code)) (cond long (Some (TooLong (length call.bytes) start.head.room)) (cond full (Some JournalFull) None))) in
     Reached start (logged start.clock call a.reply s) a.now a.now.in_flight
@@ -258,17 +263,10 @@ unless_reached start call now s events false false true by most room h =
     record { events = events; point = line_point start call JournalFull now now.in_flight s events refl refl (by, cause) h }
 unless_reached start call now s events false false false by most room h = behind_reached start call now now.in_flight s events refl by (room refl) h
 
--- the tests of a call, one after the other
-refusal_is : (start : ChannelStart) (call : Call) (now : ChannelState)
-    → refusal_of start.head call now ≡ cond (has_byte_codes start.head.kind && nat_lt 255 call.code) (Some (BadCode call.code))
-    (cond (nat_lt start.head.room (length call.bytes)) (Some (TooLong (length call.bytes) start.head.room))
-    (cond (nat_le journal_limit (length now.records + count_in_flight now.in_flight)) (Some JournalFull) None))
-refusal_is start call now = refl
-
 pub call_reached : (start : ChannelStart) (call : Call) (now : ChannelState) (s : ChannelLog) → Reached start s now now.in_flight
     → let a = answer_call start call now in Reached start (logged start.clock call a.reply s) a.now a.now.in_flight
 call_reached start call now s h =
-    let bad : Bool = has_byte_codes start.head.kind && nat_lt 255 call.code in
+    let bad : Bool = refusals.has_byte_codes start.head.kind && nat_lt 255 call.code in
     let long : Bool = nat_lt start.head.room (length call.bytes) in
     let posts : ℕ = length now.records + count_in_flight now.in_flight in
     let full : Bool = nat_le journal_limit posts in

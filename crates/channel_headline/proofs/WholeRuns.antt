@@ -18,7 +18,7 @@ use Rattle.channel_headline.specs.After.{IsRead, Rise, numbers_in}
 use Rattle.channel_headline.specs.Causes.{AllCaused, Terms}
 use Rattle.channel_headline.specs.ChannelLog.{ChannelLog, drained, empty_log, line_of, log_from, log_of, logged, with_drained}
 use Rattle.channel_headline.specs.Headline.{Headline, NotedJournal, journal_events, pending_count, pending_post}
-use Rattle.channel_headline.specs.Lines.{CallLine, asked_by, is_post, soon_lines}
+use Rattle.channel_headline.specs.Lines.{AreEnded, CallLine, HasReply, asked_by, soon_lines, was_posted}
 use Rattle.channel_headline.specs.Matches.{Tied}
 use Rattle.channel_headline.specs.Runs.{Calls, ChannelRun, ChannelStep, HeadlineOf, Waits, journal_of, run_from, terms_of}
 use Rattle.channel_headline.proofs.Histories.{Kept, added_by, call_keeps, front, nothing_kept, wait_keeps}
@@ -31,12 +31,12 @@ one_asked : (b : Bool) (l : CallLine) → map (λ (x : CallLine). x.bytes) (cond
 one_asked true l = refl
 one_asked false l = refl
 
-asked_more : (lines : List CallLine) (l : CallLine) → asked_by (lines ++ l ∷ []) ≡ asked_by lines ++ added_by l.reply l.bytes
+asked_more : (lines : List CallLine) (l : CallLine) → asked_by (lines ++ l ∷ []) ≡ asked_by lines ++ cond (was_posted l.reply) (l.bytes ∷ []) []
 asked_more lines l =
-    let posted : CallLine → Bool = λ x. is_post x.reply in
+    let posted : CallLine → Bool = λ x. was_posted x.reply in
     ap (λ (v : List CallLine). map (λ (x : CallLine). x.bytes) v) (filter-append posted lines (l ∷ []))
     ∙ map-append (λ (x : CallLine). x.bytes) (filter posted lines) (filter posted (l ∷ []))
-    ∙ ap (λ (v : List (List ℕ)). asked_by lines ++ v) (one_asked (is_post l.reply) l)
+    ∙ ap (λ (v : List (List ℕ)). asked_by lines ++ v) (one_asked (was_posted l.reply) l)
 
 -- a completion leaves the lines
 drained_calls : (start : ChannelStart) (s : ChannelLog) (f : Option Note) → (with_drained start.clock s f).calls ≡ s.calls
@@ -77,7 +77,7 @@ reached_run start (Calls c ∷ steps) now s h = let a : Answered = answer_call s
 nothing_reached : (start : ChannelStart) → Reached start empty_log (fresh start) None
 nothing_reached start = record {
   events = [];
-  point = record { are = refl; notes = refl; taken = refl; added = refl; pair = tt; after = refl; posts = refl; few = omega arith; read = tt; rise = omega arith; own = λ caller. tt; soon = λ caller. omega arith; causes = tt; count = refl };
+  point = record { are = refl; notes = refl; taken = refl; added = refl; pair = tt; after = refl; posts = refl; few = omega arith; read = tt; rise = omega arith; ended = tt; own = λ caller. tt; soon = λ caller. omega arith; causes = tt; count = refl };
 }
 
 -- ---- from what holds to the headline
@@ -94,6 +94,11 @@ kept_count (Some p) (Some n) = refl
 
 kept_length : (rs : List Record) (ns : List Note) → length (noted rs ns) ≡ length rs
 kept_length rs ns = sym (length-map (noted rs ns) (λ (n : Noted). n.entry)) ∙ ap (λ (v : List Record). length v) (noted_records rs ns)
+
+all_ended : (ls : List CallLine) → AllByRecursion (λ l. HasReply l.reply) ls → AreEnded ls
+all_ended [] h = tt
+all_ended (l ∷ []) h = tt
+all_ended (l ∷ m ∷ ls) h = (h.0, all_ended (m ∷ ls) h.1)
 
 headline_is : (start : ChannelStart) (now : ChannelState) (s : ChannelLog) → Kept start now (asked_by s.calls) → Reached start s now now.in_flight
     → Headline (terms_of start) s.readings (take (length now.records) (asked_by s.calls)) s.calls (journal_of s now)
@@ -123,6 +128,7 @@ headline_is start now s k h =
       whole = subst V (sym records) (subst W (sym same) k.recorded.whole);
       within = subst R (sym records) (subst O (sym (kept_post now.in_flight s.flight)) k.limits);
       most = subst Most (sym are) p.few;
+      ended = all_ended s.calls p.ended;
       tied = subst Ties (sym are) (record { own = p.own });
       causes = subst Causes (sym are) p.causes;
       read = subst Read (sym are) p.read;

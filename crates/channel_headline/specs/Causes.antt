@@ -5,9 +5,12 @@ use Rattle.rate_limit.specs.declared.Limits.{Limits}
 use Rattle.rate_limit.specs.RateLimits.{earliest_of}
 use Rattle.pcc_journal.specs.declared.reserved.TheConstants.{MAX_ITEMS}
 use Rattle.pcc_journal.specs.Events.{Event, calls_of, post_count}
+use Rattle.channel_core.specs.Refusals.{refusal_of}
+use Rattle.channel_core.specs.declared.answers.CallRefusal.{CallRefusal}
+use Rattle.channel_core.specs.declared.answers.CallRefusal.TheVariants as refusal
 use Rattle.channel_turns.specs.Replies.{Reply, BadCode, TooLong, JournalFull, StillPending, TooSoon}
 use Rattle.channel_headline.specs.After.{IsReading, Rise, after_events, numbers_in}
-use Rattle.channel_headline.specs.Lines.{CallLine, line_refusal, mine_of}
+use Rattle.channel_headline.specs.Lines.{CallLine, mine_of}
 
 -- how a channel begins: its type, the room of its space, its device in a state, the space, whether it reports errors, its limits, and how many
 -- readings its clock gave before
@@ -21,9 +24,9 @@ pub record Terms : Type 0 where
   pub limits : Limits
   pub before : ℕ
 
--- what refuses a line by itself
-abbrev pub own_refusal : Terms → CallLine → Option Reply
-own_refusal t l = line_refusal t.kind t.room l.code (length l.bytes)
+-- what refuses a line by itself, before any command is posted
+abbrev pub own_refusal : Terms → CallLine → Option CallRefusal
+own_refusal t l = refusal_of t.kind t.room l.code (length l.bytes) 0
 
 -- the events until some moment at which just the earlier lines of the line's caller had been posted
 pub record Past (events : List Event) (earlier : List CallLine) (l : CallLine) : Type 0 where
@@ -54,12 +57,12 @@ pub record IsTooSoon (t : Terms) (readings : List ℕ) (events : List Event) (ea
   pub above : Rise t.before (numbers_in moment.past) l.number
 
 -- A line that is refused by itself is answered so, and no other line is. `still pending` names the polls of the line.
-abbrev pub HasCause : Terms → List ℕ → List Event → List CallLine → CallLine → Reply → Type 0
-HasCause t readings events earlier l (BadCode code) = own_refusal t l ≡ Some (BadCode code)
-HasCause t readings events earlier l (TooLong len room) = own_refusal t l ≡ Some (TooLong len room)
-HasCause t readings events earlier l JournalFull = (own_refusal t l ≡ None) × IsFull events earlier l
-HasCause t readings events earlier l (StillPending looks) = (own_refusal t l ≡ None) × (looks ≡ l.polls) × IsBlocked t.opening events earlier l
-HasCause t readings events earlier l (TooSoon now earliest) = (own_refusal t l ≡ None) × IsTooSoon t readings events earlier l now earliest
+abbrev pub HasCause : Terms → List ℕ → List Event → List CallLine → CallLine → Option Reply → Type 0
+HasCause t readings events earlier l (Some (BadCode code)) = own_refusal t l ≡ Some (refusal.BadCode code)
+HasCause t readings events earlier l (Some (TooLong len room)) = own_refusal t l ≡ Some (refusal.TooLong len room)
+HasCause t readings events earlier l (Some JournalFull) = (own_refusal t l ≡ None) × IsFull events earlier l
+HasCause t readings events earlier l (Some (StillPending looks)) = (own_refusal t l ≡ None) × (looks ≡ l.polls) × IsBlocked t.opening events earlier l
+HasCause t readings events earlier l (Some (TooSoon now earliest)) = (own_refusal t l ≡ None) × IsTooSoon t readings events earlier l now earliest
 HasCause t readings events earlier l _ = own_refusal t l ≡ None
 
 -- each line, with those before it

@@ -35,7 +35,7 @@ abbrev pub drained : ScriptClock → ChannelLog → ChannelLog
 drained clock s = with_drained clock s s.flight
 
 abbrev pub line_of : Call → Reply → ℕ → CallLine
-line_of c reply number = record { caller = c.caller; code = c.code; bytes = c.bytes; polls = c.polls; reply = reply; number = number }
+line_of c reply number = record { caller = c.caller; code = c.code; bytes = c.bytes; polls = c.polls; reply = Some reply; number = number }
 
 -- Nothing is in flight, and a call is answered: `ok` and `error` took two readings, `timed out` and `too soon` one. Other replies took none.
 abbrev pub with_reply : ScriptClock → Call → Reply → ChannelLog → ChannelLog

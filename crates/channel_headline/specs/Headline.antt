@@ -9,7 +9,7 @@ use Rattle.pcc_journal.specs.Records.{exchanges_of, times_of}
 use Rattle.pcc_journal.specs.Events.{Event, Noted, NotedPending, events_of, post_count, records_of}
 use Rattle.channel_headline.specs.After.{IsRead, Rise, numbers_in}
 use Rattle.channel_headline.specs.Causes.{AllCaused, Terms}
-use Rattle.channel_headline.specs.Lines.{CallLine, soon_lines, soon_numbers}
+use Rattle.channel_headline.specs.Lines.{AreEnded, CallLine, soon_lines, soon_numbers}
 use Rattle.channel_headline.specs.Matches.{Tied}
 
 -- the records, the first one first, each with its note, and the command that is pending
@@ -30,14 +30,15 @@ abbrev pub journal_events : Terms → NotedJournal → List Event
 journal_events t j = events_of t.before j.entries j.pending
 
 -- The records are one legal history of the channel as one thread sees it. Each command was sent whole, with the bytes asked. The posts are
--- within the limits, that of the pending command included, and there are 4,096 at most. The calls of each caller match its lines, and the reply
--- of each line has its cause. Posts and completions are the clock's readings with their numbers, which rise; so do the numbers of each
--- caller's replies `too soon`; and the clock gave no other readings.
+-- within the limits, that of the pending command included, and there are 4,096 at most. At most the last line has no reply. The calls of each
+-- caller match its lines, and the reply of each line has its cause. Posts and completions are the clock's readings with their numbers, which
+-- rise; so do the numbers of each caller's replies `too soon`; and the clock gave no other readings.
 pub record Headline (t : Terms) (readings : List ℕ) (asked : List (List ℕ)) (lines : List CallLine) (j : NotedJournal) : Type 0 where
   pub legal : Legal t.device t.reports t.state (exchanges_of (records_of j.entries))
   pub whole : WholeHistory t.opening (exchanges_of (records_of j.entries)) asked
   pub within : WithinLimits t.limits (times_of (records_of j.entries)) (pending_post j.pending)
   pub most : post_count (journal_events t j) ≤ MAX_ITEMS
+  pub ended : AreEnded lines
   pub tied : Tied t.opening lines (journal_events t j)
   pub causes : AllCaused t readings (journal_events t j) lines
   pub read : AllByRecursion (IsRead readings) (journal_events t j)

@@ -1,5 +1,5 @@
 -- Lines and events, one for one.
-use Rattle.std.specs.Prelude.{◌≡◌, ℕ, List, [], ◌∷◌}
+use Rattle.std.specs.Prelude.{◌≡◌, ℕ, List, [], ◌∷◌, Option, Some, None}
 use Rattle.std.specs.List.{filter}
 use Rattle.pcc_history.specs.Channel.{over}
 use Rattle.pcc_journal.specs.Events.{Event, Answered, Lost, Posted, is_call_of}
@@ -25,10 +25,12 @@ own_calls caller ps = filter (λ p. is_call_of caller p.event) ps
 abbrev pub IsPostOf : CallLine → List ℕ → Posted → Type 0
 IsPostOf l before p = (p.caller ≡ l.caller) × (p.code ≡ l.code) × (p.input ≡ over before l.bytes)
 
--- `ok` or `error` matches an answer with that error and output; `timed out` matches a loss after as many looks as the line has polls
-abbrev pub Matches : CallLine → List ℕ → Reply → Event → Type 0
-Matches l before (Done error output) (Answered p c) = IsPostOf l before p × (c.error ≡ error) × (c.output ≡ output)
-Matches l before (TimedOut looks) (Lost p n) = IsPostOf l before p × (looks ≡ l.polls) × (n ≡ looks)
+-- `ok` or `error` matches an answer with that error and output; `timed out` matches a loss after as many looks as the line has polls; no reply
+-- matches a loss that nobody has given up
+abbrev pub Matches : CallLine → List ℕ → Option Reply → Event → Type 0
+Matches l before (Some (Done error output)) (Answered p c) = IsPostOf l before p × (c.error ≡ error) × (c.output ≡ output)
+Matches l before (Some (TimedOut looks)) (Lost p n) = IsPostOf l before p × (looks ≡ l.polls) × (n ≡ looks)
+Matches l before None (Lost p n) = IsPostOf l before p × (n ≡ 0)
 Matches l before _ _ = ⊥
 
 -- one line for each event, in one order

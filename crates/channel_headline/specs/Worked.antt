@@ -9,6 +9,7 @@ use Rattle.channel_turns.specs.Replies.{Reply, Done, TimedOut}
 use Rattle.channel_turns.specs.ChannelRuns.{Call, ChannelStart, InFlight, fresh}
 use Rattle.channel_headline.specs.ChannelLog.{ChannelLine, Called, log_of}
 use Rattle.channel_headline.specs.Headline.{Headline}
+use Rattle.channel_headline.specs.Lines.{CallLine}
 use Rattle.channel_headline.specs.Runs.{Calls, ChannelRun, HeadlineOf, Waits, run_from, terms_of}
 
 abbrev pub bank : ℕ → ChannelStart
@@ -29,7 +30,8 @@ swapped caller bytes reply = Called (swap caller bytes 0) reply
 
 -- the record of a swap
 abbrev pub kept : ℕ → List ℕ → List ℕ → ℕ → ℕ → Bool → Record
-kept caller input output post done late = record { caller = caller; code = 16; input = input; error = false; output = output; post = post; done = done; late = late }
+kept caller input output post done late =
+    record { caller = caller; code = 16; input = input; error = false; output = output; post = post; done = done; late = late }
 
 abbrev pub ok : List ℕ → Reply
 ok output = Done false output
@@ -40,7 +42,8 @@ flying (Some p) = Some (record { command = p; left = 0 })
 
 -- a journal of these records and a pending command keeps the headline with these lines
 abbrev pub KeepsWith : ℕ → List ChannelLine → List Record → Option Pending → Type 0
-KeepsWith turnaround lines records pending = HeadlineOf (bank turnaround) lines (record (fresh (bank turnaround)) { records = records; in_flight = flying pending })
+KeepsWith turnaround lines records pending =
+    HeadlineOf (bank turnaround) lines (record (fresh (bank turnaround)) { records = records; in_flight = flying pending })
 
 abbrev pub Keeps : List ChannelLine → List Record → Option Pending → Type 0
 Keeps = KeepsWith 0
@@ -66,6 +69,13 @@ lost_command = record { caller = 0; code = 16; input = 1 ∷ 0 ∷ []; post = 0 
 abbrev pub note_at : ℕ → ℕ → ℕ → Note
 note_at post done looks = record { post_at = post; done_at = done; looks = looks }
 
+-- a call that was posted and hasn't ended, and the headline with such lines
+abbrev pub open_line : CallLine
+open_line = record { caller = 0; code = 16; bytes = 1 ∷ []; polls = 3; reply = None; number = 0 }
+
+abbrev pub KeepsOpen : List CallLine → Option Pending → Option Note → Type 0
+KeepsOpen calls pending note = Headline (terms_of (bank 0)) (0 ∷ []) [] calls (record { entries = []; pending = noted_pending pending note })
+
 -- ---- runs
 
 -- a swap that is held for all of its polls, and one that completes it first
@@ -74,4 +84,5 @@ late_run = run_from (bank 0) (fresh (bank 0)) (Calls (swap 0 (1 ∷ []) 3) ∷ C
 
 -- a swap, one that is too soon, a wait, and one that isn't
 abbrev pub soon_run : ChannelRun
-soon_run = run_from (bank 500) (fresh (bank 500)) (Calls (swap 0 (1 ∷ []) 0) ∷ Calls (swap 0 (2 ∷ []) 0) ∷ Waits 480 ∷ Calls (swap 0 (3 ∷ []) 0) ∷ [])
+soon_run =
+    run_from (bank 500) (fresh (bank 500)) (Calls (swap 0 (1 ∷ []) 0) ∷ Calls (swap 0 (2 ∷ []) 0) ∷ Waits 480 ∷ Calls (swap 0 (3 ∷ []) 0) ∷ [])

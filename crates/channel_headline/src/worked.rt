@@ -2,12 +2,13 @@
 ghost use Rattle.std.specs.Prelude.{◌≡◌, [], ◌∷◌, Some, None, false, true};
 ghost use Rattle.channel_turns.specs.Replies.{BadCode, JournalFull, StillPending, TimedOut, TooLong, TooSoon};
 ghost use Rattle.channel_headline.specs.ChannelLog.{Called, Waited, line_of, log_of};
-ghost use Rattle.channel_headline.specs.Worked.{Keeps, KeepsNoted, KeepsWith, bank, first_line, first_record, kept, late_run, lost_command, lost_line, note_at, ok, soon_run, swap, swapped};
+ghost use Rattle.channel_headline.specs.Worked.{Keeps, KeepsNoted, KeepsOpen, KeepsWith, bank, first_line, first_record, kept, late_run, lost_command, lost_line, note_at, ok, open_line, soon_run, swap, swapped};
 
 /// What the lines of two runs say of their readings and notes. It does nothing.
 pub fn worked_logs()
     ensures late_lines { late_run.lines ≡ (Called (swap 0 (1 ∷ []) 3) (TimedOut 3)) ∷ swapped 1 (2 ∷ []) (ok (1 ∷ 0 ∷ [])) ∷ [] }
-    ensures late_records { late_run.now.records ≡ kept 0 (1 ∷ 0 ∷ []) (0 ∷ 0 ∷ []) 0 10 true ∷ kept 1 (2 ∷ 0 ∷ []) (1 ∷ 0 ∷ []) 20 30 false ∷ [] }
+    ensures late_records { late_run.now.records ≡ kept 0 (1 ∷ 0 ∷ []) (0 ∷ 0 ∷ []) 0 10 true
+        ∷ kept 1 (2 ∷ 0 ∷ []) (1 ∷ 0 ∷ []) 20 30 false ∷ [] }
     ensures late_log { log_of (bank 0).clock late_run.lines ≡ record {
       added = 0;
       readings = 0 ∷ 10 ∷ 20 ∷ 30 ∷ [];
@@ -20,8 +21,14 @@ pub fn worked_logs()
       readings = 0 ∷ 10 ∷ 20 ∷ 510 ∷ 520 ∷ [];
       notes = note_at 0 1 0 ∷ note_at 3 4 0 ∷ [];
       flight = None;
-      calls = line_of (swap 0 (1 ∷ []) 0) (ok (0 ∷ 0 ∷ [])) 0 ∷ line_of (swap 0 (2 ∷ []) 0) (TooSoon 20 510) 2 ∷ line_of (swap 0 (3 ∷ []) 0) (ok (1 ∷ 0 ∷ [])) 0 ∷ [];
+      calls = line_of (swap 0 (1 ∷ []) 0) (ok (0 ∷ 0 ∷ [])) 0 ∷ line_of (swap 0 (2 ∷ []) 0) (TooSoon 20 510) 2
+          ∷ line_of (swap 0 (3 ∷ []) 0) (ok (1 ∷ 0 ∷ [])) 0 ∷ [];
     } }
+{}
+
+/// A journal that keeps the headline while its one call hasn't ended. It does nothing.
+pub fn worked_open()
+    ensures { KeepsOpen (open_line ∷ []) (Some lost_command) (Some (note_at 0 0 0)) }
 {}
 
 /// Journals and replies that don't keep the headline. It does nothing.
@@ -66,9 +73,17 @@ pub fn worked_lies()
     ensures invented_now { KeepsWith 500 (first_line ∷ swapped 0 (3 ∷ []) (TooSoon 25 510) ∷ []) (first_record ∷ []) None → ⊥ }
 
     // numbers of readings that fall
-    ensures falling_numbers { KeepsNoted ((1 ∷ 2 ∷ []) ∷ []) (first_line ∷ []) (kept 0 (1 ∷ 2 ∷ []) (0 ∷ 0 ∷ []) 10 0 false ∷ []) (note_at 1 0 0 ∷ []) None None → ⊥ }
+    ensures falling_numbers { KeepsNoted ((1 ∷ 2 ∷ []) ∷ []) (first_line ∷ [])
+        (kept 0 (1 ∷ 2 ∷ []) (0 ∷ 0 ∷ []) 10 0 false ∷ []) (note_at 1 0 0 ∷ []) None None → ⊥ }
     // a number that no reading has
     ensures unread_number { KeepsNoted ((1 ∷ 2 ∷ []) ∷ []) (first_line ∷ []) (first_record ∷ []) (note_at 0 2 0 ∷ []) None None → ⊥ }
+    // a call that was posted and hasn't ended, with no record and nothing pending
+    ensures open_vanished { KeepsOpen (open_line ∷ []) None None → ⊥ }
+    // looks of a command that nobody has given up
+    ensures open_looks { KeepsOpen (open_line ∷ []) (Some lost_command) (Some (note_at 0 0 3)) → ⊥ }
+    // two calls that haven't ended
+    ensures two_open { KeepsOpen (open_line ∷ open_line ∷ []) (Some lost_command) (Some (note_at 0 0 0)) → ⊥ }
+
     // a post that is not the clock's reading
     ensures invented_post { Keeps (first_line ∷ []) (kept 0 (1 ∷ 2 ∷ []) (0 ∷ 0 ∷ []) 5 10 false ∷ []) None → ⊥ }
 {}

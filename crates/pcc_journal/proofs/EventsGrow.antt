@@ -5,7 +5,7 @@ use Rattle.std.proofs.lemmas.List.{append_assoc, append-nil}
 use Rattle.std.proofs.lemmas.List.Concat.{flat_map-append}
 use Rattle.pcc_journal.specs.declared.record.Record.{Record}
 use Rattle.pcc_journal.specs.declared.note.Note.{Note}
-use Rattle.pcc_journal.specs.Events.{Event, Drained, Lost, Posted, Completed, Noted, NotedPending, blank_note, completed_of, completion_events, events_of, events_of_pending, events_of_record, noted, notes_of, post_count, posted_of, posted_of_pending, records_of}
+use Rattle.pcc_journal.specs.Events.{Event, Drained, Lost, Posted, Completed, Noted, NotedPending, completed_of, completion_events, events_of, events_of_pending, events_of_record, noted, notes_of, post_count, posted_of, posted_of_pending, records_of}
 
 -- ---- pairs
 

@@ -5,7 +5,7 @@ use Rattle.channel_headline.specs.After.{after_events}
 use Rattle.std.proofs.lemmas.Option.{same_Some}
 use Rattle.pcc_journal.specs.Events.{Event, Answered, calls_of, post_count}
 use Rattle.pcc_journal.proofs.EventsGrow.{post_count-append}
-use Rattle.channel_turns.specs.Replies.{BadCode, TooLong}
+use Rattle.channel_core.specs.declared.answers.CallRefusal.TheVariants as refusal
 use Rattle.channel_headline.proofs.worked.worked_lies.Goals as goal
 
 apart : (m n : ℕ) → m < n → m ≡ n → ⊥
@@ -49,10 +49,10 @@ pub returns-clause-impatient : goal.returns-clause-impatient
 returns-clause-impatient c = λ h. apart 2 3 (omega arith) (h.tied.own 0).0.1
 
 pub returns-clause-refused_all : goal.returns-clause-refused_all
-returns-clause-refused_all c = λ h. something (BadCode 16) h.causes.0
+returns-clause-refused_all c = λ h. something (refusal.BadCode 16) h.causes.0
 
 pub returns-clause-short_enough : goal.returns-clause-short_enough
-returns-clause-short_enough c = λ h. something (TooLong 2 2) h.causes.0
+returns-clause-short_enough c = λ h. something (refusal.TooLong 2 2) h.causes.0
 
 pub returns-clause-other_bytes : goal.returns-clause-other_bytes
 returns-clause-other_bytes c = λ h. heads (1 ∷ 2 ∷ []) (9 ∷ 2 ∷ []) (omega arith) (h.tied.own 0).0.0.2
@@ -113,6 +113,15 @@ returns-clause-falling_numbers c = λ h. let le : 2 ≤ 0 = h.rise.1.0 in omega 
 
 pub returns-clause-unread_number : goal.returns-clause-unread_number
 returns-clause-unread_number c = λ h. let le : 3 ≤ 2 = h.rise.1.1 in omega (arith, le)
+
+pub returns-clause-open_vanished : goal.returns-clause-open_vanished
+returns-clause-open_vanished c = λ h. h.tied.own 0
+
+pub returns-clause-open_looks : goal.returns-clause-open_looks
+returns-clause-open_looks c = λ h. apart_below 3 0 (omega arith) (h.tied.own 0).0.1
+
+pub returns-clause-two_open : goal.returns-clause-two_open
+returns-clause-two_open c = λ h. h.ended.0
 
 pub returns-clause-invented_post : goal.returns-clause-invented_post
 returns-clause-invented_post c = λ h. apart 0 5 (omega arith) (same_Some 0 5 h.read.0.0)
