@@ -107,7 +107,8 @@ clears_after None n = n
 
 -- the asking end after a step that found this value
 abbrev pub asker_fed_at : AskStage → Asker → ℕ → Asker
-asker_fed_at st x v = let told = ask_told_at st x.m v in let a : Ask = ask_fed_at st x.m v in record x { m = a; done = done_after told x.done a; clears = clears_after told x.clears }
+asker_fed_at st x v = let told = ask_told_at st x.m v in let a : Ask = ask_fed_at st x.m v in
+    record x { m = a; done = done_after told x.done a; clears = clears_after told x.clears }
 
 abbrev pub asker_stepped : Asker → Asker
 asker_stepped x = record x { m = ask_stepped x.m }
@@ -125,7 +126,12 @@ answerer_stepped y = record y { m = answer_stepped y.m }
 module _ (exec : Device) where
   -- the device executes a command as soon as its block is loaded
   abbrev pub executed : Executed → Answerer → Answerer
-  executed e y = record { m = ran_with (record y.m { space = e.space }) e.bad; device = e.state; done = y.done ++ exchange_of exec y.m.wiring.reports y.device (answer_code y.m) y.m.space ∷ [] }
+  executed e y = record {
+    m = ran_with (record y.m { space = e.space }) e.bad;
+    device = e.state;
+    done = y.done
+        ++ exchange_of exec y.m.wiring.reports y.device (answer_code y.m) y.m.space ∷ [];
+  }
 
   abbrev pub settle_at : AnswerStage → Answerer → Answerer
   settle_at RunDevice y = executed (exec y.device (answer_code y.m) y.m.space) y
@@ -363,7 +369,17 @@ pub record Trail : Type 0 where
   pub sent : List ℕ
 
 abbrev pub trail : Asker → Trail
-trail x = record { wiring = x.m.wiring; opening = x.opening; done = x.done; asked = x.asked; space = x.m.space; shown = x.m.shown; code = x.m.code; input = x.m.input; sent = x.m.sent }
+trail x = record {
+  wiring = x.m.wiring;
+  opening = x.opening;
+  done = x.done;
+  asked = x.asked;
+  space = x.m.space;
+  shown = x.m.shown;
+  code = x.m.code;
+  input = x.m.input;
+  sent = x.m.sent;
+}
 
 -- what was drained, with the bytes that each command asked
 pub record IsDrained (t : Trail) (asked : List (List ℕ)) : Type 0 where

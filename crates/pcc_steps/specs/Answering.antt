@@ -187,7 +187,12 @@ answer_begun a = record a { stage = TakeLine; header = 0 }
 
 -- the device left its reply in the space
 abbrev pub ran_with : Answer → Bool → Answer
-ran_with a bad = record a { stage = ReplyBlock (heads_of (style_of a.wiring)); bad = bad; out = take (heads_of (style_of a.wiring)) a.loaded ++ words_of a.space }
+ran_with a bad = record a {
+  stage = ReplyBlock (heads_of (style_of a.wiring));
+  bad = bad;
+  out = take (heads_of (style_of a.wiring)) a.loaded
+      ++ words_of a.space;
+}
 
 abbrev pub answer_ran : Answer → ExecStatus → Answer
 answer_ran a status = ran_with a (is_bad status)

@@ -198,7 +198,13 @@ ask_told a v = ask_told_at a.stage a v
 
 -- the bytes are laid over the front of the space
 abbrev pub ask_begun : Ask → ℕ → List ℕ → Ask
-ask_begun a code bytes = record a { stage = PostBlock 0; code = code; input = over a.space bytes; sent = block_header (style_of a.wiring) a.wiring code (length bytes) ++ words_of (over a.space bytes) }
+ask_begun a code bytes = record a {
+  stage = PostBlock 0;
+  code = code;
+  input = over a.space bytes;
+  sent = block_header
+      (style_of a.wiring) a.wiring code (length bytes) ++ words_of (over a.space bytes);
+}
 
 abbrev pub ask_looking : Ask → Ask
 ask_looking a = record a { stage = LookWord }
@@ -207,7 +213,8 @@ abbrev pub ask_budgeted : Ask → ℕ → Ask
 ask_budgeted a polls = record a { budget = polls; looks = 0 }
 
 abbrev pub IsNewAsk : Ask → Wiring → List ℕ → Type 0
-IsNewAsk a w opening = (a.wiring ≡ w) × (a.stage ≡ AskRest) × (a.in_flight ≡ false) × (a.shown ≡ opening_header (style_of w) w ++ words_of opening) × (a.space ≡ opening)
+IsNewAsk a w opening = (a.wiring ≡ w) × (a.stage ≡ AskRest) × (a.in_flight ≡ false) ×
+    (a.shown ≡ opening_header (style_of w) w ++ words_of opening) × (a.space ≡ opening)
     × (a.sent ≡ a.shown) × (a.input ≡ opening) × (a.code ≡ 0) × (a.looks ≡ 0) × (a.budget ≡ 0) × (a.posts ≡ 0) × (a.steps ≡ 0)
 
 -- ---- what holds between two calls

@@ -19,16 +19,19 @@ use Rattle.pcc_steps.specs.Agree.{act, Finds, Asker, Answerer, new_asker, asker_
 
 -- two new machines, over the opening content
 abbrev pub StartsAgreed : Type 0
-StartsAgreed = (exec : Device) (start : List ℕ) (w : Wiring) (opening : List ℕ) (a : Ask) (b : Answer) → IsNewAsk a w opening → IsNewAnswer b w → AskOk a → AnswerOk b → IsBytes opening
+StartsAgreed = (exec : Device) (start : List ℕ) (w : Wiring) (opening : List ℕ) (a : Ask) (b : Answer) → IsNewAsk a w opening
+    → IsNewAnswer b w → AskOk a → AnswerOk b → IsBytes opening
     → Agree exec start (opening_words w (words_of opening)) (new_asker a opening) (record { m = b; device = start; done = [] })
 
 -- a word step of the asking end, whatever it finds in its word
 abbrev pub AskStepAgrees : Type 0
-AskStepAgrees = (exec : Device) (start ws : List ℕ) (x : Asker) (y : Answerer) (v : ℕ) → Agree exec start ws x y → Finds (ask_next x.m) ws v → v < 2 ^ 64 → Agree exec start (act (ask_next x.m) ws) (asker_fed x v) y
+AskStepAgrees = (exec : Device) (start ws : List ℕ) (x : Asker) (y : Answerer) (v : ℕ) → Agree exec start ws x y → Finds (ask_next x.m) ws v
+    → v < 2 ^ 64 → Agree exec start (act (ask_next x.m) ws) (asker_fed x v) y
 
 -- a post is begun
 abbrev pub PostBeginAgrees : Type 0
-PostBeginAgrees = (exec : Device) (start ws : List ℕ) (x : Asker) (y : Answerer) (code : ℕ) (bytes : List ℕ) → x.m.stage ≡ AskRest → x.m.in_flight ≡ false → length bytes ≤ x.m.wiring.room → x.m.posts < 4096 → (IsHeaded x.m.wiring.kind → code < 256) → code < 2 ^ 32 → IsBytes bytes
+PostBeginAgrees = (exec : Device) (start ws : List ℕ) (x : Asker) (y : Answerer) (code : ℕ) (bytes : List ℕ) → x.m.stage ≡ AskRest
+    → x.m.in_flight ≡ false → length bytes ≤ x.m.wiring.room → x.m.posts < 4096 → (IsHeaded x.m.wiring.kind → code < 256) → code < 2 ^ 32 → IsBytes bytes
     → Agree exec start ws x y → Agree exec start ws (asker_begun x code bytes) y
 
 -- a look is begun
@@ -38,11 +41,13 @@ LookBeginAgrees = (exec : Device) (start ws : List ℕ) (x : Asker) (y : Answere
 
 -- a budget is set
 abbrev pub BudgetAgrees : Type 0
-BudgetAgrees = (exec : Device) (start ws : List ℕ) (x : Asker) (y : Answerer) (polls : ℕ) → x.m.stage ≡ AskRest → Agree exec start ws x y → Agree exec start ws (record x { m = ask_budgeted x.m polls }) y
+BudgetAgrees = (exec : Device) (start ws : List ℕ) (x : Asker) (y : Answerer) (polls : ℕ) → x.m.stage ≡ AskRest → Agree exec start ws x y
+    → Agree exec start ws (record x { m = ask_budgeted x.m polls }) y
 
 -- an answering run is begun
 abbrev pub AnswerBeginAgrees : Type 0
-AnswerBeginAgrees = (exec : Device) (start ws : List ℕ) (x : Asker) (y : Answerer) → y.m.stage ≡ AnswerRest → Agree exec start ws x y → Agree exec start ws x (record y { m = answer_begun y.m })
+AnswerBeginAgrees = (exec : Device) (start ws : List ℕ) (x : Asker) (y : Answerer) → y.m.stage ≡ AnswerRest → Agree exec start ws x y
+    → Agree exec start ws x (record y { m = answer_begun y.m })
 
 -- a word step of the answering end, whatever it finds in its word; the step that loads the last word of the block executes too
 abbrev pub AnswerStepAgrees : Device → (List ℕ → Type 0) → (List ℕ → ℕ) → Type 0
@@ -51,11 +56,14 @@ AnswerStepAgrees exec is_state room_of = (start ws : List ℕ) (x : Asker) (y : 
 
 -- the device stays in a state that it can be in, for the same room
 abbrev pub DeviceStays : Device → (List ℕ → Type 0) → (List ℕ → ℕ) → Type 0
-DeviceStays exec is_state room_of = (start ws : List ℕ) (x : Asker) (y : Answerer) → is_state start → room_of start ≡ x.m.wiring.room → Agree exec start ws x y → is_state y.device × (room_of y.device ≡ x.m.wiring.room)
+DeviceStays exec is_state room_of = (start ws : List ℕ) (x : Asker) (y : Answerer) → is_state start → room_of start ≡ x.m.wiring.room
+    → Agree exec start ws x y → is_state y.device × (room_of y.device ≡ x.m.wiring.room)
 
 -- the asking end's history is the answering end's, or all of it but the last exchange; the answering end's is legal
 abbrev pub HistoriesAgree : Type 0
-HistoriesAgree = (exec : Device) (start ws : List ℕ) (x : Asker) (y : Answerer) → Agree exec start ws x y → ((y.done ≡ x.done) ⊎ ((e : Exchange) × (y.done ≡ x.done ++ e ∷ []))) × Legal exec x.m.wiring.reports start y.done × (y.device ≡ state_after exec start y.done)
+HistoriesAgree = (exec : Device) (start ws : List ℕ) (x : Asker) (y : Answerer) → Agree exec start ws x y →
+    ((y.done ≡ x.done) ⊎ ((e : Exchange) × (y.done ≡ x.done ++ e ∷ []))) × Legal exec x.m.wiring.reports start y.done ×
+    (y.device ≡ state_after exec start y.done)
 
 -- ---- what the relation refuses of the command that is pending
 
@@ -98,8 +106,14 @@ RefusesOpening = (exec : Device) (start ws : List ℕ) (x : Asker) (y : Answerer
 
 -- where the step loaded the last word of the block, the answering end goes on with what the device leaves
 abbrev pub DeviceTurns : Type 0
-DeviceTurns = (exec : Device) (y : Answerer) (v : ℕ) → let a : Answer = answer_fed y.m v in a.stage ≡ RunDevice → let e = exec y.device (answer_code a) a.space in
-    answerer_fed exec y v ≡ record { m = ran_with (record a { space = e.space }) e.bad; device = e.state; done = y.done ++ exchange_of exec a.wiring.reports y.device (answer_code a) a.space ∷ [] }
+DeviceTurns = (exec : Device) (y : Answerer) (v : ℕ) → let a : Answer = answer_fed y.m v in a.stage ≡ RunDevice → let e = exec y.device
+    (answer_code a) a.space in
+    answerer_fed exec y v ≡ record {
+      m = ran_with (record a { space = e.space }) e.bad;
+      device = e.state;
+      done = y.done
+          ++ exchange_of exec a.wiring.reports y.device (answer_code a) a.space ∷ [];
+    }
 
 -- else the device does nothing
 abbrev pub DeviceRests : Type 0
@@ -109,7 +123,8 @@ DeviceRests = (exec : Device) (y : Answerer) (v : ℕ) → (answer_fed y.m v).st
 
 -- a run that posts begins as its table does, with the header words and the space with the bytes laid over its front
 abbrev pub PostsByTable : Type 0
-PostsByTable = (a : Ask) (code : ℕ) (bytes : List ℕ) → ask_left (ask_begun a code bytes) ≡ post_run a.wiring code (block_header (style_of a.wiring) a.wiring code (length bytes) ++ words_of (over a.space bytes))
+PostsByTable = (a : Ask) (code : ℕ) (bytes : List ℕ) → ask_left (ask_begun a code bytes) ≡ post_run a.wiring code
+    (block_header (style_of a.wiring) a.wiring code (length bytes) ++ words_of (over a.space bytes))
 
 -- a look begins as its table does
 abbrev pub LooksByTable : Type 0
@@ -125,11 +140,13 @@ AnswersByTable = (a : Answer) → answer_left (answer_begun a) ≡ answer_run a.
 
 -- each step of the answering machine is the next one of its run
 abbrev pub AnswerStepsByTable : Type 0
-AnswerStepsByTable = (a : Answer) → AnswerOk a → IsAnswerStepping a → Takes (answer_left a) (answer_next a) (λ v. answer_after (answer_told a v) (answer_fed a v))
+AnswerStepsByTable = (a : Answer) → AnswerOk a → IsAnswerStepping a → Takes (answer_left a) (answer_next a)
+    (λ v. answer_after (answer_told a v) (answer_fed a v))
 
 -- where the device is to run, it finds the space that was loaded, and the run goes on with what it leaves
 abbrev pub ExecutesByTable : Type 0
-ExecutesByTable = (a : Answer) → AnswerOk a → a.stage ≡ RunDevice → Gives (answer_left a) (answer_next a) (bytes_of (drop (heads_of (style_of a.wiring)) a.loaded)) (λ bad reply. answer_left (ran_with (record a { space = reply }) bad))
+ExecutesByTable = (a : Answer) → AnswerOk a → a.stage ≡ RunDevice → Gives (answer_left a) (answer_next a)
+    (bytes_of (drop (heads_of (style_of a.wiring)) a.loaded)) (λ bad reply. answer_left (ran_with (record a { space = reply }) bad))
 
 -- ---- where runs end
 
@@ -180,7 +197,8 @@ pub data Event : Type 0 where
 abbrev pub IsAnswerRun : Answer → List Event → Type 0
 IsAnswerRun a [] = Unit {0}
 IsAnswerRun a (finds v ∷ es) = AnswerOk a × IsAnswerStepping a × IsAnswerRun (answer_fed a v) es
-IsAnswerRun a (replies bad reply ∷ es) = AnswerOk a × (a.stage ≡ RunDevice) × (length reply ≡ a.wiring.room) × IsAnswerRun (ran_with (record a { space = reply }) bad) es
+IsAnswerRun a (replies bad reply ∷ es) = AnswerOk a × (a.stage ≡ RunDevice) × (length reply ≡ a.wiring.room) × IsAnswerRun
+    (ran_with (record a { space = reply }) bad) es
 
 abbrev pub word_steps : List Event → ℕ
 word_steps [] = 0
@@ -209,4 +227,5 @@ AnswerCountWithin = (n : ℕ) (a : Answer) (es : List Event) → Within n (answe
 
 -- one step of a run leaves a table with one step less
 abbrev pub AskStepWithin : Type 0
-AskStepWithin = (n : ℕ) (a : Ask) (v : ℕ) → AskOk a → IsAskRunning a → Within n (ask_left a) → (0 < n) × (ask_told a v ≡ None → Within (n - 1) (ask_left (ask_fed a v)))
+AskStepWithin = (n : ℕ) (a : Ask) (v : ℕ) → AskOk a → IsAskRunning a → Within n (ask_left a) → (0 < n) ×
+    (ask_told a v ≡ None → Within (n - 1) (ask_left (ask_fed a v)))

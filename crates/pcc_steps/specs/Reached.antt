@@ -50,14 +50,20 @@ module _ (exec : Device) (w : Wiring) (start opening : List ℕ) where
 
   -- the answering end makes its next word step; the load of the last word of the block executes the command too
   abbrev pub answer_steps : State → State
-  answer_steps s = let y = s.answerer in let action = answer_next y.m in record s { words = act action s.words; answerer = answerer_fed exec y (found action s.words) }
+  answer_steps s = let y = s.answerer in let action = answer_next y.m in record s {
+    words = act action s.words;
+    answerer = answerer_fed exec y
+        (found action s.words);
+  }
 
   pub data Reached : State → Type 0 where
     at_first : (a : Ask) (b : Answer) → IsNewAsk a w opening → AskOk a → IsNewAnswer b w → AnswerOk b → Reached (opened_with a b)
     sets_budget : (s : State) (polls : ℕ) → Reached s → s.asker.m.stage ≡ AskRest → Reached (with_asking s (ask_budgeted s.asker.m polls))
-    begins_post : (s : State) (code : ℕ) (bytes : List ℕ) → Reached s → MayPost s.asker.m code bytes → Reached (record s { asker = asker_begun s.asker code bytes })
+    begins_post : (s : State) (code : ℕ) (bytes : List ℕ) → Reached s → MayPost s.asker.m code bytes → Reached
+        (record s { asker = asker_begun s.asker code bytes })
     begins_look : (s : State) → Reached s → MayLook s.asker.m → Reached (with_asking s (ask_looking s.asker.m))
-    begins_answer : (s : State) → Reached s → s.answerer.m.stage ≡ AnswerRest → Reached (record s { answerer = record s.answerer { m = answer_begun s.answerer.m } })
+    begins_answer : (s : State) → Reached s → s.answerer.m.stage ≡ AnswerRest → Reached
+        (record s { answerer = record s.answerer { m = answer_begun s.answerer.m } })
     -- words have 64 bits
     steps_ask : (s : State) → Reached s → found (ask_next s.asker.m) s.words < 2 ^ 64 → Reached (ask_steps s)
     steps_answer : (s : State) → Reached s → found (answer_next s.answerer.m) s.words < 2 ^ 64 → Reached (answer_steps s)
@@ -77,4 +83,5 @@ module _ (exec : Device) (w : Wiring) (start opening : List ℕ) where
 
 -- every state that is reached is sound, whatever list of calls and steps led to it
 abbrev pub ReachedIsSound : Device → (List ℕ → Type 0) → (List ℕ → ℕ) → Type 0
-ReachedIsSound exec is_state room_of = (w : Wiring) (start opening : List ℕ) (s : State) → is_state start → room_of start ≡ w.room → IsBytes opening → Reached exec w start opening s → IsSound exec w start opening s
+ReachedIsSound exec is_state room_of = (w : Wiring) (start opening : List ℕ) (s : State) → is_state start → room_of start ≡ w.room
+    → IsBytes opening → Reached exec w start opening s → IsSound exec w start opening s

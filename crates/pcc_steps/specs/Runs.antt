@@ -153,7 +153,8 @@ completing_steps _ after = replies_completion ∷ after
 -- by whether the doorbell is acknowledged, whether errors are told by a register, and whether a doorbell is rung
 abbrev pub answer_table : Style → Bool → Bool → Bool → List AnswerStep
 answer_table s acknowledges tells rings =
-    takes_bell ∷ only acknowledges acknowledges_bell (taking_steps s (executes_command ∷ replies_space ∷ only tells replies_error (completing_steps s (only rings rings_bell (raises_interrupt ∷ [])))))
+    takes_bell ∷ only acknowledges acknowledges_bell (taking_steps s (executes_command ∷ replies_space ∷ only tells replies_error
+    (completing_steps s (only rings rings_bell (raises_interrupt ∷ [])))))
 
 abbrev pub answer_steps : Wiring → List AnswerStep
 answer_steps w = let s : Style = style_of w in answer_table s (four_by s w.has_ack) (tells_error w) (four_by s w.has_bell)
@@ -179,7 +180,8 @@ answer_step takes_bell w g k = swaps 2 0 (λ v. if v == 0 then ends finds_none e
 answer_step acknowledges_bell w g k = masked_write 5 w.ack (k g)
 answer_step takes_header w g k = loads 0 (λ v. k (record g { header = v }))
 answer_step takes_block w g k = load_words 8 (block_of w) [] (λ b. k (record g { block = b }))
-answer_step executes_command w g k = executes (code_by (style_of w) g.header g.block) (bytes_of (drop (heads_of (style_of w)) g.block)) (λ bad reply. k (record g { bad = bad; reply = reply }))
+answer_step executes_command w g k = executes (code_by (style_of w) g.header g.block) (bytes_of (drop (heads_of (style_of w)) g.block))
+    (λ bad reply. k (record g { bad = bad; reply = reply }))
 answer_step replies_space w g k = store_words (8 + heads_of (style_of w)) (words_of g.reply) (k g)
 answer_step replies_error w g k = stores 3 (error_word w g.bad) (k g)
 answer_step replies_status w g k = stores 0 (with_status g.header (status_of g.bad)) (k g)

@@ -61,7 +61,8 @@ module _ (post : List PostStep) (look : List LookStep) where
   ask_left_by (PostBlock j) a = store_words (8 + j) (drop j a.sent) (posting (behind post_number 0 post) a.wiring a.code a.sent)
   ask_left_by PostHeader a = posting (from post_number 1 post) a.wiring a.code a.sent
   ask_left_by PostUpdateLoad a = posting (from post_number 2 post) a.wiring a.code a.sent
-  ask_left_by PostUpdateStore a = stores (update_place (style_of a.wiring)) (masked_by a.wiring.update a.kept) (posting (behind post_number 2 post) a.wiring a.code a.sent)
+  ask_left_by PostUpdateStore a = stores (update_place (style_of a.wiring)) (masked_by a.wiring.update a.kept)
+      (posting (behind post_number 2 post) a.wiring a.code a.sent)
   ask_left_by PostMarkLoad a = posting (from post_number 3 post) a.wiring a.code a.sent
   ask_left_by PostMarkStore a = stores 0 (without a.wiring.check_mask a.kept) (posting (behind post_number 3 post) a.wiring a.code a.sent)
   ask_left_by PostBellLoad a = posting (from post_number 4 post) a.wiring a.code a.sent
@@ -69,11 +70,14 @@ module _ (post : List PostStep) (look : List LookStep) where
   ask_left_by PostLine a = posting (from post_number 5 post) a.wiring a.code a.sent
   ask_left_by LookWord a = looking (from look_number 0 look) a.wiring (record { error = false; block = [] })
   ask_left_by LookError a = looking (from look_number 1 look) a.wiring (record { error = a.error; block = [] })
-  ask_left_by (LookBlock j) a = load_words (8 + j) (block_of a.wiring - j) (take j a.loaded) (λ b. looking (behind look_number 2 look) a.wiring (record { error = a.error; block = b }))
+  ask_left_by (LookBlock j) a = load_words (8 + j) (block_of a.wiring - j) (take j a.loaded)
+      (λ b. looking (behind look_number 2 look) a.wiring (record { error = a.error; block = b }))
   ask_left_by LookLine a = looking (from look_number 3 look) a.wiring (record { error = a.error; block = a.loaded })
-  ask_left_by LookLineStore a = stores 4 0 (acknowledging a.wiring (looking (behind look_number 3 look) a.wiring (record { error = a.error; block = a.loaded })))
+  ask_left_by LookLineStore a = stores 4 0 (acknowledging a.wiring (looking (behind look_number 3 look) a.wiring
+      (record { error = a.error; block = a.loaded })))
   ask_left_by LookAckLoad a = masked_write 5 a.wiring.ack (looking (behind look_number 3 look) a.wiring (record { error = a.error; block = a.loaded }))
-  ask_left_by LookAckStore a = stores 5 (masked_by a.wiring.ack a.kept) (looking (behind look_number 3 look) a.wiring (record { error = a.error; block = a.loaded }))
+  ask_left_by LookAckStore a = stores 5 (masked_by a.wiring.ack a.kept) (looking (behind look_number 3 look) a.wiring
+      (record { error = a.error; block = a.loaded }))
 
 -- what is left of the run under way
 abbrev pub ask_left : Ask → Run AskEnd
@@ -107,13 +111,15 @@ module _ (steps : List AnswerStep) where
   answer_left_by TakeAckLoad a = answering (from answer_number 1 steps) a.wiring (got a)
   answer_left_by TakeAckStore a = stores 5 (masked_by a.wiring.ack a.kept) (answering (behind answer_number 1 steps) a.wiring (got a))
   answer_left_by TakeHeader a = answering (from answer_number 2 steps) a.wiring (got a)
-  answer_left_by (TakeBlock j) a = load_words (8 + j) (block_of a.wiring - j) (take j a.loaded) (λ b. answering (behind answer_number 3 steps) a.wiring (record (got a) { block = b }))
+  answer_left_by (TakeBlock j) a = load_words (8 + j) (block_of a.wiring - j) (take j a.loaded)
+      (λ b. answering (behind answer_number 3 steps) a.wiring (record (got a) { block = b }))
   answer_left_by RunDevice a = answering (from answer_number 4 steps) a.wiring (got a)
   answer_left_by (ReplyBlock j) a = store_words (8 + j) (drop j a.out) (answering (behind answer_number 5 steps) a.wiring (got a))
   answer_left_by ReplyError a = answering (from answer_number 6 steps) a.wiring (got a)
   answer_left_by ReplyHeader a = answering (from answer_number 7 steps) a.wiring (got a)
   answer_left_by ReplyUpdateLoad a = answering (from answer_number 8 steps) a.wiring (got a)
-  answer_left_by ReplyUpdateStore a = stores (update_place (style_of a.wiring)) (masked_by a.wiring.update a.kept) (answering (behind answer_number 8 steps) a.wiring (got a))
+  answer_left_by ReplyUpdateStore a = stores (update_place (style_of a.wiring)) (masked_by a.wiring.update a.kept)
+      (answering (behind answer_number 8 steps) a.wiring (got a))
   answer_left_by ReplyMarkLoad a = answering (from answer_number 9 steps) a.wiring (got a)
   answer_left_by ReplyMarkStore a = stores 0 (bit_or a.kept a.wiring.check_mask) (answering (behind answer_number 9 steps) a.wiring (got a))
   answer_left_by CloseBellLoad a = answering (from answer_number 10 steps) a.wiring (got a)

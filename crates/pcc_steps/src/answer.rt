@@ -92,9 +92,29 @@ impl Model for AnswerState {
 
     ghost Value = { Answer };
 
-    ghost view = { λ s. record { wiring = s.wiring; stage = s.stage; kept = s.kept; header = s.header; bad = s.bad; loaded = s.loaded.items; out = s.out.items; space = s.space.items; steps = s.steps } };
+    ghost view = { λ s. record {
+      wiring = s.wiring;
+      stage = s.stage;
+      kept = s.kept;
+      header = s.header;
+      bad = s.bad;
+      loaded = s.loaded.items;
+      out = s.out.items;
+      space = s.space.items;
+      steps = s.steps;
+    } };
 
-    ghost invariant = { λ s. AnswerOk (record { wiring = s.wiring; stage = s.stage; kept = s.kept; header = s.header; bad = s.bad; loaded = s.loaded.items; out = s.out.items; space = s.space.items; steps = s.steps }) };
+    ghost invariant = { λ s. AnswerOk (record {
+      wiring = s.wiring;
+      stage = s.stage;
+      kept = s.kept;
+      header = s.header;
+      bad = s.bad;
+      loaded = s.loaded.items;
+      out = s.out.items;
+      space = s.space.items;
+      steps = s.steps;
+    }) };
 }
 
 impl AnswerState {
@@ -345,7 +365,8 @@ pub fn answer_ran(answer: &mut AnswerState, status: ExecStatus)
 pub fn answer_execute<E: Executor>(answer: &mut AnswerState, device: &mut E)
     requires stage { answer.old.stage ≡ RunDevice }
     requires room { E.room_of (E.state device.old) ≡ answer.old.wiring.room }
-    ensures machine { let e = E.exec_of (E.state device.old) (answer_code answer.old) answer.old.space in answer.new ≡ ran_with (record answer.old { space = e.space }) e.bad }
+    ensures machine { let e = E.exec_of (E.state device.old) (answer_code answer.old) answer.old.space in answer.new ≡ ran_with
+        (record answer.old { space = e.space }) e.bad }
     ensures device { E.state device.new ≡ (E.exec_of (E.state device.old) (answer_code answer.old) answer.old.space).state }
     ensures room { E.room_of (E.state device.new) ≡ answer.old.wiring.room }
 {
@@ -433,7 +454,8 @@ fn done_stage(wiring: &Wiring, header: u64, block: &[u64]) -> AnswerStage
 fn after_update(wiring: &Wiring, header: u64, block: &[u64]) -> AnswerStage
     requires { length block.now ≡ block_of wiring.now }
     ensures place { AnswerPlace result wiring.now }
-    ensures stage { result ≡ update_stage (style_of wiring.now) (after_done (four_by (style_of wiring.now) wiring.now.has_bell) (asks_by (style_of wiring.now) header block.now)) }
+    ensures stage { result ≡ update_stage (style_of wiring.now) (after_done (four_by (style_of wiring.now) wiring.now.has_bell)
+        (asks_by (style_of wiring.now) header block.now)) }
 {
     match wiring.style() {
         Style::Separate4 => AnswerStage::ReplyMarkLoad,

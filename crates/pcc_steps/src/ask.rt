@@ -94,9 +94,41 @@ impl Model for AskState {
 
     ghost Value = { Ask };
 
-    ghost view = { λ s. record { wiring = s.wiring; stage = s.stage; kept = s.kept; code = s.code; error = s.error; sent = s.sent.items; shown = s.shown.items; loaded = s.loaded.items; input = s.input.items; space = s.space.items; in_flight = s.in_flight; looks = s.looks; budget = s.budget; posts = s.posts; steps = s.steps } };
+    ghost view = { λ s. record {
+      wiring = s.wiring;
+      stage = s.stage;
+      kept = s.kept;
+      code = s.code;
+      error = s.error;
+      sent = s.sent.items;
+      shown = s.shown.items;
+      loaded = s.loaded.items;
+      input = s.input.items;
+      space = s.space.items;
+      in_flight = s.in_flight;
+      looks = s.looks;
+      budget = s.budget;
+      posts = s.posts;
+      steps = s.steps;
+    } };
 
-    ghost invariant = { λ s. AskOk (record { wiring = s.wiring; stage = s.stage; kept = s.kept; code = s.code; error = s.error; sent = s.sent.items; shown = s.shown.items; loaded = s.loaded.items; input = s.input.items; space = s.space.items; in_flight = s.in_flight; looks = s.looks; budget = s.budget; posts = s.posts; steps = s.steps }) };
+    ghost invariant = { λ s. AskOk (record {
+      wiring = s.wiring;
+      stage = s.stage;
+      kept = s.kept;
+      code = s.code;
+      error = s.error;
+      sent = s.sent.items;
+      shown = s.shown.items;
+      loaded = s.loaded.items;
+      input = s.input.items;
+      space = s.space.items;
+      in_flight = s.in_flight;
+      looks = s.looks;
+      budget = s.budget;
+      posts = s.posts;
+      steps = s.steps;
+    }) };
 }
 
 impl AskState {

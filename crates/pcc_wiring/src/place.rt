@@ -44,5 +44,6 @@ pub fn place_laws()
     // Two bytes are held by one word only where they lie in the same 8 bytes from the base on.
     ensures words { (w : Wiring) (base a b place : ℕ) → place_at w base a ≡ Some place → place_at w base b ≡ Some place → (a - base) / 8 ≡ (b - base) / 8 }
     // The bytes of the header and of the used space are held, and no others.
-    ensures held { (w : Wiring) → IsRight w → (base address : ℕ) → IsSome (place_at w base address) ↔ ((base ≤ address) × (address < base + (header_len w.kind + w.room))) }
+    ensures held { (w : Wiring) → IsRight w → (base address : ℕ) → IsSome (place_at w base address) ↔
+        ((base ≤ address) × (address < base + (header_len w.kind + w.room))) }
 {}
