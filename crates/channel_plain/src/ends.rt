@@ -17,11 +17,10 @@ ghost use Rattle.channel_plain.specs.Steps.{IsPick, Reads, begun_with, budget_by
 ghost use Rattle.channel_plain.specs.News.{IsNew};
 
 use crate::book::Book;
-use crate::memory::zeros;
 use crate::pick::Pick;
-use crate::register::Register;
 use crate::step::{fit, fit_code, settle, start};
 use crate::trace::{Asked, TraceEnd};
+use channel_core::{Executed, zeros};
 use pcc_exec::Executor;
 use pcc_io::{Clock, NoMemory};
 use pcc_journal::{Commands, Journal, Pending};
@@ -45,7 +44,7 @@ pub(crate) struct Ends<E: Executor> {
     device: E,
     first: Snapshot<E>,
     book: Book,
-    register: Register,
+    executed: Executed,
 }
 
 impl<E: Executor> Model for Ends<E> {
@@ -54,9 +53,9 @@ impl<E: Executor> Model for Ends<E> {
 
     ghost Value = { PlainState };
 
-    ghost view = { λ s. record { words = s.words.items; ask = s.ask; answer = s.answer; device = E.state s.device; start = E.state s.first.value; calls = s.book; executed = s.register.commands } };
+    ghost view = { λ s. record { words = s.words.items; ask = s.ask; answer = s.answer; device = E.state s.device; start = E.state s.first.value; calls = s.book; executed = s.executed.commands } };
 
-    ghost invariant = { λ s. Holds E.exec_of E.is_state E.room_of (record { words = s.words.items; ask = s.ask; answer = s.answer; device = E.state s.device; start = E.state s.first.value; calls = s.book; executed = s.register.commands }) s.register.ready s.register.room };
+    ghost invariant = { λ s. Holds E.exec_of E.is_state E.room_of (record { words = s.words.items; ask = s.ask; answer = s.answer; device = E.state s.device; start = E.state s.first.value; calls = s.book; executed = s.executed.commands }) s.executed.ready s.executed.room };
 }
 
 impl<E: Executor> Ends<E> {
@@ -87,7 +86,7 @@ impl<E: Executor> Ends<E> {
             device,
             first,
             book: Book::new(alloc, limits),
-            register: Register::new(alloc, wiring.room),
+            executed: Executed::new(alloc, wiring.room),
         })
     }
 
@@ -117,7 +116,7 @@ impl<E: Executor> Ends<E> {
     pub fn executed(&self) -> &Commands
         ensures { result.now.items ≡ self.now.executed }
     {
-        self.register.commands()
+        self.executed.commands()
     }
 
     /// What holds between two picks. It does nothing.
@@ -142,7 +141,7 @@ impl<E: Executor> Ends<E> {
         settle(
             &mut self.answer,
             &mut self.device,
-            &mut self.register,
+            &mut self.executed,
             reports,
         );
         Pick {
@@ -252,7 +251,7 @@ impl<E: Executor> Ends<E> {
     {
         asking_laws();
         fit(call.bytes.as_slice());
-        self.register.reserve(self.alloc)?;
+        self.executed.reserve(self.alloc)?;
         let refused = self.book.post(self.alloc, call, self.ask.space(), clock)?;
         set_budget(&mut self.ask, begins, call.polls);
         match refused {

@@ -4,10 +4,8 @@
 mod book;
 mod ends;
 mod lines;
-mod memory;
 mod pick;
 mod plain;
-mod register;
 mod sent;
 mod step;
 mod text;
