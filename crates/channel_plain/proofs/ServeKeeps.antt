@@ -1,5 +1,5 @@
 -- The call that is begun stays one of the calls, which nothing refuses.
-use Rattle.std.proofs.Common.{◌≡◌, ℕ, suc, ◌+◌, ◌<◌, ◌≤◌, Bool, true, false, not, nat_eq, ltb, if◌then◌else◌, ◌==◌, List, [], ◌∷◌, ◌++◌, length, refl, sym, ap, ◌∙◌, subst, arith, length-append}
+use Rattle.std.proofs.Common.{◌≡◌, ℕ, suc, ◌+◌, ◌<◌, ◌≤◌, Bool, true, false, not, nat_eq, ltb, if◌then◌else◌, List, [], ◌∷◌, ◌++◌, length, refl, sym, ap, ◌∙◌, subst, arith, length-append}
 use Rattle.std.specs.Prelude.{Option, Some, None}
 use Rattle.std.specs.List.{slice_get}
 use Rattle.std.proofs.lemmas.Bool.Decides.{nat_tests}
@@ -17,13 +17,12 @@ use Rattle.channel_plain.specs.declared.sent.Sent.{Sent}
 use Rattle.channel_plain.specs.declared.trace.Asked.{Asked}
 use Rattle.channel_plain.specs.declared.trace.Side.{Side}
 use Rattle.channel_plain.specs.declared.trace.TraceEnd.{TraceEnd}
-use Rattle.channel_plain.specs.declared.trace.TraceEnd.TheVariants as end
 use Rattle.std.specs.Prelude.{nat_lt, nat_le}
 use Rattle.pcc_journal.specs.declared.reserved.TheConstants.{MAX_ITEMS}
 use Rattle.channel_core.specs.declared.answers.CallRefusal.TheVariants as refusal
 use Rattle.channel_plain.specs.Picks.{refused_end, CallBook, PlainState, asks_by, ask_ended, ask_stepped, ask_picked_at, begins, call_begun, clear_ended, drained_calls, earliest_call, from_rest, is_late, is_wide, picked, picked_by, post_or_soon, posting, recorded, refusal_of, served}
 use Rattle.channel_plain.specs.Standing.{IsServing, Serving, Stands, carried, carried_at, is_rest, owns}
-use Rattle.channel_plain.proofs.Feeds.{Fed, fed, stepped}
+use Rattle.channel_plain.proofs.AskFed.{Fed, fed, stepped}
 
 serving_as : (calls : List Asked) (w w' : Wiring) (u u' n n' f f' : ℕ) (b : CallBook) → w' ≡ w → u' ≡ u → n' ≡ n → f' ≡ f → Serving calls w u n f b → Serving calls w' u' n' f' b
 serving_as calls w w' u u' n n' f f' b ew eu en ef h = subst (λ (z : Wiring × ℕ × ℕ × ℕ). Serving calls z.0 z.1 z.2 z.3 b) (λ i. (sym ew i, sym eu i, sym en i, sym ef i)) h

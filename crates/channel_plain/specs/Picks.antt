@@ -2,7 +2,7 @@
 use Rattle.std.specs.Prelude.{◌&&◌, nat_lt, ◌==◌, ℕ, ◌+◌, ltb, Bool, true, false, if◌then◌else◌, List, [], ◌∷◌, ◌++◌, length, map, Option, Some, None}
 use Rattle.std.specs.List.{slice_get}
 use Rattle.pcc_history.specs.Devices.{Device}
-use Rattle.pcc_history.specs.Channel.{Exchange, over}
+use Rattle.pcc_history.specs.Channel.{over}
 use Rattle.rate_limit.specs.declared.Limits.{Limits}
 use Rattle.rate_limit.specs.RateLimits.{earliest_of}
 use Rattle.pcc_journal.specs.declared.record.Record.{Record}

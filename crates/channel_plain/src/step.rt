@@ -6,8 +6,8 @@ ghost use Rattle.pcc_steps.specs.Agree.{settle};
 ghost use Rattle.channel_plain.specs.Picks.{started_at};
 ghost use Rattle.channel_plain.specs.Steps.{IsSettled, SettlesIf};
 
-use channel_core::Executed;
 use crate::trace::Asked;
+use channel_core::Executed;
 use pcc_exec::Executor;
 use pcc_steps::{Action, AnswerState, answer_next, answer_ran, answer_space, answer_start};
 

@@ -21,7 +21,7 @@ use std::marker::Model;
 
 /// The calls that have ended, the one that is begun, and the records. A command that is posted has the memory for its record.
 #[derive(Drop)]
-pub(crate) struct Book {
+pub(crate) struct CallLog {
     limits: Limits,
     journal: Journal,
     flight: Option<Flight>,
@@ -29,7 +29,7 @@ pub(crate) struct Book {
     begun: bool,
 }
 
-impl Model for Book {
+impl Model for CallLog {
     ghost use Rattle.rate_limit.specs.RateLimits.{WithinLimits};
     ghost use Rattle.pcc_journal.specs.Records.{times_of};
     ghost use Rattle.channel_plain.specs.Picks.{CallBook};
@@ -42,12 +42,12 @@ impl Model for Book {
     ghost invariant = { λ b. HasMemory b.flight b.journal.spare × WithinLimits b.limits (times_of b.journal.items) (post_of (sent_of b.flight)) × MayEnd b.begun b.ended };
 }
 
-impl Book {
+impl CallLog {
     /// No call has begun.
-    pub fn new(alloc: Global, limits: Limits) -> Book
+    pub fn new(alloc: Global, limits: Limits) -> CallLog
         ensures { result ≡ record { limits = limits; records = []; sent = None; ended = 0; begun = false } }
     {
-        Book {
+        CallLog {
             limits,
             journal: Journal::new(alloc),
             flight: None,
@@ -111,13 +111,7 @@ impl Book {
         ensures { result ≡ refusal_of wiring.now call.now (length self.now.records) (flying flies) }
     {
         let posts = self.journal.len() + usize::from(flies);
-        refused_end(refusal(
-            wiring.kind,
-            wiring.room,
-            call.code,
-            call.bytes.len(),
-            posts,
-        ))
+        refused_end(refusal(wiring.kind, wiring.room, call.code, call.bytes.len(), posts))
     }
 
     /// Takes the memory for a post and its record, and then a reading. The call ends where that is too soon, else its command is posted.
