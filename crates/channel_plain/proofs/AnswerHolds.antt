@@ -15,20 +15,20 @@ use Rattle.pcc_steps.specs.Asking.{Ask, Flies}
 use Rattle.pcc_steps.specs.Answering.{Answer, answer_next, answer_fed, answer_fed_at}
 use Rattle.pcc_steps.specs.Agree.{act, Finds, Core, Asker, Answerer, Agree, Turn, Fits, resting, pose_at, turn, settle, settle_at, answerer_fed, answerer_stepped, found}
 use Rattle.pcc_steps.specs.Laws.{AnswerBeginAgrees, AnswerStepAgrees, DeviceStays, HistoriesAgree}
-use Rattle.channel_plain.specs.Picks.{PlainState, started_at, command_of}
+use Rattle.channel_core.specs.Executions.{Executions, command_by}
+use Rattle.channel_plain.specs.Picks.{PlainState, started_at}
 use Rattle.channel_plain.specs.Standing.{Unkept, asker_of, answerer_of, carried, carried_at, Stands, Holds}
-use Rattle.channel_plain.specs.Holding.{Executions}
 use Rattle.channel_plain.specs.Steps.{IsSettled, SettlesIf, ready_after}
 use Rattle.pcc_steps.proofs.WordSteps.{long_act, finds_found}
 
 -- ---- lists
 
-again : (xs : List Exchange) → exchanges_of_commands (map command_of xs) ≡ xs
+again : (xs : List Exchange) → exchanges_of_commands (map command_by xs) ≡ xs
 again [] = refl
 again (x ∷ xs) = ap (λ (l : List Exchange). x ∷ l) (again xs)
 
-pub grown : (cs : List Command) (xs : List Exchange) → exchanges_of_commands (cs ++ map command_of xs) ≡ exchanges_of_commands cs ++ xs
-grown cs xs = map-append exchange_of_command cs (map command_of xs) ∙ ap (λ (l : List Exchange). exchanges_of_commands cs ++ l) (again xs)
+pub grown : (cs : List Command) (xs : List Exchange) → exchanges_of_commands (cs ++ map command_by xs) ≡ exchanges_of_commands cs ++ xs
+grown cs xs = map-append exchange_of_command cs (map command_by xs) ∙ ap (λ (l : List Exchange). exchanges_of_commands cs ++ l) (again xs)
 
 length-map : {A B : Type 0} (f : A → B) (xs : List A) → length (map f xs) ≡ length xs
 length-map f [] = refl
@@ -114,7 +114,7 @@ module _ (exec : Device) where
   after_step v s = answerer_fed exec (record { m = stepping s; device = s.device; done = [] }) v
 
   abbrev pub answered_with : ℕ → PlainState → PlainState
-  answered_with v s = let y : Answerer = after_step v s in record s { words = act (answer_next (stepping s)) s.words; answer = y.m; device = y.device; executed = s.executed ++ map command_of y.done }
+  answered_with v s = let y : Answerer = after_step v s in record s { words = act (answer_next (stepping s)) s.words; answer = y.m; device = y.device; executed = s.executed ++ map command_by y.done }
 
   same_answerer : (v : ℕ) (s : PlainState) → answerer_fed exec (record (answerer_of s) { m = stepping s }) v ≡ answerer_of (answered_with v s)
   same_answerer v s = let m : Answer = answer_fed_at (stepping s).stage (stepping s) v in
@@ -148,7 +148,7 @@ module _ (exec : Device) where
     fed_wiring s v u ws g = let m : Answer = answer_fed_at (stepping s).stage (stepping s) v in sym (settled_wiring m.stage (record { m = m; device = s.device; done = [] })) ∙ g.1.2.same
 
     longer : (s : PlainState) (v : ℕ) → length (exchanges_of_commands (answered_with v s).executed) ≡ length s.executed + length (after_step v s).done
-    longer s v = let l = length-map exchange_of_command (answered_with v s).executed in let k = length-append s.executed (map command_of (after_step v s).done) in let n = length-map command_of (after_step v s).done in omega (arith, l, k, n)
+    longer s v = let l = length-map exchange_of_command (answered_with v s).executed in let k = length-append s.executed (map command_by (after_step v s).done) in let n = length-map command_by (after_step v s).done in omega (arith, l, k, n)
 
     -- where a command is executed, it is the one in flight, and the memory for it is there
     pub settles : HistoriesAgree → (s : PlainState) (v : ℕ) (u : Unkept) (ws : List ℕ) (st : AnswerStage) (ready : Bool) → Agree exec s.start s.words (asker_of s u) (answerer_of s) → Agree exec s.start ws (asker_of s u) (answerer_of (answered_with v s))
@@ -230,9 +230,9 @@ module _ (exec : Device) where
     pub settled_holds : AnswerBeginAgrees → AnswerStepAgrees exec is_state room_of → HistoriesAgree → (s : PlainState) (reg reg' : Executions) (b f f' : Answer) (d' ws : List ℕ) (t : Action) (v : ℕ) → b ≡ stepping s → t ≡ answer_next b → v ≡ found t s.words → v < 2 ^ 64 → f ≡ answer_fed b v → ws ≡ act t s.words → s.executed ≡ reg.commands
         → IsSettled (settle exec (record { m = f; device = s.device; done = [] })) f.stage reg f' d' reg' → Holds exec is_state room_of s reg.ready reg.room → Holds exec is_state room_of (record s { words = ws; answer = f'; device = d'; executed = reg'.commands }) reg'.ready reg'.room
     settled_holds start step law s reg reg' b f f' d' ws t v eb et ev small ef ew ex is h = let e = fed_by s b f v eb ef in let y : Answerer = after_step v s in let q = same_settle s f v e in
-        let commands : reg'.commands ≡ s.executed ++ map command_of y.done = ap (λ (r : Executions). r.commands) is.register ∙ ap (λ (z : List Command × List Exchange). z.0 ++ map command_of z.1) (λ i. (sym ex i, (q i).done)) in
-        let ready : reg'.ready ≡ ready_after (answer_fed (stepping s) v).stage reg.ready = ap (λ (r : Executions). r.ready) is.register ∙ ap (λ (a : Answer). ready_after a.stage reg.ready) e in
+        let commands : reg'.commands ≡ s.executed ++ map command_by y.done = ap (λ (r : Executions). r.commands) is.executed ∙ ap (λ (z : List Command × List Exchange). z.0 ++ map command_by z.1) (λ i. (sym ex i, (q i).done)) in
+        let ready : reg'.ready ≡ ready_after (answer_fed (stepping s) v).stage reg.ready = ap (λ (r : Executions). r.ready) is.executed ∙ ap (λ (a : Answer). ready_after a.stage reg.ready) e in
         let words : ws ≡ act (answer_next (stepping s)) s.words = ew ∙ ap (λ (t : Action). act t s.words) (et ∙ ap answer_next eb) in
         subst (λ (z : (List ℕ × Answer × List ℕ × List Command) × (Bool × ℕ)). Holds exec is_state room_of (record s { words = z.0.0; answer = z.0.1; device = z.0.2; executed = z.0.3 }) z.1.0 z.1.1)
-        (λ i. ((sym words i, sym (is.answer ∙ ap (λ (y : Answerer). y.m) q) i, sym (is.device ∙ ap (λ (y : Answerer). y.device) q) i, sym commands i), (sym ready i, sym (ap (λ (r : Executions). r.room) is.register) i)))
+        (λ i. ((sym words i, sym (is.answer ∙ ap (λ (y : Answerer). y.m) q) i, sym (is.device ∙ ap (λ (y : Answerer). y.device) q) i, sym commands i), (sym ready i, sym (ap (λ (r : Executions). r.room) is.executed) i)))
         (answer_holds start step law s v reg.ready reg.room (found_by s b t v eb et ev) small h)

@@ -23,10 +23,11 @@ use Rattle.pcc_steps.specs.Asking.{has_more}
 use Rattle.pcc_steps.specs.Answering.{Answer, AnswerOk, answer_code, answer_next, answer_next_at, answer_fed, answer_fed_at, answer_told, answer_told_at, answer_begun, after_ack, after_take, after_error, after_reply, after_close, after_done, after_update, done_stage, asks_notify, served_at, take_on, take_told, load_on, reply_on, ran_with}
 use Rattle.pcc_steps.specs.Agree.{act, Answerer, IsBetween, settle, settle_at, executed, found}
 use Rattle.pcc_steps.specs.Laws.{AnswersByTable, AnswerStepsByTable, ExecutesByTable}
+use Rattle.channel_core.specs.Executions.{command_by}
 use Rattle.channel_plain.specs.declared.trace.Side.{Side}
 use Rattle.channel_plain.specs.declared.trace.TraceEnd.TheVariants as end
 use Rattle.channel_plain.specs.declared.trace.TraceLine.{TraceLine}
-use Rattle.channel_plain.specs.Picks.{PlainState, started_at, command_of, answer_end, answer_picked, line_of}
+use Rattle.channel_plain.specs.Picks.{PlainState, started_at, answer_end, answer_picked, line_of}
 use Rattle.channel_plain.specs.Standing.{Stands}
 use Rattle.channel_plain.specs.WordRuns.{Answered, Answers, more, AnswerWalks, answer_from, answer_on, execute, next_of}
 use Rattle.channel_plain.proofs.WordSteps.{not_false, takes_next, takes_rest}
@@ -294,22 +295,22 @@ module _ (exec : Device) (w : Wiring) where
   -- a step of a run that is under way
   step_on : AnswerStepsByTable → ExecutesByTable → (told : Option AnswerOutcome) (start : List ℕ) (s : PlainState) (side : Side) (b : Answer) (v : ℕ) (past ls : List TraceLine) (d : List ℕ) (es : List Exchange) → told ≡ answer_told b v → b ≡ stepping exec s → AnswerOk b → is_rest b.stage ≡ false → is_run b.stage ≡ false → b.wiring ≡ w → (answer_fed b v).wiring ≡ w
       → (is_run (answer_fed b v).stage ≡ false → AnswerOk (answer_fed b v)) → (y : Answerer) → y ≡ settle exec (record { m = answer_fed b v; device = s.device; done = [] }) → (ws : List ℕ) → Answers exec w start past d es → AnswerWalks exec w (answer_from exec w d es) ls (record { device = s.device; executed = exchanges_of_commands s.executed; run = answer_left b })
-      → (is_rest y.m.stage ≡ is_rest (answer_fed b v).stage) → AnswerTie start (record s { words = ws; answer = y.m; device = y.device; executed = s.executed ++ map command_of y.done }) (past ++ (ls ++ record { side = side; action = answer_next b; value = v; end = answer_end told } ∷ []))
+      → (is_rest y.m.stage ≡ is_rest (answer_fed b v).stage) → AnswerTie start (record s { words = ws; answer = y.m; device = y.device; executed = s.executed ++ map command_by y.done }) (past ++ (ls ++ record { side = side; action = answer_next b; value = v; end = answer_end told } ∷ []))
   step_on law turn told start s side b v past ls d es et eb ok rests runs wired wired' ok' y ey ws before walks same =
       let m : Answer = answer_fed b v in let E : List Exchange = exchanges_of_commands s.executed in let pre : Answered = record { device = s.device; executed = E; run = answer_left b } in
       let next : ℕ → Run AnswerEnd = λ v. answer_after (answer_told b v) (answer_fed b v) in
       let tk = law b ok (λ q. not_false (is_rest b.stage) (ap is_rest q) rests, λ q. not_false (is_run b.stage) (ap is_run q) runs) in
       let n : next_of (answer_left b) ≡ Some (answer_next b) = takes_next (answer_left b) (answer_next b) next tk in
       let stops : is_rest m.stage ≡ ends_run told = fed_rests b.stage b v rests runs ∙ ap ends_run (sym et) in
-      let on : answer_on exec w pre v ≡ record { device = y.device; executed = exchanges_of_commands (s.executed ++ map command_of y.done); run = answer_after told y.m } =
+      let on : answer_on exec w pre v ≡ record { device = y.device; executed = exchanges_of_commands (s.executed ++ map command_by y.done); run = answer_after told y.m } =
       ap (λ (r : Run AnswerEnd). execute exec w r s.device E) (takes_rest (answer_left b) (answer_next b) next v tk ∙ ap (λ (t : Option AnswerOutcome). answer_after t m) (sym et))
       ∙ settled_on law turn (is_run m.stage) told m s.device E refl wired' stops (has_loaded b.stage b v m.steps runs ok rests) ok'
       ∙ ap (λ (y : Answerer). record { device = y.device; executed = E ++ y.done; run = answer_after told y.m }) (sym ey)
       ∙ ap (λ (l : List Exchange). record { device = y.device; executed = l; run = answer_after told y.m }) (sym (grown s.executed y.done)) in
       finish told (same ∙ stops) on n
     where
-      finish : (told : Option AnswerOutcome) → is_rest y.m.stage ≡ ends_run told → answer_on exec w (record { device = s.device; executed = exchanges_of_commands s.executed; run = answer_left b }) v ≡ record { device = y.device; executed = exchanges_of_commands (s.executed ++ map command_of y.done); run = answer_after told y.m } → next_of (answer_left b) ≡ Some (answer_next b)
-          → AnswerTie start (record s { words = ws; answer = y.m; device = y.device; executed = s.executed ++ map command_of y.done }) (past ++ (ls ++ record { side = side; action = answer_next b; value = v; end = answer_end told } ∷ []))
+      finish : (told : Option AnswerOutcome) → is_rest y.m.stage ≡ ends_run told → answer_on exec w (record { device = s.device; executed = exchanges_of_commands s.executed; run = answer_left b }) v ≡ record { device = y.device; executed = exchanges_of_commands (s.executed ++ map command_by y.done); run = answer_after told y.m } → next_of (answer_left b) ≡ Some (answer_next b)
+          → AnswerTie start (record s { words = ws; answer = y.m; device = y.device; executed = s.executed ++ map command_by y.done }) (past ++ (ls ++ record { side = side; action = answer_next b; value = v; end = answer_end told } ∷ []))
       finish None stops on n = let l : TraceLine = record { side = side; action = answer_next b; value = v; end = end.Open } in
           a_running past (ls ++ l ∷ []) d es stops before (subst (λ (x : Answered). AnswerWalks exec w (answer_from exec w d es) (ls ++ l ∷ []) x) on (walk_more (answer_from exec w d es) _ ls l walks n refl)) refl
       finish (Some Idle) stops on n = let l : TraceLine = record { side = side; action = answer_next b; value = v; end = end.Idle } in let pre : Answered = record { device = s.device; executed = exchanges_of_commands s.executed; run = answer_left b } in

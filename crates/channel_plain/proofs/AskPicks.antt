@@ -11,9 +11,12 @@ use Rattle.pcc_steps.specs.declared.wiring.Style.TheVariants.{Headed, Joined3, S
 use Rattle.pcc_steps.specs.Wires.{style_of}
 use Rattle.pcc_steps.specs.Asking.{CodeFits}
 use Rattle.channel_plain.specs.declared.trace.Asked.{Asked}
-use Rattle.channel_plain.specs.declared.trace.TraceEnd.{TraceEnd}
-use Rattle.channel_plain.specs.declared.trace.TraceEnd.TheVariants as end
-use Rattle.channel_plain.specs.Picks.{PlainState, ask_picked_at, ask_stepped, is_wide, refusal_of}
+use Rattle.std.specs.Prelude.{◌&&◌, nat_lt}
+use Rattle.channel_core.specs.declared.answers.CallRefusal.{CallRefusal}
+use Rattle.channel_core.specs.declared.answers.CallRefusal.TheVariants as refusal
+use Rattle.channel_core.specs.declared.refusals.TheConstants.{GREATEST_CODE}
+use Rattle.channel_core.specs.Refusals.{has_byte_codes}
+use Rattle.channel_plain.specs.Picks.{PlainState, ask_picked_at, ask_stepped, is_wide, refusal_of, refused_end}
 use Rattle.channel_plain.specs.Standing.{IsServing}
 
 pub running : (st : AskStage) → (st ≡ AskRest → ⊥) → (calls : List Asked) (r : ℕ) (s : PlainState) → ask_picked_at st calls r s ≡ ask_stepped r s
@@ -22,16 +25,20 @@ running _ n calls r s = refl
 
 -- ---- what is known of a call that nothing refuses
 
-none_some : (b : Bool) (e : TraceEnd) (o : Option TraceEnd) → (if b then Some e else o) ≡ None → (b ≡ false) × (o ≡ None)
-none_some true e o h = absurd (cc h)
-none_some false e o h = (refl, h)
+not_wide : (b : Bool) (code : ℕ) (o : Option CallRefusal) → refused_end (if b then Some (refusal.BadCode code) else o) ≡ None → b ≡ false
+not_wide true code o h = absurd (cc h)
+not_wide false code o h = refl
 
-headed_or : (b : Bool) (t : Style) (code : ℕ) → CodeFits t code → (if b then ltb 255 code else false) ≡ false → CodeFits (if b then Headed else t) code
-headed_or true t code l h = low h
+headed_or : (b k : Bool) (t : Style) (code : ℕ) → k ≡ b → CodeFits t code → (k && nat_lt GREATEST_CODE code) ≡ false → CodeFits (if b then Headed else t) code
+headed_or true true t code e l h = low h
   where
-    low : ltb 255 code ≡ false → code < 256
+    low : nat_lt GREATEST_CODE code ≡ false → code < 256
     low h = grind (arith, nat_tests)
-headed_or false t code l h = l
+headed_or true false t code e l h = absurd (cc e)
+headed_or false k t code e l h = l
+
+same_test : (kind : ℕ) → has_byte_codes kind ≡ ltb kind 3
+same_test kind = grind (arith, nat_tests)
 
 other : (a b j : Bool) (code : ℕ) → code < 2 ^ 32 → CodeFits (if a then (if j then Joined3 else Separate3) else if b then (if j then Joined4 else Separate4) else Reduced5) code
 other true b true code h = h
@@ -41,11 +48,11 @@ other false true false code h = h
 other false false j code h = h
 
 pub code_fits : (w : Wiring) (c : Asked) → c.code < 2 ^ 32 → is_wide w c ≡ false → CodeFits (style_of w) c.code
-code_fits w c small h = headed_or (ltb w.kind 3) (if w.kind == 3 then (if w.joined then Joined3 else Separate3) else if w.kind == 4 then (if w.joined then Joined4 else Separate4) else Reduced5) c.code
-    (other (w.kind == 3) (w.kind == 4) w.joined c.code small) h
+code_fits w c small h = headed_or (ltb w.kind 3) (has_byte_codes w.kind) (if w.kind == 3 then (if w.joined then Joined3 else Separate3) else if w.kind == 4 then (if w.joined then Joined4 else Separate4) else Reduced5) c.code
+    (same_test w.kind) (other (w.kind == 3) (w.kind == 4) w.joined c.code small) h
 
 pub code_ok : (w : Wiring) (c : Asked) (n f : ℕ) → c.code < 2 ^ 32 → refusal_of w c n f ≡ None → CodeFits (style_of w) c.code
-code_ok w c n f small h = code_fits w c small (none_some (is_wide w c) (end.BadCode c.code) _ h).0
+code_ok w c n f small h = code_fits w c small (not_wide (is_wide w c) c.code _ h)
 
 same_call : (x y : Asked) → Some x ≡ Some y → x ≡ y
 same_call x y e = cc

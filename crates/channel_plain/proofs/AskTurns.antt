@@ -34,7 +34,7 @@ use Rattle.channel_plain.specs.Picks.{PlainState, Picked, ask_picked_at, ask_ste
 use Rattle.channel_plain.specs.Standing.{HavePolls, IsCarried, IsServing, LooksBegun, Stands, carried, carried_at, is_rest}
 use Rattle.channel_plain.specs.Weaving.{reading_of}
 use Rattle.channel_plain.specs.WordRuns.{Calls, Serves, goes_on, begins as begins_now, Turns, idles, refuses, delays, end_call, take_reading, posts_call, earliest_at, in_flight, refusal_at}
-use Rattle.channel_plain.proofs.Feeds.{Fed, fed, stepped, rest_is}
+use Rattle.channel_plain.proofs.AskFed.{Fed, fed, stepped, rest_is}
 use Rattle.channel_plain.proofs.AskPicks.{running as runs_on}
 use Rattle.channel_plain.proofs.WordSteps.{AskTie, resting, running, Running, posts_run, looks_run, calls_at, not_false, run_turn, takes_next, takes_rest, turned}
 

@@ -29,7 +29,7 @@ use Rattle.pcc_steps.proofs.WordSteps.{long_act, finds_found}
 use Rattle.channel_plain.specs.News.{opening_of}
 use Rattle.channel_plain.specs.Standing.{asker_of, answerer_of, carried, carried_at, is_rest, IsCarried, LooksBegun, Holds, owns}
 use Rattle.channel_plain.specs.Steps.{budget_by}
-use Rattle.channel_plain.proofs.Feeds.{Fed, fed, stepped, not_rest}
+use Rattle.channel_plain.proofs.AskFed.{Fed, fed, stepped, not_rest}
 
 -- ---- small facts
 

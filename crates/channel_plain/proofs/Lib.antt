@@ -1,4 +1,4 @@
-pub mod Feeds
+pub mod AskFed
 pub mod Keeps
 pub mod AnswerHolds
 pub mod Posts
@@ -8,12 +8,12 @@ pub mod ServeKeeps
 pub mod WordSteps
 pub mod AskTurns
 pub mod AnswerTurns
-pub mod Kepts
+pub mod PickKeeps
 pub mod WordRunOf
 pub mod WholeOf
-pub mod Goods
+pub mod JournalIsGood
 pub mod Polls
-pub mod Stayings
+pub mod WeaveStays
 pub mod Written
 pub mod PickLoop
 pub mod LinesOut

@@ -1,5 +1,5 @@
 -- The call that is begun stays one of the calls, which nothing refuses.
-use Rattle.std.proofs.Common.{◌≡◌, ℕ, suc, ◌+◌, ◌<◌, ◌≤◌, Bool, true, false, not, nat_eq, ltb, if◌then◌else◌, ◌==◌, List, [], ◌∷◌, ◌++◌, length, refl, sym, ap, ◌∙◌, subst, arith, length-append}
+use Rattle.std.proofs.Common.{◌≡◌, ℕ, suc, ◌+◌, ◌<◌, ◌≤◌, Bool, true, false, not, nat_eq, ltb, if◌then◌else◌, List, [], ◌∷◌, ◌++◌, length, refl, sym, ap, ◌∙◌, subst, arith, length-append}
 use Rattle.std.specs.Prelude.{Option, Some, None}
 use Rattle.std.specs.List.{slice_get}
 use Rattle.std.proofs.lemmas.Bool.Decides.{nat_tests}
@@ -17,10 +17,12 @@ use Rattle.channel_plain.specs.declared.sent.Sent.{Sent}
 use Rattle.channel_plain.specs.declared.trace.Asked.{Asked}
 use Rattle.channel_plain.specs.declared.trace.Side.{Side}
 use Rattle.channel_plain.specs.declared.trace.TraceEnd.{TraceEnd}
-use Rattle.channel_plain.specs.declared.trace.TraceEnd.TheVariants as end
-use Rattle.channel_plain.specs.Picks.{CallBook, PlainState, asks_by, ask_ended, ask_stepped, ask_picked_at, begins, call_begun, clear_ended, drained_calls, earliest_call, from_rest, is_late, is_wide, picked, picked_by, post_or_soon, posting, recorded, refusal_of, served}
+use Rattle.std.specs.Prelude.{nat_lt, nat_le}
+use Rattle.pcc_journal.specs.declared.reserved.TheConstants.{MAX_ITEMS}
+use Rattle.channel_core.specs.declared.answers.CallRefusal.TheVariants as refusal
+use Rattle.channel_plain.specs.Picks.{refused_end, CallBook, PlainState, asks_by, ask_ended, ask_stepped, ask_picked_at, begins, call_begun, clear_ended, drained_calls, earliest_call, from_rest, is_late, is_wide, picked, picked_by, post_or_soon, posting, recorded, refusal_of, served}
 use Rattle.channel_plain.specs.Standing.{IsServing, Serving, Stands, carried, carried_at, is_rest, owns}
-use Rattle.channel_plain.proofs.Feeds.{Fed, fed, stepped}
+use Rattle.channel_plain.proofs.AskFed.{Fed, fed, stepped}
 
 serving_as : (calls : List Asked) (w w' : Wiring) (u u' n n' f f' : ℕ) (b : CallBook) → w' ≡ w → u' ≡ u → n' ≡ n → f' ≡ f → Serving calls w u n f b → Serving calls w' u' n' f' b
 serving_as calls w w' u u' n n' f f' b ew eu en ef h = subst (λ (z : Wiring × ℕ × ℕ × ℕ). Serving calls z.0 z.1 z.2 z.3 b) (λ i. (sym ew i, sym eu i, sym en i, sym ef i)) h
@@ -78,22 +80,23 @@ pub record Passes (w : Wiring) (c : Asked) (n : ℕ) : Type 0 where
   pub fits : length c.bytes ≤ w.room
   pub room : n < 4096
 
-passes_by : (a b d : Bool) (w : Wiring) (c : Asked) (n : ℕ) → is_wide w c ≡ a → ltb w.room (length c.bytes) ≡ b → (n == 4096) ≡ d → n ≤ 4096 → (if a then Some (end.BadCode c.code) else if b then Some (end.TooLong (length c.bytes) w.room) else if d then Some end.JournalFull else None) ≡ None → Passes w c n
-passes_by true b d w c n e f g le h = absurd (cc h)
-passes_by false true d w c n e f g le h = absurd (cc h)
-passes_by false false true w c n e f g le h = absurd (cc h)
-passes_by false false false w c n e f g le h = record { code = e; fits = not_above w.room (length c.bytes) f; room = not_most n le g }
+passes_by : (a b d : Bool) (w : Wiring) (c : Asked) (n : ℕ) → is_wide w c ≡ a → nat_lt w.room (length c.bytes) ≡ b → nat_le MAX_ITEMS n ≡ d
+    → refused_end (if a then Some (refusal.BadCode c.code) else if b then Some (refusal.TooLong (length c.bytes) w.room) else if d then Some refusal.JournalFull else None) ≡ None → Passes w c n
+passes_by true b d w c n e f g h = absurd (cc h)
+passes_by false true d w c n e f g h = absurd (cc h)
+passes_by false false true w c n e f g h = absurd (cc h)
+passes_by false false false w c n e f g h = record { code = e; fits = not_above w.room (length c.bytes) f; room = not_most n g }
   where
-    not_above : (x y : ℕ) → ltb x y ≡ false → y ≤ x
+    not_above : (x y : ℕ) → nat_lt x y ≡ false → y ≤ x
     not_above x y h = grind (arith, nat_tests)
 
-    not_most : (n : ℕ) → n ≤ 4096 → (n == 4096) ≡ false → n < 4096
-    not_most n le h = grind (arith, nat_tests)
+    not_most : (n : ℕ) → nat_le MAX_ITEMS n ≡ false → n < 4096
+    not_most n h = grind (arith, nat_tests)
 
 begins_serving : (o : Option TraceEnd) (calls : List Asked) (c : Asked) (r : ℕ) (s : PlainState) → refusal_of s.ask.wiring c (length s.calls.records) (flying s.ask.in_flight) ≡ o → length s.calls.records + flying s.ask.in_flight ≤ 4096 → slice_get calls s.calls.ended ≡ Some c → IsServing calls (begins o c r s).state
 begins_serving (Some e) calls c r s q most at = λ e. absurd (cc e)
 begins_serving None calls c r s q most at = let n : ℕ = length s.calls.records + flying s.ask.in_flight in
-    let p = passes_by (is_wide s.ask.wiring c) (ltb s.ask.wiring.room (length c.bytes)) (n == 4096) s.ask.wiring c n refl refl refl most q in
+    let p = passes_by (is_wide s.ask.wiring c) (nat_lt s.ask.wiring.room (length c.bytes)) (nat_le MAX_ITEMS n) s.ask.wiring c n refl refl refl q in
     served_serving s.ask.in_flight calls c r (record s { ask = ask_budgeted s.ask c.polls; calls = call_begun s.calls }) refl (λ b. record { call = c; at = at; code = p.code; fits = p.fits; polls = refl; room = λ e. p.room })
 
 rest_serving : (b : Bool) (o : Option Asked) (calls : List Asked) (r : ℕ) (s : PlainState) → s.calls.begun ≡ b → slice_get calls s.calls.ended ≡ o → length s.calls.records + flying s.ask.in_flight ≤ 4096 → IsServing calls s → IsServing calls (from_rest b o r s).state

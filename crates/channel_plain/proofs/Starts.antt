@@ -12,9 +12,9 @@ use Rattle.pcc_steps.specs.Asking.{Ask, AskOk, IsNewAsk}
 use Rattle.pcc_steps.specs.Answering.{Answer, AnswerOk, IsNewAnswer}
 use Rattle.pcc_steps.specs.Laws.{StartsAgreed}
 use Rattle.pcc_steps.specs.Agree.{Agree}
+use Rattle.channel_core.specs.Executions.{Executions}
 use Rattle.channel_plain.specs.Picks.{CallBook}
 use Rattle.channel_plain.specs.News.{opening_of}
-use Rattle.channel_plain.specs.Holding.{Executions}
 use Rattle.channel_plain.specs.Standing.{Holds, IsCarried, carried_at, is_rest}
 
 eight : (a b c d e f g h : ℕ) (l : List ℕ) → length (a ∷ b ∷ c ∷ d ∷ e ∷ f ∷ g ∷ h ∷ l) ≡ 8 + length l

@@ -12,7 +12,7 @@ use Rattle.channel_plain.specs.Standing.{HavePolls, Stands}
 use Rattle.channel_plain.specs.Weaving.{Clocked, Follows, IsFresh, IsWeave}
 use Rattle.channel_plain.specs.Wholes.{IsWhole}
 use Rattle.channel_plain.specs.Good.{Stays}
-use Rattle.channel_plain.proofs.Stayings.{few_readings, stays}
+use Rattle.channel_plain.proofs.WeaveStays.{few_readings, stays}
 use Rattle.channel_plain.proofs.WholeOf.{whole_of}
 use Rattle.channel_plain.proofs.WordRunOf.{word_run}
 

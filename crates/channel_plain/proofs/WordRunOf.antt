@@ -27,11 +27,11 @@ use Rattle.channel_plain.specs.News.{opening_of}
 use Rattle.channel_plain.specs.Standing.{HavePolls, IsCarried, IsServing, Stands, carried, carried_at, is_rest}
 use Rattle.channel_plain.specs.Weaving.{IsFresh, Readings, unread, reads, Wove, unpicked, picks, reading_of}
 use Rattle.channel_plain.specs.WordRuns.{Answers, unanswered, Calls, Cut, IsAnswering, IsAsking, Remembers, Serves, goes_on, begins, Turns, none, Walks, WordRun, posts_call, answer_from, asked_line, answered_line, flown, looking, sending, side_of_line, whole, IsUnfinished}
-use Rattle.channel_plain.proofs.Feeds.{rest_is}
+use Rattle.channel_plain.proofs.AskFed.{rest_is}
 use Rattle.channel_plain.proofs.WordSteps.{takes_next, AskTie, resting, running, Running, posts_run, looks_run, calls_at}
 use Rattle.channel_plain.proofs.AskTurns.{pick_tie}
 use Rattle.channel_plain.proofs.AnswerTurns.{AnswerTie, between_run, is_rest as is_rest_a, is_run, a_resting, a_running, answer_tie}
-use Rattle.channel_plain.proofs.Kepts.{asks_kept, picked_kept}
+use Rattle.channel_plain.proofs.PickKeeps.{asks_kept, picked_kept}
 
 -- ---- lists
 

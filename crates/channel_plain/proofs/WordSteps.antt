@@ -21,7 +21,7 @@ use Rattle.channel_plain.specs.Picks.{CallBook, PlainState, ask_ended, call_ende
 use Rattle.channel_plain.specs.Standing.{is_rest}
 use Rattle.channel_plain.specs.Weaving.{reading_of}
 use Rattle.channel_plain.specs.WordRuns.{Walks, Calls, Serves, Turn, Turns, more, sends, looks_on, gives_up, takes, end_call, take_reading, goes_on_if, posts_call, earliest_at, replied, next_of, rest_of}
-use Rattle.channel_plain.proofs.Feeds.{Fed}
+use Rattle.channel_plain.proofs.AskFed.{Fed}
 
 -- ---- runs
 

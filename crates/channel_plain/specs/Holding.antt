@@ -3,12 +3,10 @@ use Rattle.std.specs.Prelude.{◌≡◌, ◌<◌, ◌+◌, ◌-◌, ◌^◌, min
 use Rattle.rate_limit.specs.declared.Limits.{Limits}
 use Rattle.pcc_journal.specs.WithSpare.{WithSpare}
 use Rattle.pcc_journal.specs.declared.record.Record.{Record}
-use Rattle.pcc_journal.specs.declared.command.Command.{Command}
 use Rattle.pcc_steps.specs.declared.ask.AskOutcome.{AskOutcome}
 use Rattle.pcc_steps.specs.declared.ask.AskOutcome.TheVariants.{Posted, Clear, Drained}
 use Rattle.channel_plain.specs.declared.sent.Sent.{Sent}
 use Rattle.channel_plain.specs.declared.sent.Flight.{Flight}
-use Rattle.channel_plain.specs.declared.register.Ahead.{Ahead}
 use Rattle.channel_plain.specs.declared.trace.Asked.{Asked}
 use Rattle.channel_plain.specs.declared.trace.TraceEnd.{TraceEnd}
 use Rattle.channel_plain.specs.declared.trace.TraceEnd.TheVariants as end
@@ -35,22 +33,6 @@ post_of (Some c) = Some c.command.post
 
 abbrev pub book_of : Limits → WithSpare Record → Option Flight → ℕ → Bool → CallBook
 book_of limits journal flight ended begun = record { limits = limits; records = journal.items; sent = sent_of flight; ended = ended; begun = begun }
-
--- ---- the executed commands
-
--- what is seen of them, and whether the memory for one more is there, with so many bytes for its space
-pub record Executions : Type 0 where
-  pub commands : List Command
-  pub ready : Bool
-  pub room : ℕ
-
-abbrev pub is_ready : Option Ahead → Bool
-is_ready None = false
-is_ready (Some a) = true
-
-abbrev pub HasAhead : Option Ahead → ℕ → ℕ → Type 0
-HasAhead None room spare = Unit {0}
-HasAhead (Some a) room spare = (length a.input.items ≡ room) × (length a.output.items ≡ room) × (0 < spare)
 
 -- a command is in flight, whose space has so many bytes
 abbrev pub FliesWith : Option Sent → ℕ → Type 0

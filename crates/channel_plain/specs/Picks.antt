@@ -1,8 +1,8 @@
 -- A channel on a plain list of words, and what a pick of one of its ends makes of it.
-use Rattle.std.specs.Prelude.{◌==◌, ℕ, ◌+◌, ltb, Bool, true, false, if◌then◌else◌, List, [], ◌∷◌, ◌++◌, length, map, Option, Some, None}
+use Rattle.std.specs.Prelude.{◌&&◌, nat_lt, ◌==◌, ℕ, ◌+◌, ltb, Bool, true, false, if◌then◌else◌, List, [], ◌∷◌, ◌++◌, length, map, Option, Some, None}
 use Rattle.std.specs.List.{slice_get}
 use Rattle.pcc_history.specs.Devices.{Device}
-use Rattle.pcc_history.specs.Channel.{Exchange, over}
+use Rattle.pcc_history.specs.Channel.{over}
 use Rattle.rate_limit.specs.declared.Limits.{Limits}
 use Rattle.rate_limit.specs.RateLimits.{earliest_of}
 use Rattle.pcc_journal.specs.declared.record.Record.{Record}
@@ -23,6 +23,11 @@ use Rattle.pcc_steps.specs.declared.answer.AnswerOutcome.TheVariants.{Idle, Serv
 use Rattle.pcc_steps.specs.Asking.{Ask, ask_next, ask_fed, ask_told, ask_begun, ask_looking, ask_budgeted}
 use Rattle.pcc_steps.specs.Answering.{Answer, answer_next, answer_told, answer_begun}
 use Rattle.pcc_steps.specs.Agree.{act, Answerer, answerer_fed, flying, found}
+use Rattle.channel_core.specs.declared.answers.CallRefusal.{CallRefusal}
+use Rattle.channel_core.specs.declared.answers.CallRefusal.TheVariants as refusal
+use Rattle.channel_core.specs.declared.refusals.TheConstants.{GREATEST_CODE}
+use Rattle.channel_core.specs.Refusals.{has_byte_codes, refusal_of as call_refusal}
+use Rattle.channel_core.specs.Executions.{command_by}
 use Rattle.channel_plain.specs.declared.sent.Sent.{Sent}
 use Rattle.channel_plain.specs.declared.trace.Side.{Side}
 use Rattle.channel_plain.specs.declared.trace.Side.TheVariants.{System, Platform}
@@ -134,17 +139,24 @@ call_posted c space reading b = record b { sent = Some (sent_by c space reading)
 abbrev pub earliest_call : CallBook → ℕ
 earliest_call b = earliest_of b.limits (times_of b.records)
 
--- the header of types 0 to 2 has one byte for the code
+-- the code doesn't fit the header of types 0 to 2
 abbrev pub is_wide : Wiring → Asked → Bool
-is_wide w c = if ltb w.kind 3 then ltb 255 c.code else false
+is_wide w c = has_byte_codes w.kind && nat_lt GREATEST_CODE c.code
+
+-- what a trace says of a refused call; want of memory ends no call
+abbrev pub refused_end : Option CallRefusal → Option TraceEnd
+refused_end None = None
+refused_end (Some (refusal.BadCode code)) = Some (end.BadCode code)
+refused_end (Some (refusal.TooLong len room)) = Some (end.TooLong len room)
+refused_end (Some refusal.JournalFull) = Some end.JournalFull
+refused_end (Some refusal.NoMemory) = None
+refused_end (Some (refusal.StillPending looks)) = Some (end.StillPending looks)
+refused_end (Some (refusal.TooSoon now earliest)) = Some (end.TooSoon now earliest)
+refused_end (Some (refusal.TimedOut looks)) = Some (end.TimedOut looks)
 
 -- what refuses a call before it is begun
 abbrev pub refusal_of : Wiring → Asked → ℕ → ℕ → Option TraceEnd
-refusal_of w c records flights =
-    if is_wide w c then Some (end.BadCode c.code)
-    else if ltb w.room (length c.bytes) then Some (end.TooLong (length c.bytes) w.room)
-    else if records + flights == 4096 then Some end.JournalFull
-    else None
+refusal_of w c records flights = refused_end (call_refusal w.kind w.room c.code (length c.bytes) (records + flights))
 
 -- ---- the asking side
 
@@ -212,16 +224,13 @@ abbrev pub started_at : AnswerStage → Answer → Answer
 started_at AnswerRest b = answer_begun b
 started_at _ b = b
 
-abbrev pub command_of : Exchange → Command
-command_of x = record { code = x.code; input = x.input; error = x.error; output = x.output }
-
 module _ (exec : Device) where
   -- one word step; a command that is loaded by it is executed
   abbrev pub answer_picked : PlainState → Picked
   answer_picked s = let b : Answer = started_at s.answer.stage s.answer in let action = answer_next b in let value : ℕ = found action s.words in
       let y : Answerer = answerer_fed exec (record { m = b; device = s.device; done = [] }) value in
       record {
-        state = record s { words = act action s.words; answer = y.m; device = y.device; executed = s.executed ++ map command_of y.done };
+        state = record s { words = act action s.words; answer = y.m; device = y.device; executed = s.executed ++ map command_by y.done };
         action = action;
         value = value;
         end = answer_end (answer_told b value);

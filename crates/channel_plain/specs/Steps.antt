@@ -5,9 +5,10 @@ use Rattle.pcc_steps.specs.declared.answer.AnswerStage.TheVariants.{RunDevice}
 use Rattle.pcc_steps.specs.Asking.{Ask, ask_budgeted, ask_looking}
 use Rattle.pcc_steps.specs.Answering.{Answer}
 use Rattle.pcc_steps.specs.Agree.{Answerer}
+use Rattle.channel_core.specs.Executions.{Executions, command_by}
 use Rattle.channel_plain.specs.declared.pick.Pick.{Pick}
-use Rattle.channel_plain.specs.Picks.{CallBook, PlainState, Picked, call_begun, command_of}
-use Rattle.channel_plain.specs.Holding.{Executions, Takes}
+use Rattle.channel_plain.specs.Picks.{CallBook, PlainState, Picked, call_begun}
+use Rattle.channel_plain.specs.Holding.{Takes}
 
 -- the memory for an executed command is there, where one is to be executed
 abbrev pub SettlesIf : AnswerStage → Bool → Type 0
@@ -23,7 +24,7 @@ ready_after _ ready = ready
 pub record IsSettled (y : Answerer) (stage : AnswerStage) (before : Executions) (b : Answer) (d : List ℕ) (after : Executions) : Type 0 where
   pub answer : b ≡ y.m
   pub device : d ≡ y.device
-  pub register : after ≡ record before { commands = before.commands ++ map command_of y.done; ready = ready_after stage before.ready }
+  pub executed : after ≡ record before { commands = before.commands ++ map command_by y.done; ready = ready_after stage before.ready }
 
 -- a pick of an end did what is said, and left this
 abbrev pub IsPick : Picked → PlainState → Pick → Type 0

@@ -16,12 +16,11 @@ ghost use Rattle.channel_plain.specs.Standing.{HavePolls, IsServing, Stands};
 ghost use Rattle.channel_plain.specs.Steps.{IsPick, Reads, begun_with, budget_by, looking};
 ghost use Rattle.channel_plain.specs.News.{IsNew};
 
-use crate::book::Book;
-use crate::memory::zeros;
+use crate::call_log::CallLog;
 use crate::pick::Pick;
-use crate::register::Register;
 use crate::step::{fit, fit_code, settle, start};
 use crate::trace::{Asked, TraceEnd};
+use channel_core::{Executed, zeros};
 use pcc_exec::Executor;
 use pcc_io::{Clock, NoMemory};
 use pcc_journal::{Commands, Journal, Pending};
@@ -44,8 +43,8 @@ pub(crate) struct Ends<E: Executor> {
     answer: AnswerState,
     device: E,
     first: Snapshot<E>,
-    book: Book,
-    register: Register,
+    calls: CallLog,
+    executed: Executed,
 }
 
 impl<E: Executor> Model for Ends<E> {
@@ -54,9 +53,9 @@ impl<E: Executor> Model for Ends<E> {
 
     ghost Value = { PlainState };
 
-    ghost view = { λ s. record { words = s.words.items; ask = s.ask; answer = s.answer; device = E.state s.device; start = E.state s.first.value; calls = s.book; executed = s.register.commands } };
+    ghost view = { λ s. record { words = s.words.items; ask = s.ask; answer = s.answer; device = E.state s.device; start = E.state s.first.value; calls = s.calls; executed = s.executed.commands } };
 
-    ghost invariant = { λ s. Holds E.exec_of E.is_state E.room_of (record { words = s.words.items; ask = s.ask; answer = s.answer; device = E.state s.device; start = E.state s.first.value; calls = s.book; executed = s.register.commands }) s.register.ready s.register.room };
+    ghost invariant = { λ s. Holds E.exec_of E.is_state E.room_of (record { words = s.words.items; ask = s.ask; answer = s.answer; device = E.state s.device; start = E.state s.first.value; calls = s.calls; executed = s.executed.commands }) s.executed.ready s.executed.room };
 }
 
 impl<E: Executor> Ends<E> {
@@ -86,8 +85,8 @@ impl<E: Executor> Ends<E> {
             answer,
             device,
             first,
-            book: Book::new(alloc, limits),
-            register: Register::new(alloc, wiring.room),
+            calls: CallLog::new(alloc, limits),
+            executed: Executed::new(alloc, wiring.room),
         })
     }
 
@@ -100,7 +99,7 @@ impl<E: Executor> Ends<E> {
     pub fn journal(&self) -> &Journal
         ensures { result.now.items ≡ self.now.calls.records }
     {
-        self.book.journal()
+        self.calls.journal()
     }
 
     /// The command in flight.
@@ -108,7 +107,7 @@ impl<E: Executor> Ends<E> {
         ensures { option_copied result ≡ pending_by self.now.ask.in_flight self.now.calls.sent }
     {
         if self.ask.in_flight() {
-            self.book.sent()
+            self.calls.sent()
         } else {
             None
         }
@@ -117,7 +116,7 @@ impl<E: Executor> Ends<E> {
     pub fn executed(&self) -> &Commands
         ensures { result.now.items ≡ self.now.executed }
     {
-        self.register.commands()
+        self.executed.commands()
     }
 
     /// What holds between two picks. It does nothing.
@@ -125,7 +124,7 @@ impl<E: Executor> Ends<E> {
         ensures stands { Stands E.exec_of E.is_state E.room_of self.now }
         ensures limits { WithinLimits self.now.calls.limits (times_of self.now.calls.records) (post_of self.now.calls.sent) }
     {
-        self.book.keep();
+        self.calls.keep();
     }
 
     /// A pick of the answering end: its next word step. A command that is loaded by it is executed.
@@ -142,7 +141,7 @@ impl<E: Executor> Ends<E> {
         settle(
             &mut self.answer,
             &mut self.device,
-            &mut self.register,
+            &mut self.executed,
             reports,
         );
         Pick {
@@ -173,20 +172,20 @@ impl<E: Executor> Ends<E> {
         ensures ok { IfOk result (λ pick. Reads K.taken K.tells clock.old clock.new (λ r. from_rest self.old.calls.begun (slice_get calls.now self.old.calls.ended) r self.old) self.new pick) }
         ensures err { OnErr result ((self.new ≡ self.old) × (clock.new ≡ clock.old)) }
     {
-        let Some(call) = call_at(calls, self.book.ended()) else {
+        let Some(call) = call_at(calls, self.calls.ended()) else {
             return Ok(Pick::rest(TraceEnd::Open));
         };
         fit_code(call);
-        if self.book.begun() {
+        if self.calls.begun() {
             return self.serve(call, clock);
         }
         match self
-            .book
+            .calls
             .refusal(call, self.ask.wiring(), self.ask.in_flight())
         {
             Some(end) => {
                 asking_laws();
-                self.book.end_call();
+                self.calls.end_call();
                 Ok(Pick::rest(end))
             }
             None => self.begin(call, clock),
@@ -226,7 +225,7 @@ impl<E: Executor> Ends<E> {
         if self.ask.in_flight() {
             asking_laws();
             ask_budget(&mut self.ask, call.polls);
-            self.book.begin();
+            self.calls.begin();
             return Ok(self.look(clock));
         }
         self.post(call, true, clock)
@@ -252,8 +251,8 @@ impl<E: Executor> Ends<E> {
     {
         asking_laws();
         fit(call.bytes.as_slice());
-        self.register.reserve(self.alloc)?;
-        let refused = self.book.post(self.alloc, call, self.ask.space(), clock)?;
+        self.executed.reserve(self.alloc)?;
+        let refused = self.calls.post(self.alloc, call, self.ask.space(), clock)?;
         set_budget(&mut self.ask, begins, call.polls);
         match refused {
             Some(end) => Ok(Pick::rest(end)),
@@ -285,7 +284,7 @@ impl<E: Executor> Ends<E> {
         let action = ask_next(&self.ask);
         let value = perform(&mut self.words, action);
         let told = ask_feed(&mut self.ask, value);
-        let end = self.book.told(told, &self.ask, clock);
+        let end = self.calls.told(told, &self.ask, clock);
         Pick { action, value, end }
     }
 }

@@ -1,13 +1,11 @@
 //! A channel whose two ends take turns on a plain list of words, one word step a pick: the core with nothing shared (ACPI 6.5, chapter 14).
 #![tactic(auto)]
 
-mod book;
+mod call_log;
 mod ends;
 mod lines;
-mod memory;
 mod pick;
 mod plain;
-mod register;
 mod sent;
 mod step;
 mod text;

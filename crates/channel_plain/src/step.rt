@@ -6,8 +6,8 @@ ghost use Rattle.pcc_steps.specs.Agree.{settle};
 ghost use Rattle.channel_plain.specs.Picks.{started_at};
 ghost use Rattle.channel_plain.specs.Steps.{IsSettled, SettlesIf};
 
-use crate::register::Register;
 use crate::trace::Asked;
+use channel_core::Executed;
 use pcc_exec::Executor;
 use pcc_steps::{Action, AnswerState, answer_next, answer_ran, answer_space, answer_start};
 
@@ -38,18 +38,18 @@ pub(crate) fn start(answer: &mut AnswerState)
 pub(crate) fn settle<E: Executor>(
     answer: &mut AnswerState,
     device: &mut E,
-    register: &mut Register,
+    executed: &mut Executed,
     reports: bool,
 )
-    requires ready { SettlesIf answer.old.stage register.old.ready }
-    requires long { register.old.room ≡ answer.old.wiring.room }
+    requires ready { SettlesIf answer.old.stage executed.old.ready }
+    requires long { executed.old.room ≡ answer.old.wiring.room }
     requires room { E.room_of (E.state device.old) ≡ answer.old.wiring.room }
     requires reports { reports ≡ answer.old.wiring.reports }
-    ensures { IsSettled (settle E.exec_of (record { m = answer.old; device = E.state device.old; done = [] })) answer.old.stage register.old answer.new (E.state device.new) register.new }
+    ensures { IsSettled (settle E.exec_of (record { m = answer.old; device = E.state device.old; done = [] })) answer.old.stage executed.old answer.new (E.state device.new) executed.new }
 {
     let Action::Execute { code } = answer_next(answer) else {
         return;
     };
-    let status = register.execute(device, code, reports, answer_space(answer));
+    let status = executed.execute(device, code, reports, answer_space(answer));
     answer_ran(answer, status);
 }

@@ -2,7 +2,7 @@ use Rattle.std.proofs.Common.{List, subst}
 use Rattle.std.proofs.lemmas.Result.{on_ok_weaker}
 use Rattle.channel_plain.specs.declared.trace.Side.{Side}
 use Rattle.channel_plain.specs.Weaving.{IsWeave}
-use Rattle.channel_plain.proofs.Goods.{is_good}
+use Rattle.channel_plain.proofs.JournalIsGood.{is_good}
 use Rattle.channel_plain.proofs.WeaveRuns.{is_weave, on_err, stays_of, whole_of_weave}
 use Rattle.channel_plain.proofs.weaving.weave_to.Goals as goal
 

@@ -1,7 +1,7 @@
 use Rattle.std.proofs.Common.{sym, subst}
 use Rattle.channel_plain.specs.Picks.{PlainState}
 use Rattle.channel_plain.specs.Standing.{IsServing}
-use Rattle.channel_plain.proofs.Goods.{is_good}
+use Rattle.channel_plain.proofs.JournalIsGood.{is_good}
 use Rattle.channel_plain.proofs.ServeKeeps.{picked_serving}
 use Rattle.channel_plain.proofs.plain.Plain.pick.Goals as goal
 

@@ -12,7 +12,7 @@ use Rattle.channel_plain.specs.declared.trace.Asked.{Asked}
 use Rattle.channel_plain.specs.declared.trace.TraceEnd.{TraceEnd}
 use Rattle.channel_plain.specs.Picks.{CallBook, PlainState, Picked, ask_ended, ask_picked_at, ask_stepped, begins, call_begun, clear_ended, drained_calls, earliest_call, from_rest, is_late, picked_by, post_or_soon, posting, recorded, refusal_of, served}
 use Rattle.channel_plain.specs.Standing.{Stands, is_rest}
-use Rattle.channel_plain.proofs.Feeds.{Fed, fed, stepped, rest_is}
+use Rattle.channel_plain.proofs.AskFed.{Fed, fed, stepped, rest_is}
 use Rattle.channel_plain.proofs.AskPicks.{running}
 
 pub record Kept (s : PlainState) (p : Picked) : Type 0 where

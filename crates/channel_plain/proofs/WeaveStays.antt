@@ -9,7 +9,7 @@ use Rattle.channel_plain.specs.declared.trace.TraceLine.{TraceLine}
 use Rattle.channel_plain.specs.Picks.{PlainState, asks_by, picked}
 use Rattle.channel_plain.specs.Weaving.{Wove, unpicked, picks, reading_of}
 use Rattle.channel_plain.specs.Good.{Stays}
-use Rattle.channel_plain.proofs.Kepts.{picked_kept}
+use Rattle.channel_plain.proofs.PickKeeps.{picked_kept}
 
 few_more : (b : Bool) (r : ℕ) → length (reading_of b r) ≤ 1
 few_more true r = omega arith

@@ -6,25 +6,22 @@ ghost use Rattle.rate_limit.specs.RateLimits.{WithinLimits};
 ghost use Rattle.pcc_journal.specs.Records.{times_of};
 ghost use Rattle.pcc_history.specs.Channel.{over};
 ghost use Rattle.pcc_steps.specs.Agree.{flying};
-ghost use Rattle.channel_plain.specs.Picks.{ask_ended, call_begun, call_ended, clear_ended, command_in, drain_ended, refusal_of, takes_reading};
+ghost use Rattle.channel_plain.specs.Picks.{ask_ended, call_begun, call_ended, clear_ended, command_in, drain_ended, refusal_of, refused_end, takes_reading};
 ghost use Rattle.channel_plain.specs.Holding.{FliesIf, FliesWith, Takes, post_of, tried};
 
-use crate::memory::zeros;
 use crate::sent::{Flight, Sent};
 use crate::trace::{Asked, TraceEnd};
+use channel_core::{CallRefusal, refusal};
 use pcc_io::{Bytes, Clock, NoMemory};
-use pcc_journal::{Journal, MAX_ITEMS, Pending, Record};
+use pcc_journal::{Journal, Pending, Record};
 use pcc_steps::{AskOutcome, AskState, Wiring};
 use rate_limit::{Limits, completion_keeps_limits, earliest, earliest_is_exact};
 use std::alloc::Global;
 use std::marker::Model;
 
-/// The greatest code that the generic header of types 0 to 2 can carry (ACPI 6.5, 14.2.1).
-const GREATEST_CODE: u32 = 255;
-
 /// The calls that have ended, the one that is begun, and the records. A command that is posted has the memory for its record.
 #[derive(Drop)]
-pub(crate) struct Book {
+pub(crate) struct CallLog {
     limits: Limits,
     journal: Journal,
     flight: Option<Flight>,
@@ -32,7 +29,7 @@ pub(crate) struct Book {
     begun: bool,
 }
 
-impl Model for Book {
+impl Model for CallLog {
     ghost use Rattle.rate_limit.specs.RateLimits.{WithinLimits};
     ghost use Rattle.pcc_journal.specs.Records.{times_of};
     ghost use Rattle.channel_plain.specs.Picks.{CallBook};
@@ -45,12 +42,12 @@ impl Model for Book {
     ghost invariant = { λ b. HasMemory b.flight b.journal.spare × WithinLimits b.limits (times_of b.journal.items) (post_of (sent_of b.flight)) × MayEnd b.begun b.ended };
 }
 
-impl Book {
+impl CallLog {
     /// No call has begun.
-    pub fn new(alloc: Global, limits: Limits) -> Book
+    pub fn new(alloc: Global, limits: Limits) -> CallLog
         ensures { result ≡ record { limits = limits; records = []; sent = None; ended = 0; begun = false } }
     {
-        Book {
+        CallLog {
             limits,
             journal: Journal::new(alloc),
             flight: None,
@@ -113,18 +110,8 @@ impl Book {
     pub fn refusal(&self, call: &Asked, wiring: &Wiring, flies: bool) -> Option<TraceEnd>
         ensures { result ≡ refusal_of wiring.now call.now (length self.now.records) (flying flies) }
     {
-        let room = wiring.room;
-        let len = call.bytes.len();
-        if wiring.kind < 3 && call.code > GREATEST_CODE {
-            return Some(TraceEnd::BadCode { code: call.code });
-        }
-        if len > room as usize {
-            return Some(TraceEnd::TooLong { len, room });
-        }
-        if self.journal.len() + usize::from(flies) == MAX_ITEMS {
-            return Some(TraceEnd::JournalFull);
-        }
-        None
+        let posts = self.journal.len() + usize::from(flies);
+        refused_end(refusal(wiring.kind, wiring.room, call.code, call.bytes.len(), posts))
     }
 
     /// Takes the memory for a post and its record, and then a reading. The call ends where that is too soon, else its command is posted.
@@ -246,6 +233,21 @@ impl Book {
                 TraceEnd::Done { error }
             }
         }
+    }
+}
+
+// What a trace says of a refused call.
+fn refused_end(refusal: Option<CallRefusal>) -> Option<TraceEnd>
+    ensures { result ≡ refused_end refusal }
+{
+    match refusal? {
+        CallRefusal::BadCode { code } => Some(TraceEnd::BadCode { code }),
+        CallRefusal::TooLong { len, room } => Some(TraceEnd::TooLong { len, room }),
+        CallRefusal::JournalFull => Some(TraceEnd::JournalFull),
+        CallRefusal::NoMemory => None,
+        CallRefusal::StillPending { looks } => Some(TraceEnd::StillPending { looks }),
+        CallRefusal::TooSoon { now, earliest } => Some(TraceEnd::TooSoon { now, earliest }),
+        CallRefusal::TimedOut { looks } => Some(TraceEnd::TimedOut { looks }),
     }
 }
 
