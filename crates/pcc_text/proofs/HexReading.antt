@@ -1,12 +1,11 @@
 -- What a field of hexadecimal digits is read as.
 use Rattle.std.proofs.Common.{◌≡◌, ℕ, ◌*◌, ◌%◌, Bool, true, false, List, [], ◌∷◌, length, refl, sym, ap, ◌∙◌, arith}
 use Rattle.std.specs.Prelude.{Option, Some, None, bytes_eq}
-use Rattle.hex.specs.Hex.{encode_lower, lower_digits}
+use Rattle.hex.specs.Hex.{encode_lower, encode_with, lower_digits}
 use Rattle.hex.proofs.HexLemmas.{length-encode_with}
 use Rattle.pcc_bytes.specs.Bytes.{IsBytes}
-use Rattle.pcc_bytes.specs.Fields.{hex_text}
 use Rattle.pcc_text.specs.Reading.{hex_of}
-use Rattle.pcc_text.proofs.Laws.{hex_again, hex_fits, hex_reads, same_text, text_same}
+use Rattle.pcc_text.proofs.Laws.{hex_again, hex_fits, hex_reads, text_same}
 
 none_from : {A : Type 0} (o : Option A) → ((x : A) → o ≡ Some x → ⊥) → o ≡ None
 none_from None h = refl
@@ -30,11 +29,20 @@ odd_unread field dash odd = none_from (hex_of field) (λ b h.
     let m : length field ≡ 2 * length b = ap length (spelled_by field b dash h) ∙ n in
     odd (omega arith))
 
-pub bytes_read : (field bytes : List ℕ) → bytes_eq (hex_text bytes) field ≡ true → IsBytes bytes → hex_of field ≡ Some bytes
-bytes_read field bytes h small = ap hex_of (sym (same_text (hex_text bytes) field h)) ∙ hex_again bytes small
+pub empty_unread : (field : List ℕ) → bytes_eq field (45 ∷ []) ≡ false → length field ≡ 0 → hex_of field ≡ None
+empty_unread field dash none = none_from (hex_of field) (λ b h. no_bytes field b dash none h)
+  where
+    no_bytes : (f b : List ℕ) → bytes_eq f (45 ∷ []) ≡ false → length f ≡ 0 → hex_of f ≡ Some b → ⊥
+    no_bytes f [] d z h = not_both (bytes_eq f (45 ∷ [])) (text_same f (45 ∷ []) (hex_reads f [] h)) d
+    no_bytes f (x ∷ xs) d z h =
+        let n = length-encode_with lower_digits (x ∷ xs) in
+        let m : length f ≡ 2 * length (x ∷ xs) = ap length (hex_reads f (x ∷ xs) h) ∙ n in
+        absurd (omega arith)
 
-pub other_unread : (field bytes : List ℕ) → bytes_eq field (45 ∷ []) ≡ false → bytes_eq (hex_text bytes) field ≡ false
-    → ((b : List ℕ) → IsBytes b → field ≡ encode_lower b → bytes ≡ b) → hex_of field ≡ None
-other_unread field bytes dash h read = none_from (hex_of field) (λ b e.
-    let same : bytes ≡ b = read b (hex_fits field b e) (spelled_by field b dash e) in
-    not_both (bytes_eq (hex_text bytes) field) (text_same (hex_text bytes) field (ap hex_text same ∙ sym (hex_reads field b e))) h)
+pub bytes_read : (field bytes : List ℕ) → (length field ≡ 0 → ⊥) → field ≡ encode_lower bytes → IsBytes bytes → hex_of field ≡ Some bytes
+unfolding encode_with
+bytes_read field [] some is small = absurd (some (ap length is))
+bytes_read field (x ∷ xs) some is small = ap hex_of is ∙ hex_again (x ∷ xs) small
+
+pub other_unread : (field : List ℕ) → bytes_eq field (45 ∷ []) ≡ false → ((b : List ℕ) → IsBytes b → field ≡ encode_lower b → ⊥) → hex_of field ≡ None
+other_unread field dash never = none_from (hex_of field) (λ b e. never b (hex_fits field b e) (spelled_by field b dash e))

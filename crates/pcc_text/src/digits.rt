@@ -1,6 +1,6 @@
 //! Hexadecimal digits by arithmetic. The loop is vectorised: for long lists of bytes it takes a quarter of the time of `hex::encode_to_slice`, whose
 //! text it has.
-ghost use Rattle.std.specs.Prelude.{◌≡◌, ◌<◌, ◌*◌, List, ℕ, length, slice_index};
+ghost use Rattle.std.specs.Prelude.{◌≡◌, ◌<◌, ◌*◌, ◌/◌, ◌%◌, ◌==◌, ◌&&◌, List, ℕ, length, slice_index, true};
 ghost use Rattle.hex.specs.Hex.{encode_lower, lower_digits};
 ghost use Rattle.pcc_bytes.specs.Bytes.{IsBytes};
 ghost use Rattle.pcc_text.specs.Digits.{value_of};
@@ -38,14 +38,27 @@ fn value(digit: u8) -> u8
     (digit % 16 + 9 * (digit / 64)) % 16
 }
 
-/// Reads two digits for each byte. Where the text is that of some bytes, it is these that are read; else it is any bytes, so a caller
-/// compares their text.
-#[tactic(auto, using(crate::proofs::DigitTable::read_more, crate::proofs::DigitTable::read_done))]
-pub fn read_hex(text: &[u8], out: &mut [u8])
-    requires { length text.now ≡ 2 * length out.old }
-    ensures { (bytes : List ℕ) → IsBytes bytes → text.now ≡ encode_lower bytes → out.new ≡ bytes }
+// Whether these are the two digits of a byte, and what was read before was right.
+fn is_spelled(same: bool, byte: u8, high: u8, low: u8) -> bool
+    ensures { result ≡ (same && (slice_index lower_digits (byte / 16) == high && slice_index lower_digits (byte % 16) == low)) }
 {
+    same & ((digit(byte / 16) == high) & (digit(byte % 16) == low))
+}
+
+/// Reads two digits for each byte, and tells whether the text is that of the bytes. No test leaves the loop, so that it is vectorised.
+#[tactic(auto, using(crate::proofs::DigitTable::check_start, crate::proofs::DigitTable::check_more, crate::proofs::DigitTable::check_front, crate::proofs::DigitTable::check_all))]
+pub fn read_hex(text: &[u8], out: &mut [u8]) -> bool
+    requires { length text.now ≡ 2 * length out.old }
+    ensures spelled { result ≡ true → text.now ≡ encode_lower out.new }
+    ensures all { (bytes : List ℕ) → IsBytes bytes → text.now ≡ encode_lower bytes → result ≡ true }
+{
+    let mut same = true;
     for i in 0..out.len() {
-        out[i] = value(text[2 * i]) * 16 + value(text[2 * i + 1]);
+        let high = text[2 * i];
+        let low = text[2 * i + 1];
+        let byte = value(high) * 16 + value(low);
+        out[i] = byte;
+        same = is_spelled(same, byte, high, low);
     }
+    same
 }

@@ -1,5 +1,5 @@
 //! Readers of fields. A field is read only if it is spelled as the writers spell it.
-ghost use Rattle.std.specs.Prelude.{◌≡◌, ◌≤◌, ◌<◌, ◌^◌, ◌-◌, ◌%◌, [], List, ℕ, IfOk, IfSome, slice_index_or, length, map, option_map, decimal, bytes_eq};
+ghost use Rattle.std.specs.Prelude.{◌≡◌, ◌≤◌, ◌<◌, ◌^◌, ◌-◌, ◌%◌, [], List, ℕ, None, IfOk, IfSome, slice_index_or, length, map, option_map, decimal, bytes_eq};
 ghost use Rattle.std.specs.List.{list_all};
 ghost use Rattle.std.specs.Char.{is_ascii_digit};
 ghost use Rattle.hex.specs.Hex.{encode_lower};
@@ -8,7 +8,6 @@ ghost use Rattle.pcc_bytes.specs.Fields.{hex_text, split_at};
 ghost use Rattle.pcc_text.specs.Reading.{hex_of, number_after, number_of};
 
 use crate::digits::read_hex;
-use crate::put_hex;
 use memchr::memchr_iter;
 use pcc_bytes::are_bytes;
 use pcc_io::{Bytes, NoMemory};
@@ -90,43 +89,38 @@ pub fn number(field: &[u8], limit: u64) -> Option<u64>
     if n <= limit { Some(n) } else { None }
 }
 
-// Whether a field is the text of bytes.
-fn is_hex_of(alloc: Global, field: &[u8], bytes: &[u8]) -> Result<bool, NoMemory>
-    ensures { IfOk result (λ same. same ≡ bytes_eq (hex_text bytes.now) field.now) }
+// The bytes that a field spells by two digits each.
+fn read_back(alloc: Global, text: &[u8]) -> Result<Option<Vec<u8>>, NoMemory>
+    requires { length text.now % 2 ≡ 0 }
+    ensures some { IfOk result (λ o. IfSome o (λ v. IsBytes v.items × (text.now ≡ encode_lower v.items))) }
+    ensures none { IfOk result (λ o. o ≡ None → (bytes : List ℕ) → IsBytes bytes → text.now ≡ encode_lower bytes → ⊥) }
 {
-    let mut text = Vec::new(alloc);
-    put_hex(&mut text, bytes)?;
-    Ok(is_text(&text, field))
+    let mut bytes = vec![in alloc; 0u8; text.len() / 2]?;
+    if !read_hex(text, &mut bytes) {
+        return Ok(None);
+    }
+    are_bytes(&bytes);
+    Ok(Some(bytes))
 }
 
-// The bytes that a field spells. Their text is written again and compared, which refuses all other fields.
-#[tactic(auto, using(crate::proofs::HexReading::dash_read, crate::proofs::HexReading::odd_unread, crate::proofs::HexReading::bytes_read, crate::proofs::HexReading::other_unread))]
+// The bytes that a field spells.
+#[tactic(auto, using(crate::proofs::HexReading::dash_read, crate::proofs::HexReading::empty_unread, crate::proofs::HexReading::odd_unread, crate::proofs::HexReading::bytes_read, crate::proofs::HexReading::other_unread))]
 fn decoded(alloc: Global, field: &[u8]) -> Result<Option<Vec<u8>>, NoMemory>
     ensures { IfOk result (λ o. option_map (λ v. v.items) o ≡ hex_of field.now) }
 {
     if is_text(field, b"-") {
         return Ok(Some(Vec::new(alloc)));
     }
+    if field.is_empty() {
+        return Ok(None);
+    }
     if field.len() % 2 != 0 {
         return Ok(None);
     }
-    let bytes = read_back(alloc, field)?;
-    if is_hex_of(alloc, field, &bytes)? {
-        Ok(Some(bytes))
-    } else {
-        Ok(None)
+    match read_back(alloc, field)? {
+        Some(bytes) => Ok(Some(bytes)),
+        None => Ok(None),
     }
-}
-
-fn read_back(alloc: Global, text: &[u8]) -> Result<Vec<u8>, NoMemory>
-    requires { length text.now % 2 ≡ 0 }
-    ensures read { IfOk result (λ v. (bytes : List ℕ) → IsBytes bytes → text.now ≡ encode_lower bytes → v.items ≡ bytes) }
-    ensures fits { IfOk result (λ v. IsBytes v.items) }
-{
-    let mut bytes = vec![in alloc; 0u8; text.len() / 2]?;
-    read_hex(text, &mut bytes);
-    are_bytes(&bytes);
-    Ok(bytes)
 }
 
 /// The bytes that a field spells: `-` for none, and else two hexadecimal digits for each. Upper-case digits aren't read.
