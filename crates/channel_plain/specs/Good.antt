@@ -13,7 +13,8 @@ use Rattle.channel_plain.specs.Holding.{post_of}
 pub record IsGood (exec : Device) (s : PlainState) : Type 0 where
   pub legal : Legal exec s.ask.wiring.reports s.start (exchanges_of s.calls.records)
   pub executed : Legal exec s.ask.wiring.reports s.start (exchanges_of_commands s.executed)
-  pub ahead : (exchanges_of_commands s.executed ≡ exchanges_of s.calls.records) ⊎ ((e : Exchange) × (exchanges_of_commands s.executed ≡ exchanges_of s.calls.records ++ e ∷ []))
+  pub ahead : (exchanges_of_commands s.executed ≡ exchanges_of s.calls.records)
+      ⊎ ((e : Exchange) × (exchanges_of_commands s.executed ≡ exchanges_of s.calls.records ++ e ∷ []))
   pub limits : WithinLimits s.calls.limits (times_of s.calls.records) (post_of s.calls.sent)
 
 -- what picks leave as it was

@@ -44,7 +44,8 @@ FliesWith (Some c) room = length c.command.input ≡ room
 -- the clock gives its next reading, or none is taken
 abbrev pub Takes : {K : Type 0} → (K → ℕ) → (K → ℕ → Option ℕ) → K → K → Bool → ℕ → Type 0
 Takes taken tells old new false reading = new ≡ old
-Takes taken tells old new true reading = (taken new ≡ min (taken old + 1) (2 ^ 64 - 1)) × (taken old < 2 ^ 64 - 1 → IfSome (tells old (taken old)) (λ t. reading ≡ t)) × ((k : ℕ) → tells new k ≡ tells old k) × (reading < 2 ^ 64)
+Takes taken tells old new true reading = (taken new ≡ min (taken old + 1) (2 ^ 64 - 1))
+    × (taken old < 2 ^ 64 - 1 → IfSome (tells old (taken old)) (λ t. reading ≡ t)) × ((k : ℕ) → tells new k ≡ tells old k) × (reading < 2 ^ 64)
 
 -- ---- a post
 

@@ -18,22 +18,26 @@ use Rattle.channel_plain.specs.WorkedPicks.{line, no_bytes, swap_call, wired}
 
 -- the last word step of a run of the asking side says how the run ended
 abbrev pub AsksSayEnds : Type 0
-AsksSayEnds = (w : Wiring) (limits : Limits) (calls : List Asked) (s t : Calls) (ls : List TraceLine) (l : TraceLine) → Turn w limits calls s (ls ++ l ∷ []) t → l.action ≢ Rest → l.end ≢ end.Open
+AsksSayEnds = (w : Wiring) (limits : Limits) (calls : List Asked) (s t : Calls) (ls : List TraceLine) (l : TraceLine)
+    → Turn w limits calls s (ls ++ l ∷ []) t → l.action ≢ Rest → l.end ≢ end.Open
 
 -- lines that are a whole run are no run that is cut
 abbrev pub WholeIsNotCut : Type 0
-WholeIsNotCut = (run rest : Run AskEnd) (ls : List TraceLine) (l : TraceLine) (e : AskEnd) → IsRun run ls l e → Walks run (ls ++ l ∷ []) rest → IsUnfinished rest → ⊥
+WholeIsNotCut = (run rest : Run AskEnd) (ls : List TraceLine) (l : TraceLine) (e : AskEnd) → IsRun run ls l e → Walks run (ls ++ l ∷ []) rest
+    → IsUnfinished rest → ⊥
 
 abbrev pub AnswerIsNotCut : Type 0
 AnswerIsNotCut = (exec : Device) (w : Wiring) (a b c : Answered) (ls : List TraceLine) (l : TraceLine) (e : AnswerEnd)
-    → AnswerWalks exec w a ls b → next_of b.run ≡ Some l.action → (answer_on exec w b l.value).run ≡ ends e → AnswerWalks exec w a (ls ++ l ∷ []) c → IsUnfinished c.run → ⊥
+    → AnswerWalks exec w a ls b → next_of b.run ≡ Some l.action → (answer_on exec w b l.value).run ≡ ends e
+    → AnswerWalks exec w a (ls ++ l ∷ []) c → IsUnfinished c.run → ⊥
 
 -- ---- traces, made by hand
 
 -- a trace that comes of no picks, whatever readings, records, command in flight and executed commands are said to come of it
 abbrev pub IsRefused : List Asked → List Side → List TraceLine → Type 0
 IsRefused calls picks trace = (readings : List ℕ) (records : List Record) (sent : Option Sent) (executed : List Exchange)
-    → WordRun bank_exec (wired 0 false false) (record { turnaround = 0; per_minute = 0 }) (0 ∷ no_bytes) no_bytes calls picks trace readings records sent executed → ⊥
+    → WordRun bank_exec (wired 0 false false) (record { turnaround = 0; per_minute = 0 }) (0 ∷ no_bytes) no_bytes
+    calls picks trace readings records sent executed → ⊥
 
 abbrev pub one_call : List Asked
 one_call = swap_call 0 (1 ∷ 2 ∷ []) 3 ∷ []
@@ -77,7 +81,8 @@ lost_clear = IsRefused one_call (System ∷ System ∷ System ∷ System ∷ Sys
 
 -- a reply is taken, and the line that takes it doesn't say so: the command is in flight still, or has its record
 abbrev pub lost_done : Type 0
-lost_done = IsRefused one_call (System ∷ System ∷ System ∷ System ∷ System ∷ Platform ∷ Platform ∷ Platform ∷ Platform ∷ Platform ∷ System ∷ System ∷ [])
+lost_done = IsRefused one_call
+    (System ∷ System ∷ System ∷ System ∷ System ∷ Platform ∷ Platform ∷ Platform ∷ Platform ∷ Platform ∷ System ∷ System ∷ [])
     (line System (Store 8 513) 0 end.Open
     ∷ line System (Store 0 70066062080) 0 end.Open
     ∷ line System (Load 1) 0 end.Open

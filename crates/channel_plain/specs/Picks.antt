@@ -110,7 +110,8 @@ clear_ended true looks b = record { calls = call_ended (record b { sent = given_
 clear_ended false looks b = record { calls = b; end = end.Clear looks }
 
 abbrev pub record_of : Sent → Bool → List ℕ → ℕ → Record
-record_of c error output done = let p = c.command in record { caller = p.caller; code = p.code; input = p.input; error = error; output = output; post = p.post; done = done; late = c.late }
+record_of c error output done = let p = c.command in
+    record { caller = p.caller; code = p.code; input = p.input; error = error; output = output; post = p.post; done = done; late = c.late }
 
 abbrev pub recorded : Option Sent → Bool → List ℕ → ℕ → List Record
 recorded None error output done = []
@@ -127,7 +128,10 @@ drained_end false error = end.Done error
 
 -- the reply was taken, at a reading
 abbrev pub drain_ended : Bool → List ℕ → ℕ → CallBook → Ended
-drain_ended error output done b = record { calls = drained_calls (is_late b.sent) (record b { records = b.records ++ recorded b.sent error output done; sent = None }); end = drained_end (is_late b.sent) error }
+drain_ended error output done b = record {
+  calls = drained_calls (is_late b.sent) (record b { records = b.records ++ recorded b.sent error output done; sent = None });
+  end = drained_end (is_late b.sent) error;
+}
 
 -- the command of a call that is posted at a reading, over the space that was drained last
 abbrev pub sent_by : Asked → List ℕ → ℕ → Sent
@@ -175,9 +179,16 @@ takes_reading None = false
 
 -- one word step of the run that is under way
 abbrev pub ask_stepped : ℕ → PlainState → Picked
-ask_stepped reading s = let action = ask_next s.ask in let value : ℕ = found action s.words in let told = ask_told s.ask value in let a : Ask = ask_fed s.ask value in
+ask_stepped reading s = let action = ask_next s.ask in let value : ℕ = found action s.words in
+    let told = ask_told s.ask value in let a : Ask = ask_fed s.ask value in
     let e = ask_ended told reading a s.calls in
-    record { state = record s { words = act action s.words; ask = a; calls = e.calls }; action = action; value = value; end = e.end; reads = takes_reading told }
+    record {
+      state = record s { words = act action s.words; ask = a; calls = e.calls };
+      action = action;
+      value = value;
+      end = e.end;
+      reads = takes_reading told;
+    }
 
 -- no word step
 abbrev pub rested : PlainState → CallBook → TraceEnd → Bool → Picked

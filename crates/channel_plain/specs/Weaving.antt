@@ -34,7 +34,8 @@ module _ {K : Type 0} (taken : K → ℕ) (tells : K → ℕ → Option ℕ) whe
   module _ (exec : Device) (calls : List Asked) where
     -- one pick of a side, at a reading that the clock gave where one was taken
     abbrev pub PicksOnce : Side → PlainState → K → PlainState → K → TraceLine → Type 0
-    PicksOnce side s k s' k' line = (r : ℕ) × Takes taken tells k k' (picked exec calls side r s).reads r × (s' ≡ (picked exec calls side r s).state) × (line ≡ line_of side (picked exec calls side r s))
+    PicksOnce side s k s' k' line = (r : ℕ) × Takes taken tells k k' (picked exec calls side r s).reads r
+        × (s' ≡ (picked exec calls side r s).state) × (line ≡ line_of side (picked exec calls side r s))
 
     -- these picks of a new channel made these lines: a run of words, at the clock's next readings, which leaves this channel
     pub record IsWeave (sides : List Side) (old : Clocked K) (trace : List TraceLine) (new : Clocked K) : Type 0 where
@@ -48,8 +49,11 @@ module _ {K : Type 0} (taken : K → ℕ) (tells : K → ℕ → Option ℕ) whe
       -- the lines of some picks, from a channel and its clock to what they leave
       pub data Wove (s : PlainState) (k : K) : List Side → List TraceLine → List ℕ → PlainState → K → Type 0 where
         unpicked : Wove s k [] [] [] s k
-        picks : (sides : List Side) (ls : List TraceLine) (rs : List ℕ) (t : PlainState) (m m' : K) (side : Side) (r : ℕ) → Wove s k sides ls rs t m → Stands exec is_state room_of t → Stands exec is_state room_of (picked exec calls side r t).state → IsServing calls t → Takes taken tells m m' (picked exec calls side r t).reads r
-            → Wove s k (sides ++ side ∷ []) (ls ++ line_of side (picked exec calls side r t) ∷ []) (rs ++ reading_of (picked exec calls side r t).reads r) (picked exec calls side r t).state m'
+        picks : (sides : List Side) (ls : List TraceLine) (rs : List ℕ) (t : PlainState) (m m' : K) (side : Side) (r : ℕ) → Wove s k sides ls rs t m
+            → Stands exec is_state room_of t → Stands exec is_state room_of (picked exec calls side r t).state → IsServing calls t
+            → Takes taken tells m m' (picked exec calls side r t).reads r
+            → Wove s k (sides ++ side ∷ []) (ls ++ line_of side (picked exec calls side r t) ∷ [])
+            (rs ++ reading_of (picked exec calls side r t).reads r) (picked exec calls side r t).state m'
 
       -- these picks were made one after the other, and more picks can follow
       pub record Follows (sides : List Side) (old : Clocked K) (trace : List TraceLine) (new : Clocked K) : Type 0 where

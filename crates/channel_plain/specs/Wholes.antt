@@ -9,7 +9,8 @@ use Rattle.channel_plain.specs.declared.trace.Asked.{Asked}
 -- some of the calls in their order, all in front of a place
 pub data Chosen (calls : List Asked) : ℕ → List Asked → Type 0 where
   no_call : (n : ℕ) → Chosen calls n []
-  one_more : (n place : ℕ) (cs : List Asked) (c : Asked) → Chosen calls n cs → n ≤ place → slice_get calls place ≡ Some c → Chosen calls (place + 1) (cs ++ c ∷ [])
+  one_more : (n place : ℕ) (cs : List Asked) (c : Asked) → Chosen calls n cs → n ≤ place → slice_get calls place ≡ Some c
+      → Chosen calls (place + 1) (cs ++ c ∷ [])
 
 abbrev pub bytes_asked : Asked → List ℕ
 bytes_asked c = c.bytes

@@ -113,7 +113,8 @@ module _ (w : Wiring) (limits : Limits) (calls : List Asked) where
   -- a call is served: one that was begun before, or the next one, which nothing refuses and which begins now
   pub data Serves : Calls → Asked → Calls → Type 0 where
     goes_on : (s : Calls) (c : Asked) → s.begun ≡ true → slice_get calls s.ended ≡ Some c → Serves s c s
-    begins : (s : Calls) (c : Asked) → s.begun ≡ false → slice_get calls s.ended ≡ Some c → refusal_at w c s ≡ None → Serves s c (record s { begun = true; looks = 0 })
+    begins : (s : Calls) (c : Asked) → s.begun ≡ false → slice_get calls s.ended ≡ Some c → refusal_at w c s ≡ None
+        → Serves s c (record s { begun = true; looks = 0 })
 
   abbrev pub earliest_at : Calls → ℕ
   earliest_at s = earliest_of limits (times_of s.records)
@@ -123,21 +124,31 @@ module _ (w : Wiring) (limits : Limits) (calls : List Asked) where
     -- no call is left
     idles : (s : Calls) (l : TraceLine) → slice_get calls s.ended ≡ None → Rests l end.Open → Turn s (l ∷ []) s
     -- the next call is refused
-    refuses : (s : Calls) (c : Asked) (e : TraceEnd) (l : TraceLine) → s.begun ≡ false → slice_get calls s.ended ≡ Some c → refusal_at w c s ≡ Some e → Rests l e → Turn s (l ∷ []) (end_call s)
+    refuses : (s : Calls) (c : Asked) (e : TraceEnd) (l : TraceLine) → s.begun ≡ false → slice_get calls s.ended ≡ Some c
+        → refusal_at w c s ≡ Some e → Rests l e → Turn s (l ∷ []) (end_call s)
     -- nothing is in flight, and the reading is below the earliest
-    delays : (s s' : Calls) (c : Asked) (r : ℕ) (l : TraceLine) → Serves s c s' → s'.sent ≡ None → r < earliest_at s' → Rests l (end.TooSoon r (earliest_at s')) → Turn s (l ∷ []) (end_call (take_reading s' r))
+    delays : (s s' : Calls) (c : Asked) (r : ℕ) (l : TraceLine) → Serves s c s' → s'.sent ≡ None → r < earliest_at s'
+        → Rests l (end.TooSoon r (earliest_at s')) → Turn s (l ∷ []) (end_call (take_reading s' r))
     -- nothing is in flight, and the reading is not below the earliest: the command is posted
-    sends : (s s' : Calls) (c : Asked) (r : ℕ) (ls : List TraceLine) (l : TraceLine) → Serves s c s' → s'.sent ≡ None → earliest_at s' ≤ r → IsRun (posts_call w c s'.space) ls l posts → l.end ≡ end.Posted
+    sends : (s s' : Calls) (c : Asked) (r : ℕ) (ls : List TraceLine) (l : TraceLine) → Serves s c s' → s'.sent ≡ None → earliest_at s' ≤ r
+        → IsRun (posts_call w c s'.space) ls l posts → l.end ≡ end.Posted
         → Turn s (ls ++ l ∷ []) (record (take_reading s' r) { sent = Some (sent_by c s'.space r); looks = 0 })
     -- a command is in flight and isn't complete, and the call may look again
-    looks_on : (s s' : Calls) (c : Asked) (p : Sent) (ls : List TraceLine) (l : TraceLine) → Serves s c s' → s'.sent ≡ Some p → s'.looks + 1 < c.polls → IsRun (look_run w) ls l sees_clear → l.end ≡ end.Clear (s'.looks + 1)
+    looks_on : (s s' : Calls) (c : Asked) (p : Sent) (ls : List TraceLine) (l : TraceLine) → Serves s c s' → s'.sent ≡ Some p → s'.looks + 1 < c.polls
+        → IsRun (look_run w) ls l sees_clear → l.end ≡ end.Clear (s'.looks + 1)
         → Turn s (ls ++ l ∷ []) (record s' { looks = s'.looks + 1 })
     -- that look was the last that the call has
-    gives_up : (s s' : Calls) (c : Asked) (p : Sent) (ls : List TraceLine) (l : TraceLine) → Serves s c s' → s'.sent ≡ Some p → s'.looks + 1 ≡ c.polls → IsRun (look_run w) ls l sees_clear → l.end ≡ given_up_end p.late c.polls
+    gives_up : (s s' : Calls) (c : Asked) (p : Sent) (ls : List TraceLine) (l : TraceLine) → Serves s c s' → s'.sent ≡ Some p → s'.looks + 1 ≡ c.polls
+        → IsRun (look_run w) ls l sees_clear → l.end ≡ given_up_end p.late c.polls
         → Turn s (ls ++ l ∷ []) (end_call (record s' { looks = s'.looks + 1; sent = Some (record p { late = true }) }))
     -- the command is complete: its reply is taken, at a reading
-    takes : (s s' : Calls) (c : Asked) (p : Sent) (r : ℕ) (error : Bool) (block : List ℕ) (ls : List TraceLine) (l : TraceLine) → Serves s c s' → s'.sent ≡ Some p → IsRun (look_run w) ls l (drains error block) → l.end ≡ drained_end p.late error
-        → Turn s (ls ++ l ∷ []) (goes_on_if p.late (record (take_reading s' r) { sent = None; space = replied w block; records = s'.records ++ record_of p error (replied w block) r ∷ [] }))
+    takes : (s s' : Calls) (c : Asked) (p : Sent) (r : ℕ) (error : Bool) (block : List ℕ) (ls : List TraceLine) (l : TraceLine) → Serves s c s'
+        → s'.sent ≡ Some p → IsRun (look_run w) ls l (drains error block) → l.end ≡ drained_end p.late error
+        → Turn s (ls ++ l ∷ []) (goes_on_if p.late (record (take_reading s' r) {
+          sent = None;
+          space = replied w block;
+          records = s'.records ++ record_of p error (replied w block) r ∷ [];
+        }))
 
   -- runs, one after the other
   pub data Turns (from : Calls) : List TraceLine → Calls → Type 0 where
@@ -152,7 +163,8 @@ module _ (w : Wiring) (limits : Limits) (calls : List Asked) where
     looking : (s s' : Calls) (c : Asked) (p : Sent) (l : TraceLine) (ls : List TraceLine) (rest : Run AskEnd) → Serves s c s'
         → s'.sent ≡ Some p → Walks (look_run w) (l ∷ ls) rest → IsUnfinished rest → Cut s (l ∷ ls) []
 
-  -- the lines of the asking side are whole runs, and perhaps one that is cut before its end; they take these readings, and leave these records and this command in flight
+  -- the lines of the asking side are whole runs, and perhaps one that is cut before its end; they take these readings, and leave these records
+  -- and this command in flight
   pub record IsAsking (opening : List ℕ) (lines : List TraceLine) (readings : List ℕ) (records : List Record) (sent : Option Sent) : Type 0 where
     pub past : List TraceLine
     pub last : List TraceLine
@@ -176,7 +188,8 @@ pub record Answered : Type 0 where
 module _ (exec : Device) (w : Wiring) where
   -- the device executes a command as soon as the run has come to it
   abbrev pub execute : Run AnswerEnd → List ℕ → List Exchange → Answered
-  execute (executes code space k) device es = let x = exec device code space in record { device = x.state; executed = es ++ exchange_of exec w.reports device code space ∷ []; run = k x.bad x.space }
+  execute (executes code space k) device es = let x = exec device code space in
+      record { device = x.state; executed = es ++ exchange_of exec w.reports device code space ∷ []; run = k x.bad x.space }
   execute (ends e) device es = record { device = device; executed = es; run = ends e }
   execute (loads place k) device es = record { device = device; executed = es; run = loads place k }
   execute (stores place word k) device es = record { device = device; executed = es; run = stores place word k }
@@ -229,7 +242,8 @@ abbrev pub side_of_line : TraceLine → Side
 side_of_line l = l.side
 
 -- the trace of the picks, for the calls, with the readings that it took, and the records, the command in flight and the executed commands that come of it
-pub record WordRun (exec : Device) (w : Wiring) (limits : Limits) (start opening : List ℕ) (calls : List Asked) (picks : List Side) (trace : List TraceLine) (readings : List ℕ) (records : List Record) (sent : Option Sent) (executed : List Exchange) : Type 0 where
+pub record WordRun (exec : Device) (w : Wiring) (limits : Limits) (start opening : List ℕ) (calls : List Asked) (picks : List Side)
+    (trace : List TraceLine) (readings : List ℕ) (records : List Record) (sent : Option Sent) (executed : List Exchange) : Type 0 where
   pub sides : map side_of_line trace ≡ picks
   pub words : Remembers (opening_words w (words_of opening)) trace
   pub asking : IsAsking w limits calls opening (filter (asked_line w.kind) trace) readings records sent

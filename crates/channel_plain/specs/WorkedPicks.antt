@@ -48,7 +48,23 @@ blank w = opening_header (style_of w) w ++ 0 ∷ []
 abbrev pub fresh : Wiring → PlainState
 fresh w = record {
   words = opening_words w (0 ∷ []);
-  ask = record { wiring = w; stage = AskRest; kept = 0; code = 0; error = false; sent = blank w; shown = blank w; loaded = blank w; input = no_bytes; space = no_bytes; in_flight = false; looks = 0; budget = 0; posts = 0; steps = 0 };
+  ask = record {
+    wiring = w;
+    stage = AskRest;
+    kept = 0;
+    code = 0;
+    error = false;
+    sent = blank w;
+    shown = blank w;
+    loaded = blank w;
+    input = no_bytes;
+    space = no_bytes;
+    in_flight = false;
+    looks = 0;
+    budget = 0;
+    posts = 0;
+    steps = 0;
+  };
   answer = record { wiring = w; stage = AnswerRest; kept = 0; header = 0; bad = false; loaded = blank w; out = blank w; space = no_bytes; steps = 0 };
   device = 0 ∷ no_bytes;
   start = 0 ∷ no_bytes;
@@ -67,7 +83,8 @@ before l v = record v { trace = l ∷ v.trace }
 -- the picks, with the next reading
 abbrev pub woven : List Asked → List Side → ℕ → PlainState → Woven
 woven calls [] reading s = record { trace = []; records = s.calls.records; sent = s.calls.sent }
-woven calls (side ∷ sides) reading s = let p = picked bank_exec calls side reading s in before (line_of side p) (woven calls sides (if p.reads then reading + 10 else reading) p.state)
+woven calls (side ∷ sides) reading s = let p = picked bank_exec calls side reading s in
+    before (line_of side p) (woven calls sides (if p.reads then reading + 10 else reading) p.state)
 
 abbrev pub line : Side → Action → ℕ → TraceEnd → TraceLine
 line side action value end = record { side = side; action = action; value = value; end = end }
@@ -77,105 +94,114 @@ abbrev pub swap_call : ℕ → List ℕ → ℕ → Asked
 swap_call caller bytes polls = record { caller = caller; code = 16; bytes = bytes; polls = polls }
 
 abbrev pub kept : ℕ → ℕ → Bool → Record
-kept post done late = record { caller = 0; code = 16; input = 1 ∷ 2 ∷ 0 ∷ 0 ∷ 0 ∷ 0 ∷ 0 ∷ 0 ∷ []; error = false; output = no_bytes; post = post; done = done; late = late }
+kept post done late =
+    record { caller = 0; code = 16; input = 1 ∷ 2 ∷ 0 ∷ 0 ∷ 0 ∷ 0 ∷ 0 ∷ 0 ∷ []; error = false; output = no_bytes; post = post; done = done; late = late }
 
 -- a command is posted, executed and drained
 abbrev pub one_exchange : Type 0
-one_exchange = woven (swap_call 0 (1 ∷ 2 ∷ []) 3 ∷ []) (System ∷ System ∷ System ∷ System ∷ System ∷ Platform ∷ Platform ∷ Platform ∷ Platform ∷ Platform ∷ System ∷ System ∷ []) 0 (fresh (wired 0 false false)) ≡ record {
-  trace =
-      line System (Store 8 513) 0 Open
-      ∷ line System (Store 0 70066062080) 0 Open
-      ∷ line System (Load 1) 0 Open
-      ∷ line System (Store 1 1) 0 Open
-      ∷ line System (Store 2 1) 0 Posted
-      ∷ line Platform (Swap 2 0) 1 Open
-      ∷ line Platform (Load 0) 70066062080 Open
-      ∷ line Platform (Load 8) 513 Open
-      ∷ line Platform (Store 8 0) 0 Open
-      ∷ line Platform (Store 0 281545042772736) 0 Served
-      ∷ line System (Load 0) 281545042772736 Open
-      ∷ line System (Load 8) 0 (Done false) ∷ [];
-  records = kept 0 10 false ∷ [];
-  sent = None;
-}
+one_exchange = woven (swap_call 0 (1 ∷ 2 ∷ []) 3 ∷ [])
+    (replicate 5 System ++ replicate 5 Platform ++ replicate 2 System)
+    0 (fresh (wired 0 false false)) ≡ record {
+      trace =
+          line System (Store 8 513) 0 Open
+          ∷ line System (Store 0 70066062080) 0 Open
+          ∷ line System (Load 1) 0 Open
+          ∷ line System (Store 1 1) 0 Open
+          ∷ line System (Store 2 1) 0 Posted
+          ∷ line Platform (Swap 2 0) 1 Open
+          ∷ line Platform (Load 0) 70066062080 Open
+          ∷ line Platform (Load 8) 513 Open
+          ∷ line Platform (Store 8 0) 0 Open
+          ∷ line Platform (Store 0 281545042772736) 0 Served
+          ∷ line System (Load 0) 281545042772736 Open
+          ∷ line System (Load 8) 0 (Done false) ∷ [];
+      records = kept 0 10 false ∷ [];
+      sent = None;
+    }
 
 -- the same with a notification, which the look takes back
 abbrev pub with_notification : Type 0
-with_notification = woven (swap_call 0 (1 ∷ 2 ∷ []) 3 ∷ []) (System ∷ System ∷ System ∷ System ∷ System ∷ Platform ∷ Platform ∷ Platform ∷ Platform ∷ Platform ∷ Platform ∷ Platform ∷ System ∷ System ∷ System ∷ System ∷ []) 0 (fresh (wired 0 true false)) ≡ record {
-  trace =
-      line System (Store 8 513) 0 Open
-      ∷ line System (Store 0 140807554417408) 0 Open
-      ∷ line System (Load 1) 0 Open
-      ∷ line System (Store 1 1) 0 Open
-      ∷ line System (Store 2 1) 0 Posted
-      ∷ line Platform (Swap 2 0) 1 Open
-      ∷ line Platform (Load 0) 140807554417408 Open
-      ∷ line Platform (Load 8) 513 Open
-      ∷ line Platform (Store 8 0) 0 Open
-      ∷ line Platform (Store 0 422282531128064) 0 Open
-      ∷ line Platform (Store 4 1) 0 Served
-      ∷ line Platform (Swap 2 0) 0 Idle
-      ∷ line System (Load 0) 422282531128064 Open
-      ∷ line System (Load 8) 0 Open
-      ∷ line System (Load 4) 1 Open
-      ∷ line System (Store 4 0) 0 (Done false) ∷ [];
-  records = kept 0 10 false ∷ [];
-  sent = None;
-}
+with_notification = woven (swap_call 0 (1 ∷ 2 ∷ []) 3 ∷ [])
+    (replicate 5 System ++ replicate 7 Platform ++ replicate 4 System)
+    0 (fresh (wired 0 true false)) ≡ record {
+      trace =
+          line System (Store 8 513) 0 Open
+          ∷ line System (Store 0 140807554417408) 0 Open
+          ∷ line System (Load 1) 0 Open
+          ∷ line System (Store 1 1) 0 Open
+          ∷ line System (Store 2 1) 0 Posted
+          ∷ line Platform (Swap 2 0) 1 Open
+          ∷ line Platform (Load 0) 140807554417408 Open
+          ∷ line Platform (Load 8) 513 Open
+          ∷ line Platform (Store 8 0) 0 Open
+          ∷ line Platform (Store 0 422282531128064) 0 Open
+          ∷ line Platform (Store 4 1) 0 Served
+          ∷ line Platform (Swap 2 0) 0 Idle
+          ∷ line System (Load 0) 422282531128064 Open
+          ∷ line System (Load 8) 0 Open
+          ∷ line System (Load 4) 1 Open
+          ∷ line System (Store 4 0) 0 (Done false) ∷ [];
+      records = kept 0 10 false ∷ [];
+      sent = None;
+    }
 
 -- the same on type 2 with an acknowledge register
 abbrev pub with_acknowledge : Type 0
-with_acknowledge = woven (swap_call 0 (1 ∷ 2 ∷ []) 3 ∷ []) (System ∷ System ∷ System ∷ System ∷ System ∷ Platform ∷ Platform ∷ Platform ∷ Platform ∷ Platform ∷ Platform ∷ Platform ∷ System ∷ System ∷ System ∷ System ∷ System ∷ System ∷ []) 0 (fresh (wired 2 true true)) ≡ record {
-  trace =
-      line System (Store 8 513) 0 Open
-      ∷ line System (Store 0 140807554417408) 0 Open
-      ∷ line System (Load 1) 0 Open
-      ∷ line System (Store 1 1) 0 Open
-      ∷ line System (Store 2 1) 0 Posted
-      ∷ line Platform (Swap 2 0) 1 Open
-      ∷ line Platform (Load 0) 140807554417408 Open
-      ∷ line Platform (Load 8) 513 Open
-      ∷ line Platform (Store 8 0) 0 Open
-      ∷ line Platform (Store 0 422282531128064) 0 Open
-      ∷ line Platform (Store 4 1) 0 Served
-      ∷ line Platform (Swap 2 0) 0 Idle
-      ∷ line System (Load 0) 422282531128064 Open
-      ∷ line System (Load 8) 0 Open
-      ∷ line System (Load 4) 1 Open
-      ∷ line System (Store 4 0) 0 Open
-      ∷ line System (Load 5) 0 Open
-      ∷ line System (Store 5 3) 0 (Done false) ∷ [];
-  records = kept 0 10 false ∷ [];
-  sent = None;
-}
+with_acknowledge = woven (swap_call 0 (1 ∷ 2 ∷ []) 3 ∷ [])
+    (replicate 5 System ++ replicate 7 Platform ++ replicate 6 System)
+    0 (fresh (wired 2 true true)) ≡ record {
+      trace =
+          line System (Store 8 513) 0 Open
+          ∷ line System (Store 0 140807554417408) 0 Open
+          ∷ line System (Load 1) 0 Open
+          ∷ line System (Store 1 1) 0 Open
+          ∷ line System (Store 2 1) 0 Posted
+          ∷ line Platform (Swap 2 0) 1 Open
+          ∷ line Platform (Load 0) 140807554417408 Open
+          ∷ line Platform (Load 8) 513 Open
+          ∷ line Platform (Store 8 0) 0 Open
+          ∷ line Platform (Store 0 422282531128064) 0 Open
+          ∷ line Platform (Store 4 1) 0 Served
+          ∷ line Platform (Swap 2 0) 0 Idle
+          ∷ line System (Load 0) 422282531128064 Open
+          ∷ line System (Load 8) 0 Open
+          ∷ line System (Load 4) 1 Open
+          ∷ line System (Store 4 0) 0 Open
+          ∷ line System (Load 5) 0 Open
+          ∷ line System (Store 5 3) 0 (Done false) ∷ [];
+      records = kept 0 10 false ∷ [];
+      sent = None;
+    }
 
 -- a command is given up, keeps the next call waiting, and is drained by the third call, which posts its own
 abbrev pub drained_late : Type 0
-drained_late = woven (swap_call 0 (1 ∷ 2 ∷ []) 1 ∷ swap_call 1 [] 2 ∷ swap_call 2 (3 ∷ []) 4 ∷ []) (System ∷ System ∷ System ∷ System ∷ System ∷ System ∷ System ∷ System ∷ Platform ∷ Platform ∷ Platform ∷ Platform ∷ Platform ∷ System ∷ System ∷ System ∷ System ∷ System ∷ System ∷ System ∷ []) 0 (fresh (wired 0 false false)) ≡ record {
-  trace =
-      line System (Store 8 513) 0 Open
-      ∷ line System (Store 0 70066062080) 0 Open
-      ∷ line System (Load 1) 0 Open
-      ∷ line System (Store 1 1) 0 Open
-      ∷ line System (Store 2 1) 0 Posted
-      ∷ line System (Load 0) 70066062080 (TimedOut 1)
-      ∷ line System (Load 0) 70066062080 (Clear 1)
-      ∷ line System (Load 0) 70066062080 (StillPending 2)
-      ∷ line Platform (Swap 2 0) 1 Open
-      ∷ line Platform (Load 0) 70066062080 Open
-      ∷ line Platform (Load 8) 513 Open
-      ∷ line Platform (Store 8 0) 0 Open
-      ∷ line Platform (Store 0 281545042772736) 0 Served
-      ∷ line System (Load 0) 281545042772736 Open
-      ∷ line System (Load 8) 0 (Late false)
-      ∷ line System (Store 8 3) 0 Open
-      ∷ line System (Store 0 70066062080) 0 Open
-      ∷ line System (Load 1) 1 Open
-      ∷ line System (Store 1 1) 0 Open
-      ∷ line System (Store 2 1) 0 Posted ∷ [];
-  records = kept 0 10 true ∷ [];
-  sent = Some (record { command = record { caller = 2; code = 16; input = 3 ∷ 0 ∷ 0 ∷ 0 ∷ 0 ∷ 0 ∷ 0 ∷ 0 ∷ []; post = 20 }; late = false });
-}
+drained_late = woven (swap_call 0 (1 ∷ 2 ∷ []) 1 ∷ swap_call 1 [] 2 ∷ swap_call 2 (3 ∷ []) 4 ∷ [])
+    (replicate 8 System ++ replicate 5 Platform ++ replicate 7 System)
+    0 (fresh (wired 0 false false)) ≡ record {
+      trace =
+          line System (Store 8 513) 0 Open
+          ∷ line System (Store 0 70066062080) 0 Open
+          ∷ line System (Load 1) 0 Open
+          ∷ line System (Store 1 1) 0 Open
+          ∷ line System (Store 2 1) 0 Posted
+          ∷ line System (Load 0) 70066062080 (TimedOut 1)
+          ∷ line System (Load 0) 70066062080 (Clear 1)
+          ∷ line System (Load 0) 70066062080 (StillPending 2)
+          ∷ line Platform (Swap 2 0) 1 Open
+          ∷ line Platform (Load 0) 70066062080 Open
+          ∷ line Platform (Load 8) 513 Open
+          ∷ line Platform (Store 8 0) 0 Open
+          ∷ line Platform (Store 0 281545042772736) 0 Served
+          ∷ line System (Load 0) 281545042772736 Open
+          ∷ line System (Load 8) 0 (Late false)
+          ∷ line System (Store 8 3) 0 Open
+          ∷ line System (Store 0 70066062080) 0 Open
+          ∷ line System (Load 1) 1 Open
+          ∷ line System (Store 1 1) 0 Open
+          ∷ line System (Store 2 1) 0 Posted ∷ [];
+      records = kept 0 10 true ∷ [];
+      sent = Some (record { command = record { caller = 2; code = 16; input = 3 ∷ 0 ∷ 0 ∷ 0 ∷ 0 ∷ 0 ∷ 0 ∷ 0 ∷ []; post = 20 }; late = false });
+    }
 
 -- ---- types 3 to 5
 
@@ -210,154 +236,164 @@ one_byte = 1 ∷ 0 ∷ 0 ∷ 0 ∷ 0 ∷ 0 ∷ 0 ∷ 0 ∷ []
 
 -- type 3 whose update register is the check register: it clears completion; with a notification and an acknowledge register
 abbrev pub type_three_joined : Type 0
-type_three_joined = woven (swap_call 0 (1 ∷ 2 ∷ []) 3 ∷ []) (replicate 8 System ++ replicate 10 Platform ++ replicate 9 System) 0 (fresh (by_registers 3 true true (record { preserve = 4294967294; set = 0 }))) ≡ record {
-  trace =
-      line System (Store 8 5641552640) 0 Open
-      ∷ line System (Store 9 68719476742) 0 Open
-      ∷ line System (Store 10 513) 0 Open
-      ∷ line System (Load 0) 1 Open
-      ∷ line System (Store 0 0) 0 Open
-      ∷ line System (Load 1) 0 Open
-      ∷ line System (Store 1 1) 0 Open
-      ∷ line System (Store 2 1) 0 Posted
-      ∷ line Platform (Swap 2 0) 1 Open
-      ∷ line Platform (Load 8) 5641552640 Open
-      ∷ line Platform (Load 9) 68719476742 Open
-      ∷ line Platform (Load 10) 513 Open
-      ∷ line Platform (Store 10 0) 0 Open
-      ∷ line Platform (Store 3 0) 0 Open
-      ∷ line Platform (Load 0) 0 Open
-      ∷ line Platform (Store 0 1) 0 Open
-      ∷ line Platform (Store 4 1) 0 Served
-      ∷ line Platform (Swap 2 0) 0 Idle
-      ∷ line System (Load 0) 1 Open
-      ∷ line System (Load 3) 0 Open
-      ∷ line System (Load 8) 5641552640 Open
-      ∷ line System (Load 9) 68719476742 Open
-      ∷ line System (Load 10) 0 Open
-      ∷ line System (Load 4) 1 Open
-      ∷ line System (Store 4 0) 0 Open
-      ∷ line System (Load 5) 0 Open
-      ∷ line System (Store 5 3) 0 (Done false) ∷ [];
-  records = kept 0 10 false ∷ [];
-  sent = None;
-}
+type_three_joined = woven (swap_call 0 (1 ∷ 2 ∷ []) 3 ∷ [])
+    (replicate 8 System ++ replicate 10 Platform ++ replicate 9 System)
+    0 (fresh (by_registers 3 true true (record { preserve = 4294967294; set = 0 }))) ≡ record {
+      trace =
+          line System (Store 8 5641552640) 0 Open
+          ∷ line System (Store 9 68719476742) 0 Open
+          ∷ line System (Store 10 513) 0 Open
+          ∷ line System (Load 0) 1 Open
+          ∷ line System (Store 0 0) 0 Open
+          ∷ line System (Load 1) 0 Open
+          ∷ line System (Store 1 1) 0 Open
+          ∷ line System (Store 2 1) 0 Posted
+          ∷ line Platform (Swap 2 0) 1 Open
+          ∷ line Platform (Load 8) 5641552640 Open
+          ∷ line Platform (Load 9) 68719476742 Open
+          ∷ line Platform (Load 10) 513 Open
+          ∷ line Platform (Store 10 0) 0 Open
+          ∷ line Platform (Store 3 0) 0 Open
+          ∷ line Platform (Load 0) 0 Open
+          ∷ line Platform (Store 0 1) 0 Open
+          ∷ line Platform (Store 4 1) 0 Served
+          ∷ line Platform (Swap 2 0) 0 Idle
+          ∷ line System (Load 0) 1 Open
+          ∷ line System (Load 3) 0 Open
+          ∷ line System (Load 8) 5641552640 Open
+          ∷ line System (Load 9) 68719476742 Open
+          ∷ line System (Load 10) 0 Open
+          ∷ line System (Load 4) 1 Open
+          ∷ line System (Store 4 0) 0 Open
+          ∷ line System (Load 5) 0 Open
+          ∷ line System (Store 5 3) 0 (Done false) ∷ [];
+      records = kept 0 10 false ∷ [];
+      sent = None;
+    }
 
 -- type 3 with an update register of its own; the command is bad, and the first look is too early
 abbrev pub type_three_separate : Type 0
-type_three_separate = woven (record { caller = 0; code = 18; bytes = 1 ∷ []; polls = 2 } ∷ []) (replicate 11 System ++ replicate 8 Platform ++ replicate 5 System) 0 (fresh (by_registers 3 false false apart)) ≡ record {
-  trace =
-      line System (Store 8 1346585344) 0 Open
-      ∷ line System (Store 9 77309411333) 0 Open
-      ∷ line System (Store 10 1) 0 Open
-      ∷ line System (Load 6) 0 Open
-      ∷ line System (Store 6 3) 0 Open
-      ∷ line System (Load 0) 1 Open
-      ∷ line System (Store 0 0) 0 Open
-      ∷ line System (Load 1) 0 Open
-      ∷ line System (Store 1 1) 0 Open
-      ∷ line System (Store 2 1) 0 Posted
-      ∷ line System (Load 0) 0 (Clear 1)
-      ∷ line Platform (Swap 2 0) 1 Open
-      ∷ line Platform (Load 8) 1346585344 Open
-      ∷ line Platform (Load 9) 77309411333 Open
-      ∷ line Platform (Load 10) 1 Open
-      ∷ line Platform (Store 10 1) 0 Open
-      ∷ line Platform (Store 3 2) 0 Open
-      ∷ line Platform (Load 0) 0 Open
-      ∷ line Platform (Store 0 1) 0 Served
-      ∷ line System (Load 0) 1 Open
-      ∷ line System (Load 3) 2 Open
-      ∷ line System (Load 8) 1346585344 Open
-      ∷ line System (Load 9) 77309411333 Open
-      ∷ line System (Load 10) 1 (Done true) ∷ [];
-  records = record { caller = 0; code = 18; input = one_byte; error = true; output = one_byte; post = 0; done = 10; late = false } ∷ [];
-  sent = None;
-}
+type_three_separate = woven (record { caller = 0; code = 18; bytes = 1 ∷ []; polls = 2 } ∷ [])
+    (replicate 11 System ++ replicate 8 Platform ++ replicate 5 System)
+    0 (fresh (by_registers 3 false false apart)) ≡ record {
+      trace =
+          line System (Store 8 1346585344) 0 Open
+          ∷ line System (Store 9 77309411333) 0 Open
+          ∷ line System (Store 10 1) 0 Open
+          ∷ line System (Load 6) 0 Open
+          ∷ line System (Store 6 3) 0 Open
+          ∷ line System (Load 0) 1 Open
+          ∷ line System (Store 0 0) 0 Open
+          ∷ line System (Load 1) 0 Open
+          ∷ line System (Store 1 1) 0 Open
+          ∷ line System (Store 2 1) 0 Posted
+          ∷ line System (Load 0) 0 (Clear 1)
+          ∷ line Platform (Swap 2 0) 1 Open
+          ∷ line Platform (Load 8) 1346585344 Open
+          ∷ line Platform (Load 9) 77309411333 Open
+          ∷ line Platform (Load 10) 1 Open
+          ∷ line Platform (Store 10 1) 0 Open
+          ∷ line Platform (Store 3 2) 0 Open
+          ∷ line Platform (Load 0) 0 Open
+          ∷ line Platform (Store 0 1) 0 Served
+          ∷ line System (Load 0) 1 Open
+          ∷ line System (Load 3) 2 Open
+          ∷ line System (Load 8) 1346585344 Open
+          ∷ line System (Load 9) 77309411333 Open
+          ∷ line System (Load 10) 1 (Done true) ∷ [];
+      records = record { caller = 0; code = 18; input = one_byte; error = true; output = one_byte; post = 0; done = 10; late = false } ∷ [];
+      sent = None;
+    }
 
 -- type 4 whose update register is the check register: it sets completion; the platform asks
 abbrev pub type_four_joined : Type 0
-type_four_joined = woven (record { caller = 0; code = 16; bytes = 1 ∷ []; polls = 3 } ∷ []) (replicate 6 Platform ++ replicate 7 System ++ replicate 4 Platform) 0 (fresh (bare (by_registers 4 true false (record { preserve = 4294967294; set = 1 })))) ≡ record {
-  trace =
-      line Platform (Store 8 1346585344) 0 Open
-      ∷ line Platform (Store 9 68719476741) 0 Open
-      ∷ line Platform (Store 10 1) 0 Open
-      ∷ line Platform (Load 0) 1 Open
-      ∷ line Platform (Store 0 0) 0 Open
-      ∷ line Platform (Store 2 1) 0 Posted
-      ∷ line System (Swap 2 0) 1 Open
-      ∷ line System (Load 8) 1346585344 Open
-      ∷ line System (Load 9) 68719476741 Open
-      ∷ line System (Load 10) 1 Open
-      ∷ line System (Store 10 0) 0 Open
-      ∷ line System (Load 0) 0 Open
-      ∷ line System (Store 0 1) 0 Served
-      ∷ line Platform (Load 0) 1 Open
-      ∷ line Platform (Load 8) 1346585344 Open
-      ∷ line Platform (Load 9) 68719476741 Open
-      ∷ line Platform (Load 10) 0 (Done false) ∷ [];
-  records = record { caller = 0; code = 16; input = one_byte; error = false; output = no_bytes; post = 0; done = 10; late = false } ∷ [];
-  sent = None;
-}
+type_four_joined = woven (record { caller = 0; code = 16; bytes = 1 ∷ []; polls = 3 } ∷ [])
+    (replicate 6 Platform ++ replicate 7 System ++ replicate 4 Platform)
+    0 (fresh (bare (by_registers 4 true false (record { preserve = 4294967294; set = 1 })))) ≡ record {
+      trace =
+          line Platform (Store 8 1346585344) 0 Open
+          ∷ line Platform (Store 9 68719476741) 0 Open
+          ∷ line Platform (Store 10 1) 0 Open
+          ∷ line Platform (Load 0) 1 Open
+          ∷ line Platform (Store 0 0) 0 Open
+          ∷ line Platform (Store 2 1) 0 Posted
+          ∷ line System (Swap 2 0) 1 Open
+          ∷ line System (Load 8) 1346585344 Open
+          ∷ line System (Load 9) 68719476741 Open
+          ∷ line System (Load 10) 1 Open
+          ∷ line System (Store 10 0) 0 Open
+          ∷ line System (Load 0) 0 Open
+          ∷ line System (Store 0 1) 0 Served
+          ∷ line Platform (Load 0) 1 Open
+          ∷ line Platform (Load 8) 1346585344 Open
+          ∷ line Platform (Load 9) 68719476741 Open
+          ∷ line Platform (Load 10) 0 (Done false) ∷ [];
+      records = record { caller = 0; code = 16; input = one_byte; error = false; output = no_bytes; post = 0; done = 10; late = false } ∷ [];
+      sent = None;
+    }
 
 -- type 4 with an update register of its own, an acknowledge register and a doorbell, which belong to the answering side here
 abbrev pub type_four_separate : Type 0
-type_four_separate = woven (record { caller = 0; code = 17; bytes = []; polls = 1 } ∷ []) (replicate 6 Platform ++ replicate 15 System ++ replicate 7 Platform) 0 (fresh (by_registers 4 false true apart)) ≡ record {
-  trace =
-      line Platform (Store 8 5641552640) 0 Open
-      ∷ line Platform (Store 9 73014444036) 0 Open
-      ∷ line Platform (Store 10 0) 0 Open
-      ∷ line Platform (Load 0) 1 Open
-      ∷ line Platform (Store 0 0) 0 Open
-      ∷ line Platform (Store 2 1) 0 Posted
-      ∷ line System (Swap 2 0) 1 Open
-      ∷ line System (Load 5) 0 Open
-      ∷ line System (Store 5 3) 0 Open
-      ∷ line System (Load 8) 5641552640 Open
-      ∷ line System (Load 9) 73014444036 Open
-      ∷ line System (Load 10) 0 Open
-      ∷ line System (Store 10 0) 0 Open
-      ∷ line System (Store 3 0) 0 Open
-      ∷ line System (Load 6) 0 Open
-      ∷ line System (Store 6 3) 0 Open
-      ∷ line System (Load 0) 0 Open
-      ∷ line System (Store 0 1) 0 Open
-      ∷ line System (Load 1) 0 Open
-      ∷ line System (Store 1 1) 0 Open
-      ∷ line System (Store 4 1) 0 Served
-      ∷ line Platform (Load 0) 1 Open
-      ∷ line Platform (Load 3) 0 Open
-      ∷ line Platform (Load 8) 5641552640 Open
-      ∷ line Platform (Load 9) 73014444036 Open
-      ∷ line Platform (Load 10) 0 Open
-      ∷ line Platform (Load 4) 1 Open
-      ∷ line Platform (Store 4 0) 0 (Done false) ∷ [];
-  records = record { caller = 0; code = 17; input = no_bytes; error = false; output = no_bytes; post = 0; done = 10; late = false } ∷ [];
-  sent = None;
-}
+type_four_separate = woven (record { caller = 0; code = 17; bytes = []; polls = 1 } ∷ [])
+    (replicate 6 Platform ++ replicate 15 System ++ replicate 7 Platform)
+    0 (fresh (by_registers 4 false true apart)) ≡ record {
+      trace =
+          line Platform (Store 8 5641552640) 0 Open
+          ∷ line Platform (Store 9 73014444036) 0 Open
+          ∷ line Platform (Store 10 0) 0 Open
+          ∷ line Platform (Load 0) 1 Open
+          ∷ line Platform (Store 0 0) 0 Open
+          ∷ line Platform (Store 2 1) 0 Posted
+          ∷ line System (Swap 2 0) 1 Open
+          ∷ line System (Load 5) 0 Open
+          ∷ line System (Store 5 3) 0 Open
+          ∷ line System (Load 8) 5641552640 Open
+          ∷ line System (Load 9) 73014444036 Open
+          ∷ line System (Load 10) 0 Open
+          ∷ line System (Store 10 0) 0 Open
+          ∷ line System (Store 3 0) 0 Open
+          ∷ line System (Load 6) 0 Open
+          ∷ line System (Store 6 3) 0 Open
+          ∷ line System (Load 0) 0 Open
+          ∷ line System (Store 0 1) 0 Open
+          ∷ line System (Load 1) 0 Open
+          ∷ line System (Store 1 1) 0 Open
+          ∷ line System (Store 4 1) 0 Served
+          ∷ line Platform (Load 0) 1 Open
+          ∷ line Platform (Load 3) 0 Open
+          ∷ line Platform (Load 8) 5641552640 Open
+          ∷ line Platform (Load 9) 73014444036 Open
+          ∷ line Platform (Load 10) 0 Open
+          ∷ line Platform (Load 4) 1 Open
+          ∷ line Platform (Store 4 0) 0 (Done false) ∷ [];
+      records = record { caller = 0; code = 17; input = no_bytes; error = false; output = no_bytes; post = 0; done = 10; late = false } ∷ [];
+      sent = None;
+    }
 
 -- type 5, whose doorbell comes before completion is cleared; the command is bad
 abbrev pub type_five : Type 0
-type_five = woven (record { caller = 0; code = 18; bytes = 1 ∷ []; polls = 1 } ∷ []) (replicate 7 System ++ replicate 7 Platform ++ replicate 4 System) 0 (fresh (by_registers 5 false false (record { preserve = 0; set = 0 }))) ≡ record {
-  trace =
-      line System (Store 8 78655996672) 0 Open
-      ∷ line System (Store 9 1) 0 Open
-      ∷ line System (Load 1) 0 Open
-      ∷ line System (Store 1 1) 0 Open
-      ∷ line System (Load 0) 1 Open
-      ∷ line System (Store 0 0) 0 Open
-      ∷ line System (Store 2 1) 0 Posted
-      ∷ line Platform (Swap 2 0) 1 Open
-      ∷ line Platform (Load 8) 78655996672 Open
-      ∷ line Platform (Load 9) 1 Open
-      ∷ line Platform (Store 9 1) 0 Open
-      ∷ line Platform (Store 3 2) 0 Open
-      ∷ line Platform (Load 0) 0 Open
-      ∷ line Platform (Store 0 1) 0 Served
-      ∷ line System (Load 0) 1 Open
-      ∷ line System (Load 3) 2 Open
-      ∷ line System (Load 8) 78655996672 Open
-      ∷ line System (Load 9) 1 (Done true) ∷ [];
-  records = record { caller = 0; code = 18; input = one_byte; error = true; output = one_byte; post = 0; done = 10; late = false } ∷ [];
-  sent = None;
-}
+type_five = woven (record { caller = 0; code = 18; bytes = 1 ∷ []; polls = 1 } ∷ [])
+    (replicate 7 System ++ replicate 7 Platform ++ replicate 4 System)
+    0 (fresh (by_registers 5 false false (record { preserve = 0; set = 0 }))) ≡ record {
+      trace =
+          line System (Store 8 78655996672) 0 Open
+          ∷ line System (Store 9 1) 0 Open
+          ∷ line System (Load 1) 0 Open
+          ∷ line System (Store 1 1) 0 Open
+          ∷ line System (Load 0) 1 Open
+          ∷ line System (Store 0 0) 0 Open
+          ∷ line System (Store 2 1) 0 Posted
+          ∷ line Platform (Swap 2 0) 1 Open
+          ∷ line Platform (Load 8) 78655996672 Open
+          ∷ line Platform (Load 9) 1 Open
+          ∷ line Platform (Store 9 1) 0 Open
+          ∷ line Platform (Store 3 2) 0 Open
+          ∷ line Platform (Load 0) 0 Open
+          ∷ line Platform (Store 0 1) 0 Served
+          ∷ line System (Load 0) 1 Open
+          ∷ line System (Load 3) 2 Open
+          ∷ line System (Load 8) 78655996672 Open
+          ∷ line System (Load 9) 1 (Done true) ∷ [];
+      records = record { caller = 0; code = 18; input = one_byte; error = true; output = one_byte; post = 0; done = 10; late = false } ∷ [];
+      sent = None;
+    }

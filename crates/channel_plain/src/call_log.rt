@@ -39,7 +39,8 @@ impl Model for CallLog {
 
     ghost view = { λ b. book_of b.limits b.journal b.flight b.ended b.begun };
 
-    ghost invariant = { λ b. HasMemory b.flight b.journal.spare × WithinLimits b.limits (times_of b.journal.items) (post_of (sent_of b.flight)) × MayEnd b.begun b.ended };
+    ghost invariant = { λ b. HasMemory b.flight b.journal.spare
+        × WithinLimits b.limits (times_of b.journal.items) (post_of (sent_of b.flight)) × MayEnd b.begun b.ended };
 }
 
 impl CallLog {
@@ -125,7 +126,8 @@ impl CallLog {
         requires free { self.old.sent ≡ None }
         requires fits { length call.now.bytes ≤ length space.now }
         requires counted { self.old.ended < 2 ^ 64 - 1 }
-        ensures ok { IfOk result (λ end. (reading : ℕ) × Takes K.taken K.tells clock.old clock.new true reading × (record { calls = self.new; end = end } ≡ tried call.now space.now reading self.old)) }
+        ensures ok { IfOk result (λ end. (reading : ℕ) × Takes K.taken K.tells clock.old clock.new true reading
+            × (record { calls = self.new; end = end } ≡ tried call.now space.now reading self.old)) }
         ensures err { OnErr result ((self.new ≡ self.old) × (clock.new ≡ clock.old)) }
     {
         let input = laid_over(alloc, space, call.bytes.as_slice())?;
@@ -166,7 +168,8 @@ impl CallLog {
     ) -> TraceEnd
         requires begun { self.old.begun ≡ true }
         requires flies { FliesIf told self.old.sent (length ask.now.space) }
-        ensures { (reading : ℕ) × Takes K.taken K.tells clock.old clock.new (takes_reading told) reading × (record { calls = self.new; end = result } ≡ ask_ended told reading ask.now self.old) }
+        ensures { (reading : ℕ) × Takes K.taken K.tells clock.old clock.new (takes_reading told) reading
+            × (record { calls = self.new; end = result } ≡ ask_ended told reading ask.now self.old) }
     {
         match told {
             None => TraceEnd::Open,

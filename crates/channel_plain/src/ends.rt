@@ -53,9 +53,26 @@ impl<E: Executor> Model for Ends<E> {
 
     ghost Value = { PlainState };
 
-    ghost view = { λ s. record { words = s.words.items; ask = s.ask; answer = s.answer; device = E.state s.device; start = E.state s.first.value; calls = s.calls; executed = s.executed.commands } };
+    ghost view = { λ s. record {
+      words = s.words.items;
+      ask = s.ask;
+      answer = s.answer;
+      device = E.state s.device;
+      start = E.state s.first.value;
+      calls = s.calls;
+      executed = s.executed.commands;
+    } };
 
-    ghost invariant = { λ s. Holds E.exec_of E.is_state E.room_of (record { words = s.words.items; ask = s.ask; answer = s.answer; device = E.state s.device; start = E.state s.first.value; calls = s.calls; executed = s.executed.commands }) s.executed.ready s.executed.room };
+    ghost invariant = { λ s. Holds E.exec_of E.is_state E.room_of (record {
+      words = s.words.items;
+      ask = s.ask;
+      answer = s.answer;
+      device = E.state s.device;
+      start = E.state s.first.value;
+      calls = s.calls;
+      executed = s.executed.commands;
+    })
+        s.executed.ready s.executed.room };
 }
 
 impl<E: Executor> Ends<E> {
@@ -155,7 +172,8 @@ impl<E: Executor> Ends<E> {
     pub fn ask_pick<K: Clock>(&mut self, calls: &[Asked], clock: &mut K) -> Result<Pick, NoMemory>
         requires polls { HavePolls calls.now }
         requires serving { IsServing calls.now self.old }
-        ensures ok { IfOk result (λ pick. Reads K.taken K.tells clock.old clock.new (λ r. ask_picked_at self.old.ask.stage calls.now r self.old) self.new pick) }
+        ensures ok { IfOk result (λ pick. Reads K.taken K.tells clock.old clock.new
+            (λ r. ask_picked_at self.old.ask.stage calls.now r self.old) self.new pick) }
         ensures err { OnErr result ((self.new ≡ self.old) × (clock.new ≡ clock.old)) }
     {
         if !rests(&self.ask) {
@@ -169,7 +187,8 @@ impl<E: Executor> Ends<E> {
         requires rests { self.old.ask.stage ≡ AskRest }
         requires polls { HavePolls calls.now }
         requires serving { IsServing calls.now self.old }
-        ensures ok { IfOk result (λ pick. Reads K.taken K.tells clock.old clock.new (λ r. from_rest self.old.calls.begun (slice_get calls.now self.old.calls.ended) r self.old) self.new pick) }
+        ensures ok { IfOk result (λ pick. Reads K.taken K.tells clock.old clock.new
+            (λ r. from_rest self.old.calls.begun (slice_get calls.now self.old.calls.ended) r self.old) self.new pick) }
         ensures err { OnErr result ((self.new ≡ self.old) × (clock.new ≡ clock.old)) }
     {
         let Some(call) = call_at(calls, self.calls.ended()) else {
@@ -246,7 +265,8 @@ impl<E: Executor> Ends<E> {
         requires posts { self.old.ask.posts < 4096 }
         requires budget { 0 < (budget_by begins call.now.polls self.old.ask).budget }
         requires begun { begins ≡ false → self.old.calls.begun ≡ true }
-        ensures ok { IfOk result (λ pick. Reads K.taken K.tells clock.old clock.new (λ r. served false call.now r (begun_with begins call.now.polls self.old)) self.new pick) }
+        ensures ok { IfOk result (λ pick. Reads K.taken K.tells clock.old clock.new
+            (λ r. served false call.now r (begun_with begins call.now.polls self.old)) self.new pick) }
         ensures err { OnErr result ((self.new ≡ self.old) × (clock.new ≡ clock.old)) }
     {
         asking_laws();

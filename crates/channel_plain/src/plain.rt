@@ -62,7 +62,8 @@ impl<E: Executor, K: Clock> Plain<E, K> {
     pub fn pick(&mut self, side: Side, calls: &[Asked]) -> Result<TraceLine, NoMemory>
         requires polls { HavePolls calls.now }
         requires serving { IsServing calls.now self.old.channel }
-        ensures ok { IfOk result (λ line. PicksOnce K.taken K.tells E.exec_of calls.now side self.old.channel self.old.clock self.new.channel self.new.clock line) }
+        ensures ok { IfOk result (λ line. PicksOnce K.taken K.tells E.exec_of calls.now side
+            self.old.channel self.old.clock self.new.channel self.new.clock line) }
         ensures err { OnErr result (self.new ≡ self.old) }
         ensures serving { IsServing calls.now self.new.channel }
 
@@ -92,7 +93,8 @@ impl<E: Executor, K: Clock> Plain<E, K> {
     fn side_pick(&mut self, side: Side, calls: &[Asked]) -> Result<Pick, NoMemory>
         requires polls { HavePolls calls.now }
         requires serving { IsServing calls.now self.old.channel }
-        ensures ok { IfOk result (λ pick. Reads K.taken K.tells self.old.clock self.new.clock (λ r. picked E.exec_of calls.now side r self.old.channel) self.new.channel pick) }
+        ensures ok { IfOk result (λ pick. Reads K.taken K.tells self.old.clock self.new.clock
+            (λ r. picked E.exec_of calls.now side r self.old.channel) self.new.channel pick) }
         ensures err { OnErr result (self.new ≡ self.old) }
     {
         if asks(self.ends.wiring(), side) {

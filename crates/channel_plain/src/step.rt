@@ -45,7 +45,8 @@ pub(crate) fn settle<E: Executor>(
     requires long { executed.old.room ≡ answer.old.wiring.room }
     requires room { E.room_of (E.state device.old) ≡ answer.old.wiring.room }
     requires reports { reports ≡ answer.old.wiring.reports }
-    ensures { IsSettled (settle E.exec_of (record { m = answer.old; device = E.state device.old; done = [] })) answer.old.stage executed.old answer.new (E.state device.new) executed.new }
+    ensures { IsSettled (settle E.exec_of (record { m = answer.old; device = E.state device.old; done = [] }))
+        answer.old.stage executed.old answer.new (E.state device.new) executed.new }
 {
     let Action::Execute { code } = answer_next(answer) else {
         return;
