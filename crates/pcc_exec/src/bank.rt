@@ -1,8 +1,8 @@
 //! A device that keeps one space.
 ghost use Rattle.std.specs.Prelude.{◌≡◌, ◌∷◌, replicate, IfOk};
-ghost use Rattle.pcc_bytes.specs.Bytes.{IsBytes};
 
 use crate::{ExecStatus, Executor};
+use pcc_bytes::are_bytes;
 use pcc_io::NoMemory;
 use std::alloc::Global;
 use std::marker::Model;
@@ -72,15 +72,11 @@ impl Executor for Bank {
     }
 
     fn room(&self) -> u32 {
+        // What is held are bytes, as each state has it.
         are_bytes(&self.held);
         self.room
     }
 }
-
-// What a slice of bytes has is below 256. It does nothing.
-fn are_bytes(bytes: &[u8])
-    ensures { IsBytes bytes.now }
-{}
 
 #[cfg(test)]
 mod tests {
