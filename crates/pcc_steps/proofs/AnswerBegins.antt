@@ -27,7 +27,7 @@ module _ (exec : Device) (start : List ℕ) where
     room = g.room;
     sent = g.sent;
     shown = g.shown;
-    carries = g.carries;
+    asked = g.asked;
     posts = g.posts;
     irq = g.irq;
     fits = still (pose x.m) x (record y { m = record y.m { stage = AnswerRest } }) c (answer_begun y.m) g.fits;
@@ -65,7 +65,7 @@ module _ (exec : Device) (start : List ℕ) where
     room = g.room;
     sent = g.sent;
     shown = g.shown;
-    carries = g.carries;
+    asked = g.asked;
     posts = g.posts;
     irq = g.irq;
     fits = subst (λ (t : Turn). Fits (pose x.m) t x (record y { m = record y.m { steps = n } }) c) (sym (turned y.m.stage y.m n)) (counted (pose x.m) (turn y.m) x y c n g.fits);

@@ -14,7 +14,8 @@ use Rattle.shmem_header.specs.Spelling.{words_of, bytes_of}
 use Rattle.pcc_steps.specs.Wires.{style_of, heads_of, block_of, code_by, four_by, masked_by}
 use Rattle.pcc_steps.specs.Asking.{has_more}
 use Rattle.pcc_steps.specs.Answering.{Answer, AnswerOk, AnswerPlace, answer_next_at, answer_fed_at, take_on, load_on, after_ack, after_take, ran_with}
-use Rattle.pcc_steps.specs.Agree.{Core, act, Finds, mix, Asker, Answerer, settle_at, settle, Pose, free, writing, cleared, waiting, reading, pose, Turn, quiet, taken, replying, turn_at, closed, Marked, Row, Flight, flight, reply_block, HasHeader, IsTaken, IsReplying, IsDone, Waits, Fits, HasRoom, IsBetween, Agreed, Agree}
+use Rattle.pcc_steps.specs.Agree.{Core, act, Finds, mix, Asker, Answerer, settle_at, settle, Pose, free, writing, cleared, waiting, reading, pose, Turn, quiet, taken, replying, turn_at, closed, Marked, Row, Flight, flight, reply_block, HasHeader, IsTaken, IsReplying, IsDone, Waits, Fits, trail, HasAskedBy, HasRoom, IsBetween, Agreed, Agree}
+use Rattle.pcc_steps.proofs.Trails.{sent_carries, waits_pends}
 use Rattle.pcc_steps.proofs.Lists.{take_all, loads, get_block}
 use Rattle.pcc_steps.proofs.Bits.{code_known}
 use Rattle.pcc_steps.proofs.Spaces.{block_long, bytes_again, mix_front, some_words, behind_heads}
@@ -80,7 +81,7 @@ module _ (exec : Device) (is_state : List ℕ → Type 0) (room : ℕ) (law : (d
     room = g.room;
     sent = g.sent;
     shown = g.shown;
-    carries = g.carries;
+    asked = g.asked;
     posts = g.posts;
     irq = low;
     fits = fits;
@@ -209,7 +210,8 @@ module _ (exec : Device) (is_state : List ℕ → Type 0) (room : ℕ) (law : (d
       let long : length x.m.sent ≡ block_of w = g.ask_ok.sized.sent in let front : k ≤ length x.m.sent = omega arith in
       let is_input : input ≡ x.m.input = ap (λ (l : List ℕ). bytes_of (drop k l)) whole ∙ (ap bytes_of g.sent.words ∙ bytes_again x.m.input g.sent.fits (ap (λ (n : ℕ). n % 8) g.ask_ok.sized.input ∙ g.ask_ok.wired.whole)) in
       let has = header_on s w j 0 x.m.code y.m.header t.header in
-      let is_code : code ≡ x.m.code = ap (λ (l : List ℕ). code_by s y.m.header l) whole ∙ code_known s w x.m.code y.m.header x.m.sent g.ask_ok.id g.ask_ok.code has g.carries in
+      let carries = sent_carries x g.ask_ok (subst (λ (b : Bool). HasAskedBy b (trail x)) (waits_pends x.m.stage x.m q) g.asked) in
+      let is_code : code ≡ x.m.code = ap (λ (l : List ℕ). code_by s y.m.header l) whole ∙ code_known s w x.m.code y.m.header x.m.sent g.ask_ok.id g.ask_ok.code has carries in
       let space : IsSpace room input = subst (IsSpace room) (sym is_input) (record { long = g.ask_ok.sized.input ∙ same; fits = g.sent.fits }) in
       let here : is_state y.device = subst is_state (sym g.device) (state_kept exec is_state room law start y.done sound (subst (λ (n : ℕ). HasRoom n y.done) same g.room)) in
       let kept = law y.device code input here space in
@@ -228,7 +230,7 @@ module _ (exec : Device) (is_state : List ℕ → Type 0) (room : ℕ) (law : (d
         room = room_more w.room y.done x1 g.room (subst (λ (n : ℕ). IsSpace n input) (sym same) space) (subst (λ (n : ℕ). IsSpace n e.space) (sym same) kept.1);
         sent = g.sent;
         shown = g.shown;
-        carries = g.carries;
+        asked = g.asked;
         posts = g.posts;
         irq = g.irq;
         fits = in_flight (replying k) x z c q record {

@@ -1,38 +1,21 @@
 -- What begins a run of the asking end keeps the relation.
-use Rattle.std.proofs.Common.{◌≡◌, ℕ, ◌+◌, ◌*◌, ◌/◌, ◌^◌, ◌<◌, ◌≤◌, Bool, true, false, List, ◌++◌, length, drop, refl, sym, ap, subst, arith, length-drop}
-use Rattle.std.proofs.lemmas.List.{length-append}
+use Rattle.std.proofs.Common.{◌≡◌, ℕ, ◌<◌, ◌≤◌, Bool, true, false, List, length, drop, refl, sym, subst, arith}
 use Rattle.pcc_bytes.specs.Bytes.{IsBytes}
 use Rattle.pcc_history.specs.Devices.{Device}
 use Rattle.pcc_history.specs.Channel.{over}
 use Rattle.shmem_header.specs.Spelling.{words_of}
-use Rattle.pcc_steps.specs.declared.wiring.Wiring.{Wiring}
 use Rattle.pcc_steps.specs.declared.wiring.Style.{Style}
-use Rattle.pcc_steps.specs.declared.wiring.Style.TheVariants.{Headed, Joined3, Separate3, Joined4, Separate4, Reduced5}
 use Rattle.pcc_steps.specs.declared.ask.AskStage.{AskStage}
 use Rattle.pcc_steps.specs.declared.ask.AskStage.TheVariants.{AskRest, LookWord}
-use Rattle.pcc_steps.specs.Wires.{style_of, heads_of, block_header}
+use Rattle.pcc_steps.specs.Wires.{style_of, heads_of}
 use Rattle.pcc_steps.specs.Asking.{Ask, AskOk, CodeFits, LooksLeft, ask_begun, ask_looking, ask_budgeted, rose}
-use Rattle.shmem_header.specs.Layout.{signature_of}
-use Rattle.shmem_header.proofs.Commands.{signature_of-add}
 use Rattle.pcc_bytes.proofs.Bytes.{IsBytes-drop}
-use Rattle.pcc_steps.specs.Agree.{Core, Asker, Answerer, asker_stepped, Pose, free, writing, cleared, waiting, reading, resting, pose, pose_at, Turn, turn, Fits, Carries, Agreed, Agree}
+use Rattle.pcc_steps.specs.Agree.{Core, Asker, Answerer, asker_stepped, asker_begun, trail, HasAskedBy, Pose, free, writing, cleared, waiting, reading, resting, pose, pose_at, Turn, turn, Fits, Agreed, Agree}
 use Rattle.pcc_steps.proofs.Bits.{reopened}
-use Rattle.pcc_steps.proofs.Spaces.{IsBytes-append, words_long, some_words}
+use Rattle.pcc_steps.proofs.Headers.{over_long, block_sent, behind_header}
+use Rattle.pcc_steps.proofs.Trails.{post_asks}
+use Rattle.pcc_steps.proofs.Spaces.{IsBytes-append, some_words}
 use Rattle.pcc_steps.proofs.AskKeeps.{at, moves}
-
-heads_long : (s : Style) (w : Wiring) (code asked : ℕ) → length (block_header s w code asked) ≡ heads_of s
-heads_long Headed w code asked = refl
-heads_long Joined3 w code asked = refl
-heads_long Separate3 w code asked = refl
-heads_long Joined4 w code asked = refl
-heads_long Separate4 w code asked = refl
-heads_long Reduced5 w code asked = refl
-
-pub over_long : (space bytes : List ℕ) (room : ℕ) → length space ≡ room → length bytes ≤ room → length (over space bytes) ≡ room
-over_long space bytes room e h = let l = length-append bytes (drop (length bytes) space) in let d = length-drop (length bytes) space in omega (arith, l, d)
-
-block_sent : (s : Style) (w : Wiring) (code asked room : ℕ) (input : List ℕ) → length input ≡ room → length (block_header s w code asked ++ words_of input) ≡ heads_of s + room / 8
-block_sent s w code asked room input e = let l = length-append (block_header s w code asked) (words_of input) in let h = heads_long s w code asked in let k = words_long input in let q = ap (λ (n : ℕ). n / 8) e in omega (arith, l, h, k, q)
 
 pub begun_ok : (a : Ask) (code : ℕ) (bytes : List ℕ) → a.in_flight ≡ false → length bytes ≤ a.wiring.room → a.posts < 4096 → CodeFits (style_of a.wiring) code → a.looks ≤ a.budget → AskOk a → AskOk (ask_begun a code bytes)
 begun_ok a code bytes unflown fits left low looks ok = let w = a.wiring in let input : List ℕ = over a.space bytes in let long : length input ≡ w.room = over_long a.space bytes w.room ok.sized.space fits in record {
@@ -54,31 +37,9 @@ looks_rest a rest ok = subst (λ (st : AskStage). LooksLeft st a.looks a.budget)
 
 -- ---- the relation
 
-behind_header : (s : Style) (w : Wiring) (code asked : ℕ) (ws : List ℕ) → drop (heads_of s) (block_header s w code asked ++ ws) ≡ ws
-behind_header Headed w code asked ws = refl
-behind_header Joined3 w code asked ws = refl
-behind_header Separate3 w code asked ws = refl
-behind_header Joined4 w code asked ws = refl
-behind_header Separate4 w code asked ws = refl
-behind_header Reduced5 w code asked ws = refl
-
-upper_half : (low code : ℕ) → low < 2 ^ 32 → (low + code * 2 ^ 32) / 2 ^ 32 ≡ code
-upper_half low code h = omega arith
-
-signed : (id : ℕ) → id < 2 ^ 8 → signature_of id < 2 ^ 32
-signed id h = let e = signature_of-add id h in omega arith
-
-carried : (s : Style) (w : Wiring) (code asked : ℕ) (ws : List ℕ) → w.id < 2 ^ 8 → asked ≤ 4096 → Carries s code (block_header s w code asked ++ ws)
-carried Headed w code asked ws id small = tt
-carried Joined3 w code asked ws id small = upper_half (4 + asked) code (omega arith)
-carried Separate3 w code asked ws id small = upper_half (4 + asked) code (omega arith)
-carried Joined4 w code asked ws id small = upper_half (4 + asked) code (omega arith)
-carried Separate4 w code asked ws id small = upper_half (4 + asked) code (omega arith)
-carried Reduced5 w code asked ws id small = upper_half (signature_of w.id) code (signed w.id id)
-
 module _ (exec : Device) (start : List ℕ) where
   begins_at : (x : Asker) (y : Answerer) (c : Core) (code : ℕ) (bytes : List ℕ) → x.m.in_flight ≡ false → length bytes ≤ x.m.wiring.room → x.m.posts < 4096 → CodeFits (style_of x.m.wiring) code → IsBytes bytes → Agreed exec start (at AskRest x) y c
-      → Agreed exec start (record x { m = ask_begun x.m code bytes }) y c
+      → Agreed exec start (asker_begun x code bytes) y c
   begins_at x y c code bytes unflown short left low fits g = let ok = g.ask_ok in let w = x.m.wiring in let s : Style = style_of w in let input : List ℕ = over x.m.space bytes in
       let row = subst (λ (f : Bool). Fits (resting f) (turn y.m) (at AskRest x) y c) unflown g.fits in record {
         ask_ok = begun_ok (at AskRest x).m code bytes unflown short left low ok.looks ok;
@@ -90,7 +51,7 @@ module _ (exec : Device) (start : List ℕ) where
         room = g.room;
         sent = record { words = behind_header s w code (length bytes) (words_of input); fits = IsBytes-append bytes (drop (length bytes) x.m.space) fits (IsBytes-drop (length bytes) x.m.space g.shown.fits) };
         shown = g.shown;
-        carries = carried s w code (length bytes) (words_of input) ok.id (let most = ok.wired.most in omega arith);
+        asked = post_asks (trail x) code bytes (subst (λ (f : Bool). HasAskedBy f (trail x)) unflown g.asked);
         posts = g.posts;
         irq = g.irq;
         fits = (row.0, record { completion = reopened s w x.m.code code c.completion row.1.completion; line = row.1.line; block = row.1.block; done = row.1.done });
@@ -98,12 +59,12 @@ module _ (exec : Device) (start : List ℕ) where
 
   -- a run that posts begins
   pub begins : (x : Asker) (code : ℕ) (bytes : List ℕ) → x.m.stage ≡ AskRest → x.m.in_flight ≡ false → length bytes ≤ x.m.wiring.room → x.m.posts < 4096 → CodeFits (style_of x.m.wiring) code → IsBytes bytes → (ws : List ℕ) (y : Answerer) → Agree exec start ws x y
-      → Agree exec start ws (record x { m = ask_begun x.m code bytes }) y
+      → Agree exec start ws (asker_begun x code bytes) y
   begins x code bytes rest unflown short left low fits ws y g = (g.0, (g.1.0, g.1.1, begins_at x y g.0 code bytes unflown short left low fits (subst (λ (st : AskStage). Agreed exec start (at st x) y g.0) rest g.1.2)))
 
   looks_at : (x : Asker) (y : Answerer) (c : Core) → x.m.in_flight ≡ true → x.m.looks < x.m.budget → Agreed exec start (at AskRest x) y c → Agreed exec start (at LookWord x) y c
   looks_at x y c flies left g = let ok = g.ask_ok in
-      moves exec start (at AskRest x) y c c LookWord x.m.kept x.m.error x.m.loaded x.m.looks x.clears g (record { wired = ok.wired; sized = ok.sized; place = tt; flies = flies; looks = left; posts = ok.posts; kept = ok.kept; mask = ok.mask; id = ok.id; code = ok.code }) g.irq
+      moves exec start (at AskRest x) y c c LookWord x.m.kept x.m.error x.m.loaded x.m.looks x.clears (sym flies) g (record { wired = ok.wired; sized = ok.sized; place = tt; flies = flies; looks = left; posts = ok.posts; kept = ok.kept; mask = ok.mask; id = ok.id; code = ok.code }) g.irq
       (subst (λ (f : Bool). Fits (resting f) (turn y.m) (at AskRest x) y c) flies g.fits)
 
   -- a run that looks begins
@@ -133,7 +94,7 @@ module _ (exec : Device) (start : List ℕ) where
     room = g.room;
     sent = g.sent;
     shown = g.shown;
-    carries = g.carries;
+    asked = g.asked;
     posts = g.posts;
     irq = g.irq;
     fits = subst (λ (q : Pose). Fits q (turn y.m) (record x { m = record x.m { looks = looks; budget = budget; steps = steps } }) y c) (sym (posed x.m.stage x.m looks budget steps)) (counted (pose x.m) (turn y.m) x y c looks budget steps g.fits);

@@ -8,8 +8,9 @@ use Rattle.pcc_steps.specs.declared.ask.AskStage.{AskStage}
 use Rattle.pcc_steps.specs.declared.ask.AskStage.TheVariants.{PostBlock, PostHeader, PostUpdateLoad, PostUpdateStore, PostMarkLoad, PostMarkStore, PostBellLoad, PostBellStore, PostLine}
 use Rattle.pcc_steps.specs.Wires.{style_of, block_of, sent_header, masked_by, without, update_place}
 use Rattle.pcc_steps.specs.Asking.{Ask, AskOk, AskPlace, AskUpdates, AskClears, AskRings, Flies, LooksLeft, PostsLeft, has_more, ask_next_at, store_on, after_block, after_update, after_mark, after_bell}
-use Rattle.pcc_steps.specs.Agree.{Core, act, Finds, mix, Asker, Answerer, asker_fed_at, Pose, writing, cleared, bell_pose, pose_at, pose, Turn, turn, closed, Marked, flight, Waits, Fits, flying, Agreed, Agree}
+use Rattle.pcc_steps.specs.Agree.{Core, act, Finds, mix, Asker, Answerer, asker_fed_at, Pose, writing, cleared, bell_pose, pose_at, pose, Turn, turn, closed, Marked, flight, Waits, Fits, flying, trail, is_pending_at, Agreed, Agree}
 use Rattle.pcc_steps.proofs.Lists.{mix_more, mix_all, set_block}
+use Rattle.pcc_steps.proofs.Trails.{block_pends, mark_pends, bell_pends, same_pends}
 use Rattle.pcc_steps.proofs.Bits.{clears_mark, clears_update}
 
 -- the asking end at this stage
@@ -23,8 +24,8 @@ module _ (exec : Device) (start : List ℕ) where
 
   -- what a step within a run changes, and what it has to show anew
   pub moves : (x : Asker) (y : Answerer) (c d : Core) (st : AskStage) (kept : ℕ) (error : Bool) (loaded : List ℕ) (looks clears : ℕ) → let m : Ask = record x.m { stage = st; kept = kept; error = error; loaded = loaded; looks = looks } in
-      Agreed exec start x y c → AskOk m → d.irq < 2 → Fits (pose m) (turn y.m) (record { m = m; done = x.done; clears = clears }) y d → Agreed exec start (record { m = m; done = x.done; clears = clears }) y d
-  moves x y c d st kept error loaded looks clears g ok low fits = record {
+      is_pending_at st x.m.in_flight ≡ is_pending_at x.m.stage x.m.in_flight → Agreed exec start x y c → AskOk m → d.irq < 2 → Fits (pose m) (turn y.m) (record x { m = m; clears = clears }) y d → Agreed exec start (record x { m = m; clears = clears }) y d
+  moves x y c d st kept error loaded looks clears pends g ok low fits = record {
     ask_ok = ok;
     answer_ok = g.answer_ok;
     between = g.between;
@@ -34,7 +35,7 @@ module _ (exec : Device) (start : List ℕ) where
     room = g.room;
     sent = g.sent;
     shown = g.shown;
-    carries = g.carries;
+    asked = same_pends x (trail x) (is_pending_at st x.m.in_flight) (is_pending_at x.m.stage x.m.in_flight) pends g.asked;
     posts = g.posts;
     irq = low;
     fits = fits;
@@ -67,11 +68,11 @@ module _ (exec : Device) (start : List ℕ) where
   stored : (b : Bool) (j : ℕ) (x : Asker) (y : Answerer) (c : Core) → has_more j x.m.wiring ≡ b → Agreed exec start (at (PostBlock j) x) y c
       → Agreed exec start (record x { m = store_on b j (at (PostBlock j) x).m }) y (record c { block = set c.block j (get_or x.m.sent j 0) })
   stored true j x y c more g = let ok = g.ask_ok in let n : ℕ = block_of x.m.wiring in let fits = g.fits.1 in let long : length x.m.sent ≡ n = ok.sized.sent in let long' : length x.m.shown ≡ n = ok.sized.shown in let here : j < n = ok.place in
-      moves (at (PostBlock j) x) y c (record c { block = set c.block j (get_or x.m.sent j 0) }) (PostBlock (j + 1)) x.m.kept x.m.error x.m.loaded x.m.looks x.clears g (steps_on (at (PostBlock j) x).m (PostBlock (j + 1)) x.m.kept ok ok.kept (ltb-true (j + 1) n more) ok.flies ok.looks ok.posts) g.irq
+      moves (at (PostBlock j) x) y c (record c { block = set c.block j (get_or x.m.sent j 0) }) (PostBlock (j + 1)) x.m.kept x.m.error x.m.loaded x.m.looks x.clears refl g (steps_on (at (PostBlock j) x).m (PostBlock (j + 1)) x.m.kept ok ok.kept (ltb-true (j + 1) n more) ok.flies ok.looks ok.posts) g.irq
       (g.fits.0, record { completion = fits.completion; line = fits.line; block = ap (λ (l : List ℕ). set l j (get_or x.m.sent j 0)) fits.block ∙ mix_more j x.m.sent x.m.shown (omega arith) (omega arith); done = fits.done })
   stored false j x y c more g = let ok = g.ask_ok in let n : ℕ = block_of x.m.wiring in let fits = g.fits.1 in let long : length x.m.sent ≡ n = ok.sized.sent in let long' : length x.m.shown ≡ n = ok.sized.shown in let here : j < n = ok.place in
       let last : n ≤ j + 1 = ltb-false (j + 1) n more in let all : j + 1 ≡ n = omega arith in let s : Style = style_of x.m.wiring in let a : Ask = record x.m { stage = after_block s } in let d : Core = record c { block = set c.block j (get_or x.m.sent j 0) } in
-      moves (at (PostBlock j) x) y c d (after_block s) x.m.kept x.m.error x.m.loaded x.m.looks x.clears g (block_ok s x.m refl (record { wired = ok.wired; sized = ok.sized; place = omega arith; flies = ok.flies; looks = ok.looks; posts = ok.posts; kept = ok.kept; mask = ok.mask; id = ok.id; code = ok.code })) g.irq
+      moves (at (PostBlock j) x) y c d (after_block s) x.m.kept x.m.error x.m.loaded x.m.looks x.clears (block_pends s x.m.in_flight) g (block_ok s x.m refl (record { wired = ok.wired; sized = ok.sized; place = omega arith; flies = ok.flies; looks = ok.looks; posts = ok.posts; kept = ok.kept; mask = ok.mask; id = ok.id; code = ok.code })) g.irq
       (subst (λ (q : Pose). Fits q (turn y.m) (record x { m = a }) y d) (sym (pose_after s a refl))
       (g.fits.0, record { completion = fits.completion; line = fits.line; block = ap (λ (l : List ℕ). set l j (get_or x.m.sent j 0)) fits.block ∙ (mix_more j x.m.sent x.m.shown (omega arith) (omega arith) ∙ ap (λ (k : ℕ). mix k x.m.sent x.m.shown) all); done = fits.done }))
 
@@ -91,7 +92,7 @@ module _ (exec : Device) (start : List ℕ) where
     (
       g.1.0,
       ap (λ (l : List ℕ). set l 0 z) g.1.1,
-      moves (at PostHeader x) y c d PostBellLoad x.m.kept x.m.error x.m.loaded x.m.looks x.clears h (steps_on (at PostHeader x).m PostBellLoad x.m.kept ok ok.kept (subst AskRings (sym headed) tt) ok.flies ok.looks ok.posts) h.irq
+      moves (at PostHeader x) y c d PostBellLoad x.m.kept x.m.error x.m.loaded x.m.looks x.clears refl h (steps_on (at PostHeader x).m PostBellLoad x.m.kept ok ok.kept (subst AskRings (sym headed) tt) ok.flies ok.looks ok.posts) h.irq
           (subst (λ (q : Pose). Fits q (turn y.m) (at PostBellLoad x) y d) (sym (ap (λ (s : Style). bell_pose s (block_of w)) headed))
           (h.fits.0, record { completion = subst (λ (s : Style). Marked s w x.m.code closed z) (sym headed) refl; line = fits.line; block = written x y c PostHeader ok fits.block; done = fits.done })),
     ),
@@ -99,11 +100,11 @@ module _ (exec : Device) (start : List ℕ) where
 
   pub loads_update : Keeps PostUpdateLoad
   loads_update x y ws v g f small = let c = g.0 in let h = g.1.2 in let ok = h.ask_ok in
-      (c, (g.1.0, g.1.1, moves (at PostUpdateLoad x) y c c PostUpdateStore v x.m.error x.m.loaded x.m.looks x.clears h (steps_on (at PostUpdateLoad x).m PostUpdateStore v ok small ok.place ok.flies ok.looks ok.posts) h.irq h.fits))
+      (c, (g.1.0, g.1.1, moves (at PostUpdateLoad x) y c c PostUpdateStore v x.m.error x.m.loaded x.m.looks x.clears refl h (steps_on (at PostUpdateLoad x).m PostUpdateStore v ok small ok.place ok.flies ok.looks ok.posts) h.irq h.fits))
 
   pub loads_mark : Keeps PostMarkLoad
   loads_mark x y ws v g f small = let c = g.0 in let h = g.1.2 in let ok = h.ask_ok in
-      (c, (g.1.0, g.1.1, moves (at PostMarkLoad x) y c c PostMarkStore v x.m.error x.m.loaded x.m.looks x.clears h (steps_on (at PostMarkLoad x).m PostMarkStore v ok small ok.place ok.flies ok.looks ok.posts) h.irq h.fits))
+      (c, (g.1.0, g.1.1, moves (at PostMarkLoad x) y c c PostMarkStore v x.m.error x.m.loaded x.m.looks x.clears refl h (steps_on (at PostMarkLoad x).m PostMarkStore v ok small ok.place ok.flies ok.looks ok.posts) h.irq h.fits))
 
   -- the doorbell's register is no part of the relation
   bell_still : (s : Style) (n : ℕ) (t : Turn) (x : Asker) (y : Answerer) (c : Core) (st : AskStage) (kept : ℕ) → Fits (bell_pose s n) t x y c → Fits (bell_pose s n) t (record x { m = record x.m { stage = st; kept = kept } }) y c
@@ -112,7 +113,7 @@ module _ (exec : Device) (start : List ℕ) where
 
   pub loads_bell : Keeps PostBellLoad
   loads_bell x y ws v g f small = let c = g.0 in let h = g.1.2 in let ok = h.ask_ok in
-      (c, (g.1.0, g.1.1, moves (at PostBellLoad x) y c c PostBellStore v x.m.error x.m.loaded x.m.looks x.clears h (steps_on (at PostBellLoad x).m PostBellStore v ok small ok.place ok.flies ok.looks ok.posts) h.irq (bell_still (style_of x.m.wiring) (block_of x.m.wiring) (turn y.m) (at PostBellLoad x) y c PostBellStore v h.fits)))
+      (c, (g.1.0, g.1.1, moves (at PostBellLoad x) y c c PostBellStore v x.m.error x.m.loaded x.m.looks x.clears refl h (steps_on (at PostBellLoad x).m PostBellStore v ok small ok.place ok.flies ok.looks ok.posts) h.irq (bell_still (style_of x.m.wiring) (block_of x.m.wiring) (turn y.m) (at PostBellLoad x) y c PostBellStore v h.fits)))
 
   pose_bell : (s : Style) (a : Ask) → style_of a.wiring ≡ s → pose_at (after_bell s) a ≡ bell_pose s (block_of a.wiring)
   pose_bell Headed a e = refl
@@ -132,7 +133,7 @@ module _ (exec : Device) (start : List ℕ) where
     (
       record o { bell = z },
       ap (λ (l : List ℕ). set l 1 z) g.1.1,
-      moves (at PostBellStore x) y c c (after_bell s) x.m.kept x.m.error x.m.loaded x.m.looks x.clears h (bell_ok s x.m refl ok) h.irq
+      moves (at PostBellStore x) y c c (after_bell s) x.m.kept x.m.error x.m.loaded x.m.looks x.clears (bell_pends s x.m.in_flight) h (bell_ok s x.m refl ok) h.irq
           (subst (λ (q : Pose). Fits q (turn y.m) (at (after_bell s) x) y c) (sym (pose_bell s (at (after_bell s) x).m refl)) (bell_still s (block_of x.m.wiring) (turn y.m) (at PostBellStore x) y c (after_bell s) x.m.kept h.fits)),
     ),
   )
@@ -146,7 +147,7 @@ module _ (exec : Device) (start : List ℕ) where
     (
       g.1.0,
       ap (λ (l : List ℕ). set l 0 z) g.1.1,
-      moves (at PostUpdateStore x) y c d PostBellLoad x.m.kept x.m.error x.m.loaded x.m.looks x.clears h (steps_on (at PostUpdateStore x).m PostBellLoad x.m.kept ok ok.kept (subst AskRings (sym e) tt) ok.flies ok.looks ok.posts) h.irq
+      moves (at PostUpdateStore x) y c d PostBellLoad x.m.kept x.m.error x.m.loaded x.m.looks x.clears refl h (steps_on (at PostUpdateStore x).m PostBellLoad x.m.kept ok ok.kept (subst AskRings (sym e) tt) ok.flies ok.looks ok.posts) h.irq
           (subst (λ (q : Pose). Fits q (turn y.m) (at PostBellLoad x) y d) (sym (ap (λ (s : Style). bell_pose s (block_of w)) e))
           (h.fits.0, record { completion = subst (λ (s : Style). Marked s w x.m.code closed z) (sym e) (clears_update w x.m.code x.m.kept e ok.wired); line = fits.line; block = written x y c PostUpdateStore ok fits.block; done = fits.done })),
     ),
@@ -156,7 +157,7 @@ module _ (exec : Device) (start : List ℕ) where
     (
       record o { update = z },
       ap (λ (l : List ℕ). set l 6 z) g.1.1,
-      moves (at PostUpdateStore x) y c c PostMarkLoad x.m.kept x.m.error x.m.loaded x.m.looks x.clears h (steps_on (at PostUpdateStore x).m PostMarkLoad x.m.kept ok ok.kept (subst AskClears (sym e) tt) ok.flies ok.looks ok.posts) h.irq h.fits,
+      moves (at PostUpdateStore x) y c c PostMarkLoad x.m.kept x.m.error x.m.loaded x.m.looks x.clears refl h (steps_on (at PostUpdateStore x).m PostMarkLoad x.m.kept ok ok.kept (subst AskClears (sym e) tt) ok.flies ok.looks ok.posts) h.irq h.fits,
     ),
   )
   updated Joined4 x y ws e u g = absurd u
@@ -192,7 +193,7 @@ module _ (exec : Device) (start : List ℕ) where
     (
       g.1.0,
       ap (λ (l : List ℕ). set l 0 z) g.1.1,
-      moves (at PostMarkStore x) y c d (after_mark s) x.m.kept x.m.error x.m.loaded x.m.looks x.clears h (mark_ok s x.m refl ok) h.irq
+      moves (at PostMarkStore x) y c d (after_mark s) x.m.kept x.m.error x.m.loaded x.m.looks x.clears (mark_pends s x.m.in_flight) h (mark_ok s x.m refl ok) h.irq
           (marked_on s x y d refl ok.place (h.fits.0, record { completion = clears_mark s w x.m.code x.m.kept (not_headed s ok.place) ok.mask; line = fits.line; block = written x y c PostMarkStore ok fits.block; done = fits.done })),
     ),
   )
@@ -214,7 +215,7 @@ module _ (exec : Device) (start : List ℕ) where
             room = h.room;
             sent = h.sent;
             shown = h.shown;
-            carries = h.carries;
+            asked = h.asked;
             posts = omega arith;
             irq = h.irq;
             fits = subst (λ (t : Turn). Waits t (flight x) y d) (sym h.fits.0) (inl record { completion = fits.completion; line = refl; block = fits.block; done = fits.done });

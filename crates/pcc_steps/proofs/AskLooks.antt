@@ -10,15 +10,16 @@ use Rattle.pcc_steps.specs.declared.ask.AskStage.TheVariants.{AskRest, PostBlock
 use Rattle.shmem_header.specs.Spelling.{words_of, bytes_of}
 use Rattle.pcc_steps.specs.Wires.{style_of, heads_of, block_of, meets, is_complete, sees_done, tells_error, header_error, acknowledges, masked_by}
 use Rattle.pcc_steps.specs.Asking.{Ask, AskOk, has_more, look_on, read_on, block_on, line_on, lowered_on, drained, after_look, look_told, read_told, end_told, line_told}
-use Rattle.pcc_steps.specs.Agree.{Core, Asker, Answerer, done_after, clears_after, Pose, reading, resting, pose_at, Turn, quiet, taken, replying, turn, closed, Row, flight, answered, reply_block, IsDone, Waits, Knows, Fits, flying, Agreed}
+use Rattle.pcc_steps.specs.Agree.{Core, Asker, Answerer, done_after, clears_after, Pose, reading, resting, pose_at, Turn, quiet, taken, replying, turn, closed, Row, flight, answered, reply_block, IsDone, Waits, Knows, Fits, flying, trail, HasAskedBy, Agreed}
 use Rattle.pcc_steps.proofs.Lists.{take_all, loads, get_block}
 use Rattle.pcc_steps.proofs.Bits.{closed_unset, finished_opened, error_seen, error_shown}
 use Rattle.pcc_steps.proofs.Spaces.{block_long, behind_front, space_again, some_words}
+use Rattle.pcc_steps.proofs.Trails.{look_pends, flown_pends, drain_asks}
 use Rattle.pcc_steps.proofs.AskKeeps.{at, Keeps, moves, steps_on, stores_block, stores_header, loads_update, stores_update, loads_mark, stores_mark, loads_bell, stores_bell, raises_bell}
 
 -- the drained command joins the history
 abbrev pub ended : Asker → Asker
-ended x = record { m = drained x.m; done = x.done ++ record { code = x.m.code; input = x.m.input; error = x.m.error; output = bytes_of (drop (heads_of (style_of x.m.wiring)) x.m.loaded) } ∷ []; clears = x.clears }
+ended x = record x { m = drained x.m; done = x.done ++ record { code = x.m.code; input = x.m.input; error = x.m.error; output = bytes_of (drop (heads_of (style_of x.m.wiring)) x.m.loaded) } ∷ [] }
 
 module _ (exec : Device) (start : List ℕ) where
   -- ---- completion
@@ -42,15 +43,15 @@ module _ (exec : Device) (start : List ℕ) where
   knows_look false e e' h = h refl
 
   looked_at : (b : Bool) (v : ℕ) (x : Asker) (y : Answerer) (c : Core) → sees_done x.m.wiring v ≡ b → v ≡ c.completion → Agreed exec start (at LookWord x) y c
-      → Agreed exec start (record { m = look_on b v (at LookWord x).m; done = done_after (look_told b) x.done (look_on b v (at LookWord x).m); clears = clears_after (look_told b) x.clears }) y c
+      → Agreed exec start (record x { m = look_on b v (at LookWord x).m; done = done_after (look_told b) x.done (look_on b v (at LookWord x).m); clears = clears_after (look_told b) x.clears }) y c
   looked_at true v x y c seen same g = let ok = g.ask_ok in let w = x.m.wiring in let s : Style = style_of w in let t : Bool = tells_error w in let a : Ask = record x.m { stage = after_look t; error = header_error s v } in
       let now : is_complete s w.check_mask c.completion ≡ true = ap (is_complete s w.check_mask) (sym same) ∙ seen in let d = sees (turn y.m) s (at LookWord x) y c ok refl now g.fits in
-      moves exec start (at LookWord x) y c c (after_look t) x.m.kept (header_error s v) x.m.loaded x.m.looks x.clears g (look_ok t x.m (header_error s v) refl (some_words (heads_of s) w.room ok.wired.least) ok) g.irq
+      moves exec start (at LookWord x) y c c (after_look t) x.m.kept (header_error s v) x.m.loaded x.m.looks x.clears (look_pends t x.m.in_flight) g (look_ok t x.m (header_error s v) refl (some_words (heads_of s) w.room ok.wired.least) ok) g.irq
       (subst (λ (q : Pose). Fits q (turn y.m) (record x { m = a }) y c) (sym (pose_look t a))
       (d.0, record { error = d.1.0.0; output = d.1.0.1; is = d.1.1; loaded = refl; knows = knows_look t d.1.0.0 (header_error s v) (λ quietly. error_seen s w.reports w x.m.code c.completion v c.error d.1.0.0 ok.id ok.code quietly same d.1.1.row.completion d.1.1.shows) }))
   looked_at false v x y c seen same g = let ok = g.ask_ok in
-      moves exec start (at LookWord x) y c c AskRest x.m.kept x.m.error x.m.loaded (x.m.looks + 1) (x.clears + 1) g (record { wired = ok.wired; sized = ok.sized; place = tt; flies = tt; looks = let l = ok.looks in omega arith; posts = ok.posts; kept = ok.kept; mask = ok.mask; id = ok.id; code = ok.code }) g.irq
-      (subst (λ (f : Bool). Fits (resting f) (turn y.m) (record { m = look_on false v (at LookWord x).m; done = x.done; clears = x.clears + 1 }) y c) (sym ok.flies) g.fits)
+      moves exec start (at LookWord x) y c c AskRest x.m.kept x.m.error x.m.loaded (x.m.looks + 1) (x.clears + 1) ok.flies g (record { wired = ok.wired; sized = ok.sized; place = tt; flies = tt; looks = let l = ok.looks in omega arith; posts = ok.posts; kept = ok.kept; mask = ok.mask; id = ok.id; code = ok.code }) g.irq
+      (subst (λ (f : Bool). Fits (resting f) (turn y.m) (record x { m = look_on false v (at LookWord x).m; done = x.done; clears = x.clears + 1 }) y c) (sym ok.flies) g.fits)
 
   looks_word : Keeps exec start LookWord
   looks_word x y ws v g f small = let same : v ≡ g.0.completion = f ∙ ap (λ (l : List ℕ). get_or l 0 0) g.1.1 in (g.0, (g.1.0, g.1.1, looked_at (sees_done x.m.wiring v) v x y g.0 refl same g.1.2))
@@ -61,7 +62,7 @@ module _ (exec : Device) (start : List ℕ) where
     (
       g.1.0,
       g.1.1,
-      moves exec start (at LookError x) y c c (LookBlock 0) x.m.kept (meets v w.error_mask) x.m.loaded x.m.looks x.clears h (record { wired = ok.wired; sized = ok.sized; place = some_words (heads_of (style_of w)) w.room ok.wired.least; flies = ok.flies; looks = ok.looks; posts = ok.posts; kept = ok.kept; mask = ok.mask; id = ok.id; code = ok.code }) h.irq
+      moves exec start (at LookError x) y c c (LookBlock 0) x.m.kept (meets v w.error_mask) x.m.loaded x.m.looks x.clears refl h (record { wired = ok.wired; sized = ok.sized; place = some_words (heads_of (style_of w)) w.room ok.wired.least; flies = ok.flies; looks = ok.looks; posts = ok.posts; kept = ok.kept; mask = ok.mask; id = ok.id; code = ok.code }) h.irq
           (h.fits.0, record { error = r.error; output = r.output; is = r.is; loaded = refl; knows = ap (λ (n : ℕ). meets n w.error_mask) same ∙ error_shown (style_of w) w.reports w.error_mask c.error r.error ok.place r.is.shows }),
     ),
   )
@@ -86,7 +87,7 @@ module _ (exec : Device) (start : List ℕ) where
         room = g.room;
         sent = g.sent;
         shown = record { words = ap (λ (l : List ℕ). drop k l) whole ∙ (behind_front k x.m.sent (words_of output) front ∙ ap words_of (sym space)); fits = subst IsBytes (sym space) is.bytes };
-        carries = g.carries;
+        asked = drain_asks (trail x) x.m.error (bytes_of (drop k l)) l (whole ∙ ap (λ (o : List ℕ). take k x.m.sent ++ words_of o) (sym space)) (subst (λ (b : Bool). HasAskedBy b (trail x)) (flown_pends st x.m.in_flight flies) g.asked);
         posts = omega arith;
         irq = low;
         fits = (
@@ -103,17 +104,17 @@ module _ (exec : Device) (start : List ℕ) where
   -- the last word of the block is loaded
   blocked : (b : Bool) (j : ℕ) (l : List ℕ) (x : Asker) (y : Answerer) (c : Core) (e : Bool) (output : List ℕ) → x.m.wiring.notify ≡ b → Agreed exec start (at (LookBlock j) x) y c → length l ≡ block_of x.m.wiring → IsDone (flight x) y.done c e output
       → take (block_of x.m.wiring) l ≡ take (block_of x.m.wiring) (reply_block (flight x) output) → x.m.error ≡ e → turn y.m ≡ quiet → let a : Ask = record x.m { stage = LookBlock j; loaded = l } in
-      Agreed exec start (record { m = block_on b a; done = done_after (end_told b x.m.error) x.done (block_on b a); clears = clears_after (end_told b x.m.error) x.clears }) y c
+      Agreed exec start (record x { m = block_on b a; done = done_after (end_told b x.m.error) x.done (block_on b a); clears = clears_after (end_told b x.m.error) x.clears }) y c
   blocked true j l x y c e output asks g long is loaded knows rests = let ok = g.ask_ok in
-      moves exec start (at (LookBlock j) x) y c c LookLine x.m.kept x.m.error l x.m.looks x.clears g (record { wired = ok.wired; sized = record { sent = ok.sized.sent; shown = ok.sized.shown; loaded = long; input = ok.sized.input; space = ok.sized.space }; place = asks; flies = ok.flies; looks = ok.looks; posts = ok.posts; kept = ok.kept; mask = ok.mask; id = ok.id; code = ok.code }) g.irq
+      moves exec start (at (LookBlock j) x) y c c LookLine x.m.kept x.m.error l x.m.looks x.clears refl g (record { wired = ok.wired; sized = record { sent = ok.sized.sent; shown = ok.sized.shown; loaded = long; input = ok.sized.input; space = ok.sized.space }; place = asks; flies = ok.flies; looks = ok.looks; posts = ok.posts; kept = ok.kept; mask = ok.mask; id = ok.id; code = ok.code }) g.irq
       (rests, record { error = e; output = output; is = is; loaded = loaded; knows = knows })
   blocked false j l x y c e output asks g long is loaded knows rests = let ok = g.ask_ok in drains x y c c (LookBlock j) l e output g ok.flies ok.looks ok.posts long g.irq rests is loaded knows
 
   read : (b : Bool) (j v : ℕ) (x : Asker) (y : Answerer) (c : Core) → has_more j x.m.wiring ≡ b → v ≡ get_or c.block j 0 → Agreed exec start (at (LookBlock j) x) y c
-      → Agreed exec start (record { m = read_on b j v (at (LookBlock j) x).m; done = done_after (read_told b x.m.wiring.notify x.m.error) x.done (read_on b j v (at (LookBlock j) x).m); clears = clears_after (read_told b x.m.wiring.notify x.m.error) x.clears }) y c
+      → Agreed exec start (record x { m = read_on b j v (at (LookBlock j) x).m; done = done_after (read_told b x.m.wiring.notify x.m.error) x.done (read_on b j v (at (LookBlock j) x).m); clears = clears_after (read_told b x.m.wiring.notify x.m.error) x.clears }) y c
   read true j v x y c more same g = let ok = g.ask_ok in let w = x.m.wiring in let n : ℕ = block_of w in let r = g.fits.1 in let here : j < n = ok.place in let long : length x.m.loaded ≡ n = ok.sized.loaded in
       let long' : length (reply_block (flight x) r.output) ≡ n = block_long (heads_of (style_of w)) w.room x.m.sent r.output ok.sized.sent r.is.long in
-      moves exec start (at (LookBlock j) x) y c c (LookBlock (j + 1)) x.m.kept x.m.error (set x.m.loaded j v) x.m.looks x.clears g
+      moves exec start (at (LookBlock j) x) y c c (LookBlock (j + 1)) x.m.kept x.m.error (set x.m.loaded j v) x.m.looks x.clears refl g
       (record { wired = ok.wired; sized = record { sent = ok.sized.sent; shown = ok.sized.shown; loaded = length-set x.m.loaded j v ∙ long; input = ok.sized.input; space = ok.sized.space }; place = ltb-true (j + 1) n more; flies = ok.flies; looks = ok.looks; posts = ok.posts; kept = ok.kept; mask = ok.mask; id = ok.id; code = ok.code }) g.irq
       (g.fits.0, record { error = r.error; output = r.output; is = r.is; loaded = loads j x.m.loaded (reply_block (flight x) r.output) v (omega arith) (omega arith) (same ∙ ap (λ (l : List ℕ). get_or l j 0) r.is.row.block) r.loaded; knows = r.knows })
   read false j v x y c more same g = let ok = g.ask_ok in let w = x.m.wiring in let n : ℕ = block_of w in let r = g.fits.1 in let here : j < n = ok.place in let long : length x.m.loaded ≡ n = ok.sized.loaded in
@@ -127,9 +128,9 @@ module _ (exec : Device) (start : List ℕ) where
 
   -- the interrupt line is loaded
   lined : (b : Bool) (x : Asker) (y : Answerer) (c : Core) → Agreed exec start (at LookLine x) y c
-      → Agreed exec start (record { m = line_on b (at LookLine x).m; done = done_after (line_told b x.m.error) x.done (line_on b (at LookLine x).m); clears = clears_after (line_told b x.m.error) x.clears }) y c
+      → Agreed exec start (record x { m = line_on b (at LookLine x).m; done = done_after (line_told b x.m.error) x.done (line_on b (at LookLine x).m); clears = clears_after (line_told b x.m.error) x.clears }) y c
   lined true x y c g = let ok = g.ask_ok in let r = g.fits.1 in drains x y c c LookLine x.m.loaded r.error r.output g ok.flies ok.looks ok.posts ok.sized.loaded g.irq g.fits.0 r.is r.loaded r.knows
-  lined false x y c g = let ok = g.ask_ok in let r = g.fits.1 in moves exec start (at LookLine x) y c c LookLineStore x.m.kept x.m.error x.m.loaded x.m.looks x.clears g (steps_on exec start (at LookLine x).m LookLineStore x.m.kept ok ok.kept ok.place ok.flies ok.looks ok.posts) g.irq (g.fits.0, record { error = r.error; output = r.output; is = r.is; loaded = r.loaded; knows = r.knows })
+  lined false x y c g = let ok = g.ask_ok in let r = g.fits.1 in moves exec start (at LookLine x) y c c LookLineStore x.m.kept x.m.error x.m.loaded x.m.looks x.clears refl g (steps_on exec start (at LookLine x).m LookLineStore x.m.kept ok ok.kept ok.place ok.flies ok.looks ok.posts) g.irq (g.fits.0, record { error = r.error; output = r.output; is = r.is; loaded = r.loaded; knows = r.knows })
 
   looks_line : Keeps exec start LookLine
   looks_line x y ws v g f small = (g.0, (g.1.0, g.1.1, lined (eqb v 0) x y g.0 g.1.2))
@@ -139,8 +140,8 @@ module _ (exec : Device) (start : List ℕ) where
   lower x y c e output is = record { row = record { completion = is.row.completion; line = is.row.line; block = is.row.block; done = is.row.done }; long = is.long; bytes = is.bytes; shows = is.shows }
 
   lowered : (b : Bool) (x : Asker) (y : Answerer) (c : Core) → acknowledges x.m.wiring ≡ b → Agreed exec start (at LookLineStore x) y c
-      → Agreed exec start (record { m = lowered_on b (at LookLineStore x).m; done = done_after (end_told b x.m.error) x.done (lowered_on b (at LookLineStore x).m); clears = clears_after (end_told b x.m.error) x.clears }) y (record c { irq = 0 })
-  lowered true x y c is g = let ok = g.ask_ok in let r = g.fits.1 in moves exec start (at LookLineStore x) y c (record c { irq = 0 }) LookAckLoad x.m.kept x.m.error x.m.loaded x.m.looks x.clears g (steps_on exec start (at LookLineStore x).m LookAckLoad x.m.kept ok ok.kept (ok.place, is) ok.flies ok.looks ok.posts) (omega arith)
+      → Agreed exec start (record x { m = lowered_on b (at LookLineStore x).m; done = done_after (end_told b x.m.error) x.done (lowered_on b (at LookLineStore x).m); clears = clears_after (end_told b x.m.error) x.clears }) y (record c { irq = 0 })
+  lowered true x y c is g = let ok = g.ask_ok in let r = g.fits.1 in moves exec start (at LookLineStore x) y c (record c { irq = 0 }) LookAckLoad x.m.kept x.m.error x.m.loaded x.m.looks x.clears refl g (steps_on exec start (at LookLineStore x).m LookAckLoad x.m.kept ok ok.kept (ok.place, is) ok.flies ok.looks ok.posts) (omega arith)
       (g.fits.0, record { error = r.error; output = r.output; is = lower x y c r.error r.output r.is; loaded = r.loaded; knows = r.knows })
   lowered false x y c is g = let ok = g.ask_ok in let r = g.fits.1 in drains x y c (record c { irq = 0 }) LookLineStore x.m.loaded r.error r.output g ok.flies ok.looks ok.posts ok.sized.loaded (omega arith) g.fits.0 (lower x y c r.error r.output r.is) r.loaded r.knows
 
@@ -149,7 +150,7 @@ module _ (exec : Device) (start : List ℕ) where
 
   loads_ack : Keeps exec start LookAckLoad
   loads_ack x y ws v g f small = let c = g.0 in let h = g.1.2 in let ok = h.ask_ok in let r = h.fits.1 in
-      (c, (g.1.0, g.1.1, moves exec start (at LookAckLoad x) y c c LookAckStore v x.m.error x.m.loaded x.m.looks x.clears h (steps_on exec start (at LookAckLoad x).m LookAckStore v ok small ok.place ok.flies ok.looks ok.posts) h.irq (h.fits.0, record { error = r.error; output = r.output; is = r.is; loaded = r.loaded; knows = r.knows })))
+      (c, (g.1.0, g.1.1, moves exec start (at LookAckLoad x) y c c LookAckStore v x.m.error x.m.loaded x.m.looks x.clears refl h (steps_on exec start (at LookAckLoad x).m LookAckStore v ok small ok.place ok.flies ok.looks ok.posts) h.irq (h.fits.0, record { error = r.error; output = r.output; is = r.is; loaded = r.loaded; knows = r.knows })))
 
   stores_ack : Keeps exec start LookAckStore
   stores_ack x y ws v g f small = let c = g.0 in let o = g.1.0 in let h = g.1.2 in let ok = h.ask_ok in let r = h.fits.1 in let z : ℕ = masked_by x.m.wiring.ack x.m.kept in (

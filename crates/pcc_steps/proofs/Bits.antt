@@ -19,7 +19,8 @@ use Rattle.pcc_history.specs.Channel.{both}
 use Rattle.std.specs.Int.Bits.{and_self}
 use Rattle.pcc_steps.specs.declared.answer.AnswerStage.TheVariants.{TakeBlock}
 use Rattle.pcc_steps.specs.Asking.{CodeFits}
-use Rattle.pcc_steps.specs.Agree.{opened, closed, finished, Marked, ShowsBy, HasHeader, Carries}
+use Rattle.pcc_steps.specs.Agree.{opened, closed, finished, Marked, ShowsBy, HasHeader}
+use Rattle.pcc_steps.proofs.Headers.{Carries}
 
 -- ---- the header of types 0 to 2
 

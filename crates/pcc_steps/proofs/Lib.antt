@@ -16,5 +16,7 @@ pub mod AnswerWalks
 pub mod Bounds
 pub mod Lengths
 pub mod Nexts
-pub mod Asks
+pub mod Headers
+pub mod Trails
 pub mod Turns
+pub mod WordSteps

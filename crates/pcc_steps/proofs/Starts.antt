@@ -1,12 +1,11 @@
 -- The relation holds of two new machines, and what it says of the two histories.
-use Rattle.std.proofs.Common.{◌≡◌, ◌⊎◌, ℕ, ◌+◌, ◌/◌, ◌^◌, ◌<◌, Bool, true, false, not, List, [], ◌∷◌, ◌++◌, drop, refl, sym, ap, ◌∙◌, subst, inl, inr, arith, ne_eqb}
+use Rattle.std.proofs.Common.{◌≡◌, ◌⊎◌, ℕ, ◌+◌, ◌^◌, ◌<◌, Bool, true, false, not, List, [], ◌∷◌, ◌++◌, drop, refl, sym, ap, ◌∙◌, subst, inl, inr, arith, ne_eqb}
 use lib.Bits.{bit_and}
 use Rattle.std.specs.Int.Bits.{and_self}
 use Rattle.pcc_bytes.specs.Bytes.{IsBytes}
 use Rattle.pcc_history.specs.Devices.{Device}
 use Rattle.pcc_history.specs.Channel.{Exchange}
-use Rattle.shmem_header.specs.Layout.{signature_of}
-use Rattle.shmem_header.proofs.Commands.{is_set-header_word_complete, signature_of-add}
+use Rattle.shmem_header.proofs.Commands.{is_set-header_word_complete}
 use Rattle.shmem_header.specs.Spelling.{words_of}
 use Rattle.pcc_steps.specs.declared.wiring.Wiring.{Wiring}
 use Rattle.pcc_steps.specs.declared.wiring.Style.{Style}
@@ -18,7 +17,7 @@ use Rattle.pcc_steps.specs.declared.answer.AnswerStage.TheVariants.{AnswerRest}
 use Rattle.pcc_steps.specs.Wires.{style_of, heads_of, IsRight, is_complete, opening_word, opening_header, opening_words}
 use Rattle.pcc_steps.specs.Asking.{Ask, AskOk, IsNewAsk}
 use Rattle.pcc_steps.specs.Answering.{Answer, AnswerOk, IsNewAnswer}
-use Rattle.pcc_steps.specs.Agree.{Core, Asker, Answerer, Pose, free, writing, cleared, waiting, reading, pose, pose_at, Turn, quiet, taken, replying, turn, turn_at, Fits, flight, answered, Carries, flying, IsBetween, Agree}
+use Rattle.pcc_steps.specs.Agree.{Core, Asker, Answerer, Pose, free, writing, cleared, waiting, reading, pose, pose_at, Turn, quiet, taken, replying, turn, turn_at, Fits, flight, answered, new_asker, trail, is_pending_at, HasAskedBy, flying, IsBetween, Agree}
 use Rattle.pcc_steps.proofs.Bits.{set_opened, unheaded}
 
 opened_first : (s : Style) (w : Wiring) → style_of w ≡ s → IsRight w → w.id < 2 ^ 8 → is_complete s w.check_mask (opening_word s w) ≡ true
@@ -33,20 +32,6 @@ behind_opening Joined4 w ws = refl
 behind_opening Separate4 w ws = refl
 behind_opening Reduced5 w ws = refl
 
-low_half : (low : ℕ) → low < 2 ^ 32 → low / 2 ^ 32 ≡ 0
-low_half low h = omega arith
-
-signed : (id : ℕ) → id < 2 ^ 8 → signature_of id < 2 ^ 32
-signed id h = let e = signature_of-add id h in omega arith
-
-carried : (s : Style) (w : Wiring) (ws : List ℕ) → w.id < 2 ^ 8 → Carries s 0 (opening_header s w ++ ws)
-carried Headed w ws id = tt
-carried Joined3 w ws id = low_half 0 (omega arith)
-carried Separate3 w ws id = low_half 0 (omega arith)
-carried Joined4 w ws id = low_half 0 (omega arith)
-carried Separate4 w ws id = low_half 0 (omega arith)
-carried Reduced5 w ws id = low_half (signature_of w.id) (signed w.id id)
-
 posed : (a : Ask) → a.stage ≡ AskRest → a.in_flight ≡ false → pose a ≡ free
 posed a e f = subst (λ (z : AskStage × Bool). pose_at z.0 (record a { in_flight = z.1 }) ≡ free) (λ i. (sym e i, sym f i)) refl
 
@@ -55,9 +40,9 @@ turned b e = ap (λ (s : AnswerStage). turn_at s b) e
 
 module _ (exec : Device) where
   starts_at : (opening : List ℕ) (a : Ask) (b : Answer) (d : List ℕ) → a.stage ≡ AskRest → a.in_flight ≡ false → a.shown ≡ opening_header (style_of a.wiring) a.wiring ++ words_of opening → a.space ≡ opening → a.sent ≡ a.shown → a.input ≡ opening → a.code ≡ 0 → a.posts ≡ 0
-      → b.wiring ≡ a.wiring → b.stage ≡ AnswerRest → AskOk a → AnswerOk b → IsBytes opening → Agree exec d (opening_words a.wiring (words_of opening)) (record { m = a; done = []; clears = 0 }) (record { m = b; device = d; done = [] })
+      → b.wiring ≡ a.wiring → b.stage ≡ AnswerRest → AskOk a → AnswerOk b → IsBytes opening → Agree exec d (opening_words a.wiring (words_of opening)) (new_asker a opening) (record { m = b; device = d; done = [] })
   starts_at opening a b d rest grounded shown space sent input code posts wired quiet_now ok ok' bytes = let w = a.wiring in let s : Style = style_of w in let ws : List ℕ = words_of opening in
-      let x : Asker = record { m = a; done = []; clears = 0 } in let y : Answerer = record { m = b; device = d; done = [] } in
+      let x : Asker = new_asker a opening in let y : Answerer = record { m = b; device = d; done = [] } in
       let c : Core = record { completion = opening_word s w; line = 0; error = 0; irq = 0; block = opening_header s w ++ ws } in
       let spelled : drop (heads_of s) a.shown ≡ ws = ap (λ (l : List ℕ). drop (heads_of s) l) shown ∙ behind_opening s w ws in (
         c,
@@ -74,7 +59,7 @@ module _ (exec : Device) where
             room = tt;
             sent = record { words = ap (λ (l : List ℕ). drop (heads_of s) l) sent ∙ (spelled ∙ ap words_of (sym input)); fits = subst IsBytes (sym input) bytes };
             shown = record { words = spelled ∙ ap words_of (sym space); fits = subst IsBytes (sym space) bytes };
-            carries = subst (λ (z : ℕ × List ℕ). Carries s z.0 z.1) (λ i. (sym code i, sym (sent ∙ shown) i)) (carried s w ws ok.id);
+            asked = subst (λ (z : AskStage × Bool). HasAskedBy (is_pending_at z.0 z.1) (trail x)) (λ i. (sym rest i, sym grounded i)) (record { inputs = tt; output = space; block = shown ∙ ap (λ (o : List ℕ). opening_header s w ++ words_of o) (sym space) });
             posts = posts ∙ ap (λ (b : Bool). 0 + flying b) (sym grounded);
             irq = omega arith;
             fits = subst (λ (q : Pose × Turn). Fits q.0 q.1 x y c) (λ i. (sym (posed a rest grounded) i, sym (turned b quiet_now) i))
@@ -85,8 +70,8 @@ module _ (exec : Device) where
 
   -- two new machines over the opening content
   pub starts : (w : Wiring) (opening : List ℕ) (a : Ask) (b : Answer) (d : List ℕ) → IsNewAsk a w opening → IsNewAnswer b w → AskOk a → AnswerOk b → IsBytes opening
-      → Agree exec d (opening_words w (words_of opening)) (record { m = a; done = []; clears = 0 }) (record { m = b; device = d; done = [] })
-  starts w opening a b d new new' ok ok' bytes = subst (λ (w : Wiring). a.shown ≡ opening_header (style_of w) w ++ words_of opening → b.wiring ≡ w → Agree exec d (opening_words w (words_of opening)) (record { m = a; done = []; clears = 0 }) (record { m = b; device = d; done = [] })) new.0
+      → Agree exec d (opening_words w (words_of opening)) (new_asker a opening) (record { m = b; device = d; done = [] })
+  starts w opening a b d new new' ok ok' bytes = subst (λ (w : Wiring). a.shown ≡ opening_header (style_of w) w ++ words_of opening → b.wiring ≡ w → Agree exec d (opening_words w (words_of opening)) (new_asker a opening) (record { m = b; device = d; done = [] })) new.0
       (λ shown wired. starts_at opening a b d new.1 new.2 shown new.4 new.5 new.6 new.7 new.10 wired new'.1 ok ok' bytes) new.3 new'.0
 
 -- ---- the two histories

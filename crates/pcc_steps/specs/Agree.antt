@@ -3,8 +3,8 @@ use Rattle.std.specs.Prelude.{◌≡◌, ◌⊎◌, ℕ, ◌+◌, ◌<◌, Bool,
 use Rattle.pcc_bytes.specs.Bytes.{IsBytes}
 use Rattle.pcc_exec.specs.Execution.{IsSpace}
 use Rattle.pcc_history.specs.Devices.{Device, Executed}
-use Rattle.pcc_history.specs.Channel.{Exchange, both, exchange_of}
-use Rattle.pcc_history.specs.Histories.{Legal, state_after}
+use Rattle.pcc_history.specs.Channel.{Exchange, both, exchange_of, over}
+use Rattle.pcc_history.specs.Histories.{Legal, WholeHistory, state_after, space_after}
 use Rattle.pcc_steps.specs.declared.wiring.Wiring.{Wiring}
 use Rattle.pcc_steps.specs.declared.wiring.Style.{Style}
 use Rattle.pcc_steps.specs.declared.wiring.Style.TheVariants.{Headed, Reduced5}
@@ -16,10 +16,9 @@ use Rattle.pcc_steps.specs.declared.ask.AskOutcome.{AskOutcome}
 use Rattle.pcc_steps.specs.declared.ask.AskOutcome.TheVariants.{Posted, Clear, Drained}
 use Rattle.pcc_steps.specs.declared.answer.AnswerStage.{AnswerStage}
 use Rattle.pcc_steps.specs.declared.answer.AnswerStage.TheVariants.{AnswerRest, TakeLine, TakeAckLoad, TakeAckStore, TakeHeader, TakeBlock, RunDevice, ReplyBlock, ReplyError, ReplyHeader, ReplyUpdateLoad, ReplyUpdateStore, ReplyMarkLoad, ReplyMarkStore, CloseBellLoad, CloseBellStore, CloseLine}
-use Rattle.shmem_header.specs.HeaderBits.{command_in}
 use Rattle.shmem_header.specs.Spelling.{words_of}
-use Rattle.pcc_steps.specs.Wires.{style_of, heads_of, block_of, sent_header, status_of, meets, is_complete}
-use Rattle.pcc_steps.specs.Asking.{Ask, AskOk, ask_fed_at, ask_told_at, ask_stepped}
+use Rattle.pcc_steps.specs.Wires.{style_of, heads_of, block_of, sent_header, block_header, opening_header, status_of, meets, is_complete}
+use Rattle.pcc_steps.specs.Asking.{Ask, AskOk, ask_fed_at, ask_told_at, ask_stepped, ask_begun}
 use Rattle.pcc_steps.specs.Answering.{Answer, AnswerOk, answer_code, answer_fed_at, answer_stepped, ran_with}
 
 -- ---- the words
@@ -59,6 +58,14 @@ Finds (Swap p x) ws v = v ≡ get_or ws p 0
 Finds (Execute code) ws v = Unit {0}
 Finds Rest ws v = Unit {0}
 
+-- the value that a step loads or finds, 0 where there is none
+abbrev pub found : Action → List ℕ → ℕ
+found (Load p) ws = get_or ws p 0
+found (Swap p v) ws = get_or ws p 0
+found (Store p v) ws = 0
+found (Execute code) ws = 0
+found Rest ws = 0
+
 -- the first j words of the new list, then those of the old one
 abbrev pub mix : ℕ → List ℕ → List ℕ → List ℕ
 mix j new old = take j new ++ drop j old
@@ -67,14 +74,23 @@ mix j new old = take j new ++ drop j old
 
 pub record Asker : Type 0 where
   pub m : Ask
+  -- the commands that were drained
   pub done : List Exchange
   -- the looks that saw completion clear
   pub clears : ℕ
+  -- the space before the first command
+  pub opening : List ℕ
+  -- the bytes of each command that was posted or is being posted
+  pub asked : List (List ℕ)
 
 pub record Answerer : Type 0 where
   pub m : Answer
   pub device : List ℕ
   pub done : List Exchange
+
+-- a new machine has asked nothing
+abbrev pub new_asker : Ask → List ℕ → Asker
+new_asker a opening = record { m = a; done = []; clears = 0; opening = opening; asked = [] }
 
 -- a drained command joins the history
 abbrev pub done_after : Option AskOutcome → List Exchange → Ask → List Exchange
@@ -91,13 +107,17 @@ clears_after None n = n
 
 -- the asking end after a step that found this value
 abbrev pub asker_fed_at : AskStage → Asker → ℕ → Asker
-asker_fed_at st x v = let told = ask_told_at st x.m v in let a : Ask = ask_fed_at st x.m v in record { m = a; done = done_after told x.done a; clears = clears_after told x.clears }
+asker_fed_at st x v = let told = ask_told_at st x.m v in let a : Ask = ask_fed_at st x.m v in record x { m = a; done = done_after told x.done a; clears = clears_after told x.clears }
 
 abbrev pub asker_stepped : Asker → Asker
 asker_stepped x = record x { m = ask_stepped x.m }
 
 abbrev pub asker_fed : Asker → ℕ → Asker
 asker_fed x v = asker_stepped (asker_fed_at x.m.stage x v)
+
+-- the asking end after a post that is begun
+abbrev pub asker_begun : Asker → ℕ → List ℕ → Asker
+asker_begun x code bytes = record x { m = ask_begun x.m code bytes; asked = x.asked ++ bytes ∷ [] }
 
 abbrev pub answerer_stepped : Answerer → Answerer
 answerer_stepped y = record y { m = answer_stepped y.m }
@@ -314,18 +334,67 @@ Fits cleared t x y c = (t ≡ quiet) × Row x.m.wiring x.m.code y.done c closed 
 Fits waiting t x y c = Waits t (flight x) y c
 Fits (reading j) t x y c = (t ≡ quiet) × IsReading x y.done c j
 
+-- ---- what was asked
+
+-- a command is being posted, or is in flight
+abbrev pub is_pending_at : AskStage → Bool → Bool
+is_pending_at AskRest flies = flies
+is_pending_at _ flies = true
+
+abbrev pub is_pending : Ask → Bool
+is_pending a = is_pending_at a.stage a.in_flight
+
+-- the header words of the block after these commands: those that were sent last, at first those that stood there
+abbrev pub header_after : Wiring → List ℕ → List Exchange → List (List ℕ) → List ℕ
+header_after w header [] asked = header
+header_after w header (e ∷ es) [] = header
+header_after w header (e ∷ es) (bytes ∷ asked) = header_after w (block_header (style_of w) w e.code (length bytes)) es asked
+
+-- what the asking end has sent, and what came back
+pub record Trail : Type 0 where
+  pub wiring : Wiring
+  pub opening : List ℕ
+  pub done : List Exchange
+  pub asked : List (List ℕ)
+  pub space : List ℕ
+  pub shown : List ℕ
+  pub code : ℕ
+  pub input : List ℕ
+  pub sent : List ℕ
+
+abbrev pub trail : Asker → Trail
+trail x = record { wiring = x.m.wiring; opening = x.opening; done = x.done; asked = x.asked; space = x.m.space; shown = x.m.shown; code = x.m.code; input = x.m.input; sent = x.m.sent }
+
+-- what was drained, with the bytes that each command asked
+pub record IsDrained (t : Trail) (asked : List (List ℕ)) : Type 0 where
+  -- each input is the output before it with the asked bytes over its front
+  pub inputs : WholeHistory t.opening t.done asked
+  -- the space that came back last is the last output, at first the opening space
+  pub output : t.space ≡ space_after t.opening t.done
+  -- its block has the header words that were sent last, at first those of the opening
+  pub block : t.shown ≡ header_after t.wiring (opening_header (style_of t.wiring) t.wiring) t.done asked ++ words_of t.space
+
+-- the command that is pending, with the bytes that it asks
+pub record IsAsking (t : Trail) (bytes : List ℕ) : Type 0 where
+  -- its input is the space that came back last with the asked bytes over its front
+  pub input : t.input ≡ over t.space bytes
+  -- its block has the header words of its code, the identity, the notify flag and the length (types 3 to 5), then the words of the input
+  pub block : t.sent ≡ block_header (style_of t.wiring) t.wiring t.code (length bytes) ++ words_of t.input
+
+-- the asked bytes are those of the drained commands, and last those of the command that is pending
+abbrev pub HasAskedBy : Bool → Trail → Type 0
+HasAskedBy false t = IsDrained t t.asked
+HasAskedBy true t = (before : List (List ℕ)) × ((bytes : List ℕ) × (t.asked ≡ before ++ bytes ∷ []) × IsDrained t before × IsAsking t bytes)
+
+abbrev pub HasAsked : Asker → Type 0
+HasAsked x = HasAskedBy (is_pending x.m) (trail x)
+
 -- ---- what holds in every phase
 
 -- the words of a block behind its header words spell the bytes of a space
 pub record Spells (w : Wiring) (block bytes : List ℕ) : Type 0 where
   pub words : drop (heads_of (style_of w)) block ≡ words_of bytes
   pub fits : IsBytes bytes
-
--- the header words of the block carry the code (types 3 to 5)
-abbrev pub Carries : Style → ℕ → List ℕ → Type 0
-Carries Headed code block = Unit {0}
-Carries Reduced5 code block = command_in (get_or block 0 0) ≡ code
-Carries _ code block = command_in (get_or block 1 0) ≡ code
 
 -- every space of the history has the room
 abbrev pub HasRoom : ℕ → List Exchange → Type 0
@@ -353,7 +422,7 @@ module _ (exec : Device) where
     pub room : HasRoom x.m.wiring.room y.done
     pub sent : Spells x.m.wiring x.m.sent x.m.input
     pub shown : Spells x.m.wiring x.m.shown x.m.space
-    pub carries : Carries (style_of x.m.wiring) x.m.code x.m.sent
+    pub asked : HasAsked x
     pub posts : x.m.posts ≡ length x.done + flying x.m.in_flight
     pub irq : c.irq < 2
     pub fits : Fits (pose x.m) (turn y.m) x y c

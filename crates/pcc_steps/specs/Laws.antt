@@ -13,12 +13,12 @@ use Rattle.pcc_steps.specs.Asking.{Ask, AskOk, IsNewAsk, IsAskRunning, ask_next,
 use Rattle.pcc_steps.specs.Answering.{Answer, AnswerOk, IsNewAnswer, IsAnswerStepping, answer_next, answer_fed, answer_told, answer_begun, answer_code, ran_with}
 use Rattle.pcc_steps.specs.Runs.{Within, post_run, look_run, answer_run}
 use Rattle.pcc_steps.specs.Walk.{ask_left, ask_after, answer_left, answer_after, Takes, Gives}
-use Rattle.pcc_steps.specs.Agree.{act, Finds, Asker, Answerer, asker_fed, answerer_fed, Agree}
+use Rattle.pcc_steps.specs.Agree.{act, Finds, Asker, Answerer, new_asker, asker_fed, asker_begun, answerer_fed, Agree}
 
 -- two new machines, over the opening content
 abbrev pub StartsAgreed : Type 0
 StartsAgreed = (exec : Device) (start : List ℕ) (w : Wiring) (opening : List ℕ) (a : Ask) (b : Answer) → IsNewAsk a w opening → IsNewAnswer b w → AskOk a → AnswerOk b → IsBytes opening
-    → Agree exec start (opening_words w (words_of opening)) (record { m = a; done = []; clears = 0 }) (record { m = b; device = start; done = [] })
+    → Agree exec start (opening_words w (words_of opening)) (new_asker a opening) (record { m = b; device = start; done = [] })
 
 -- a word step of the asking end, whatever it finds in its word
 abbrev pub AskStepAgrees : Type 0
@@ -27,7 +27,7 @@ AskStepAgrees = (exec : Device) (start ws : List ℕ) (x : Asker) (y : Answerer)
 -- a post is begun
 abbrev pub PostBeginAgrees : Type 0
 PostBeginAgrees = (exec : Device) (start ws : List ℕ) (x : Asker) (y : Answerer) (code : ℕ) (bytes : List ℕ) → x.m.stage ≡ AskRest → x.m.in_flight ≡ false → length bytes ≤ x.m.wiring.room → x.m.posts < 4096 → (x.m.wiring.kind ≤ 2 → code < 256) → code < 2 ^ 32 → IsBytes bytes
-    → Agree exec start ws x y → Agree exec start ws (record x { m = ask_begun x.m code bytes }) y
+    → Agree exec start ws x y → Agree exec start ws (asker_begun x code bytes) y
 
 -- a look is begun
 abbrev pub LookBeginAgrees : Type 0

@@ -6,4 +6,3 @@ pub mod Agree
 pub mod Lending
 pub mod Laws
 pub mod Walk
-pub mod Asked

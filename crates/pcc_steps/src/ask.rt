@@ -235,7 +235,7 @@ pub fn ask_budget(ask: &mut AskState, polls: u32)
 
 /// Begins a run that posts a command: its code, and the bytes that are laid over the front of the space. The code is
 /// at most 255 for types 0 to 2.
-#[tactic(auto, using(crate::proofs::AskBegins::begun_ok, crate::proofs::Bits::code_fits, crate::proofs::AskBegins::over_long, crate::proofs::AskBegins::looks_rest))]
+#[tactic(auto, using(crate::proofs::AskBegins::begun_ok, crate::proofs::Bits::code_fits, crate::proofs::Headers::over_long, crate::proofs::AskBegins::looks_rest))]
 pub fn ask_begin(ask: &mut AskState, code: u32, bytes: &[u8])
     requires rests { ask.old.stage ≡ AskRest }
     requires free { ask.old.in_flight ≡ false }

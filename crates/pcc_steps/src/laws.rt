@@ -2,7 +2,6 @@
 //! relation, from the stepping end's own state and its one word, so the laws serve one owner of the words, and two
 //! threads that share them.
 ghost use Rattle.pcc_steps.specs.Laws.{StartsAgreed, AskStepAgrees, PostBeginAgrees, LookBeginAgrees, BudgetAgrees, AnswerBeginAgrees, AnswerStepAgrees, DeviceStays, DeviceTurns, DeviceRests, HistoriesAgree, PostsByTable, LooksByTable, AsksByTable, PostsWithin, LooksWithin, AskRunsWithin, AnswersByTable, AnswerStepsByTable, ExecutesByTable, AnswersWithin, AnswerRunsWithin};
-ghost use Rattle.pcc_steps.specs.Asked.{AskedNothing, AsksMore, LookAsksNothing, BudgetAsksNothing, StepAsksNothing};
 
 use pcc_exec::Executor;
 
@@ -22,16 +21,6 @@ pub fn answering_laws<E: Executor>()
     ensures begin { AnswerBeginAgrees }
     ensures step { AnswerStepAgrees E.exec_of E.is_state E.room_of }
     ensures device { DeviceStays E.exec_of E.is_state E.room_of }
-{}
-
-/// The asking end's history is whole: each input is the space before it with the bytes that were asked over its front,
-/// in the order in which they were asked. It does nothing.
-pub fn asked_laws()
-    ensures starts { AskedNothing }
-    ensures post { AsksMore }
-    ensures look { LookAsksNothing }
-    ensures budget { BudgetAsksNothing }
-    ensures step { StepAsksNothing }
 {}
 
 /// The asking machine walks the tables of its runs, and how long they are. It does nothing.

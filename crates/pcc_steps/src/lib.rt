@@ -6,6 +6,7 @@ mod ask;
 mod block;
 mod laws;
 mod wiring;
+mod words;
 
 pub use answer::{
     AnswerOutcome, AnswerStage, AnswerState, answer_execute, answer_feed, answer_next, answer_ran,
@@ -15,10 +16,11 @@ pub use ask::{
     AskOutcome, AskStage, AskState, ask_begin, ask_budget, ask_feed, ask_look, ask_next,
 };
 pub use laws::{
-    answering_laws, answering_tables, asked_laws, asking_laws, asking_tables, device_laws,
+    answering_laws, answering_tables, asking_laws, asking_tables, device_laws,
     history_laws,
 };
 pub use wiring::{Action, Style, Wiring};
+pub use words::{opening_words, perform};
 
 #[cfg(test)]
 mod tests;
