@@ -18,7 +18,7 @@ use Rattle.pcc_setup.specs.declared.refusal.Refusal.{Refusal}
 use Rattle.pcc_setup.specs.declared.refusal.Refusal.TheVariants as refusal
 use Rattle.pcc_setup.specs.Openings.{AllOpen, line_fault, memories_by, opened_by}
 use Rattle.pcc_setup.specs.RefusalText.{IsRefusedFor}
-use Rattle.pcc_setup.specs.SetUps.{AllNamed, FirstWrong, IsSetUp, Meeting, OpenRefused, SetUpRefused, TableRefused, WrongAction, WrongOpen, WrongTable, action_fault, first_action}
+use Rattle.pcc_setup.specs.SetUps.{AllNamed, FirstWrong, IsSetUp, Meeting, OpenRefused, Opens, SetUpRefused, TableRefused, WrongAction, WrongOpen, WrongTable, action_fault, first_action}
 
 pub wrong_table : (s : Scenario) (bytes : List ℕ) (e : InputError) → bytes ≡ s.table → IsRefusedFor (TableRefused bytes) e → IsRefusedFor (SetUpRefused s) e
 wrong_table s bytes (error.Refused r) same h = let P : List ℕ → Type 0 = λ b. TableRefused b r in (WrongTable r (subst P same h.0), h.1)
@@ -39,8 +39,8 @@ wrong_action s t ms place line l fault bytes all_open is apart at named wrong nu
     (subst P (sym number) (WrongAction t bytes all_open (subst AreApart is apart) place l fault at named wrong), tt)
 
 pub is_set_up : (s : Scenario) (t : Table) (ms : List (ℕ × ℕ × ℕ)) (os : List Opened) → TableBytes s.table t → AllOpen t s.opens (length s.opens) → ms ≡ memories_by t s.opens → AreApart ms → AllNamed s (length s.actions)
-    → os ≡ opened_by t s.opens → (u : Table) × IsSetUp s u × (os ≡ opened_by u s.opens)
-is_set_up s t ms os bytes all_open is apart named opened = (t, record { table = bytes; all_open = all_open; apart = subst AreApart is apart; named = named }, opened)
+    → os ≡ opened_by t s.opens → Opens s os
+is_set_up s t ms os bytes all_open is apart named opened = record { table = t; checked = record { table = bytes; all_open = all_open; apart = subst AreApart is apart; named = named }; list_is = opened }
 
 -- ---- a script that passes all checks is not refused
 

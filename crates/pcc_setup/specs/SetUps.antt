@@ -16,12 +16,13 @@ use Rattle.pcc_wiring.specs.Overlaps.{AreApart, IsFirstOverlap}
 use Rattle.pcc_setup.specs.declared.action.ActionFault.{ActionFault}
 use Rattle.pcc_setup.specs.declared.action.ActionFault.TheVariants.{NoCpu, NotBank}
 use Rattle.pcc_setup.specs.declared.opening.OpenFault.{OpenFault}
+use Rattle.pcc_setup.specs.declared.opening.Opened.{Opened}
 use Rattle.pcc_setup.specs.declared.refusal.Refusal.{Refusal}
 use Rattle.pcc_setup.specs.declared.refusal.Refusal.TheVariants as refusal
 use Rattle.pcc_setup.specs.declared.setup.SetUpError.{SetUpError}
 use Rattle.pcc_setup.specs.declared.setup.SetUpError.TheVariants as error
 use Rattle.pcc_setup.specs.RefusalText.{HasLine, refused_line}
-use Rattle.pcc_setup.specs.Openings.{AllOpen, line_fault, memories_by}
+use Rattle.pcc_setup.specs.Openings.{AllOpen, line_fault, memories_by, opened_by}
 
 -- ---- the table
 
@@ -70,6 +71,12 @@ pub record IsSetUp (s : Scenario) (t : Table) : Type 0 where
   pub apart : AreApart (memories_by t s.opens)
   pub named : AllNamed s (length s.actions)
 
+-- these subspaces are what a script opens, which passes each check
+pub record Opens (s : Scenario) (opened : List Opened) : Type 0 where
+  pub table : Table
+  pub checked : IsSetUp s table
+  pub list_is : opened ≡ opened_by table s.opens
+
 -- The first check that a script fails. Where an `open` line or an action is wrong, those before it are right.
 pub data SetUpRefused (s : Scenario) : Refusal → Type 0 where
   WrongTable : (r : Refusal) → TableRefused s.table r → SetUpRefused s r
@@ -78,7 +85,7 @@ pub data SetUpRefused (s : Scenario) : Refusal → Type 0 where
   WrongAction : (t : Table) → TableBytes s.table t → AllOpen t s.opens (length s.opens) → AreApart (memories_by t s.opens) → (i : ℕ) → (l : Line) → (fault : ActionFault)
       → slice_get s.actions i ≡ Some l → AllNamed s i → action_fault s l ≡ Some fault → SetUpRefused s (refusal.Action (first_action s + i) fault)
 
--- ---- what a caller is told
+-- ---- what a caller gets
 
 -- a script opens Banks alone, and has no processors and no caps
 abbrev pub opens_banks : Scenario → Bool

@@ -1,5 +1,5 @@
 //! Whether the actions of a script name what it opens.
-ghost use Rattle.std.specs.Prelude.{◌≡◌, None, Some, MatchOption, if◌then◌else◌, length, slice_get};
+ghost use Rattle.std.specs.Prelude.{◌≡◌, ◌<◌, ◌^◌, None, Some, IfSome, MatchOption, if◌then◌else◌, length, slice_get};
 ghost use Rattle.pcc_script.specs.declared.scenario.Line.{Line};
 ghost use Rattle.pcc_setup.specs.SetUps.{AllNamed, action_fault, is_bank, opens_bank, opens_banks};
 ghost use Rattle.std.specs.List.{list_all};
@@ -80,11 +80,13 @@ pub struct WrongAction {
 /// The first action that can't be run.
 #[tactic(auto, using(crate::proofs::Opens::none_named, crate::proofs::Opens::one_more_named, crate::proofs::Opens::found))]
 pub fn first_wrong(scenario: &Scenario) -> Option<WrongAction>
-    ensures { MatchOption result (AllNamed scenario.now (length scenario.now.actions)) (λ wrong. (l : Line)
+    ensures low { IfSome result (λ wrong. wrong.place < 2 ^ 63) }
+    ensures first { MatchOption result (AllNamed scenario.now (length scenario.now.actions)) (λ wrong. (l : Line)
         × (slice_get scenario.now.actions wrong.place ≡ Some l) × AllNamed scenario.now wrong.place × (action_fault scenario.now l ≡ Some wrong.fault)) }
 {
-    for place in 0..scenario.actions.len() {
-        if let Some(fault) = action_fault(scenario, scenario.actions.at(place)) {
+    let actions = scenario.actions.as_slice();
+    for place in 0..actions.len() {
+        if let Some(fault) = action_fault(scenario, &actions[place]) {
             return Some(WrongAction { place, fault });
         }
     }

@@ -1,4 +1,4 @@
-//! What a script opens: its table, its subspaces and its actions are checked in their order, and the first check that fails is told in one line.
+//! What a script opens: its table, its subspaces and its actions are checked in their order, and one line reports the first check that fails.
 #![tactic(auto)]
 
 mod action;
@@ -11,7 +11,7 @@ mod text;
 pub use action::{ActionFault, are_banks, opens_banks};
 pub use opening::{OpenFault, Opened, OpenedList};
 pub use refusal::{InputError, Refusal, UseFault};
-pub use setup::{SetUp, SetUpError, checked_set_up, first_action, set_up, set_up_laws};
+pub use setup::{SetUp, SetUpError, first_action, set_up, set_up_laws};
 pub use table::whole_table;
 pub use text::refused_line;
 

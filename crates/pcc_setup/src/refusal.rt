@@ -30,18 +30,18 @@ pub enum Refusal {
     /// More bytes than the program reads.
     Long,
     /// The text is no script: its first line that is wrong.
-    Script { line: u32, kind: ScriptKind },
+    Script { line: u64, kind: ScriptKind },
     /// The text is no table's: its first line that is wrong.
-    TableText { line: u32, kind: BuildKind },
+    TableText { line: u64, kind: BuildKind },
     /// The action of this line names nothing that the script opens.
-    Action { line: u32, fault: ActionFault },
+    Action { line: u64, fault: ActionFault },
     /// The bytes are no table: the first check that fails.
     Table(TableFault),
-    /// Bytes stand behind a table, from this place on.
+    /// Bytes follow a table, from this place on.
     Trailing { at: usize },
     /// The bytes begin with no package: the first thing that is wrong.
     Package(CpcFault),
-    /// Bytes stand behind a package, from this place on.
+    /// Bytes follow a package, from this place on.
     PackageTrailing { at: usize },
     /// The subspace with this ID can't be opened.
     Open { id: u8, fault: OpenFault },

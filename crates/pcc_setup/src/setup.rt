@@ -1,13 +1,12 @@
 //! The checks of a script's set-up, one after the other.
-ghost use Rattle.std.specs.Prelude.{◌≡◌, true, MatchResult, length};
-ghost use Rattle.pcc_script.specs.Limits.{IsWithin};
+ghost use Rattle.std.specs.Prelude.{◌≡◌, ◌<◌, ◌^◌, true, MatchResult, length};
 ghost use Rattle.pcc_script.specs.declared.scenario.Scenario.{Scenario};
 ghost use Rattle.pcct_table.specs.declared.table.Table.{Table};
 ghost use Rattle.pcc_setup.specs.declared.refusal.Refusal.{Refusal};
 ghost use Rattle.pcct_codec.specs.Tables.{TableBytes};
 ghost use Rattle.pcc_setup.specs.Openings.{AllOpen, opened_by};
 ghost use Rattle.pcc_setup.specs.RefusalText.{IsRefusedFor};
-ghost use Rattle.pcc_setup.specs.SetUps.{IfLine, IsSetUp, SetUpRefused, first_action, opens_banks};
+ghost use Rattle.pcc_setup.specs.SetUps.{IfLine, IsSetUp, Opens, SetUpRefused, first_action, opens_banks};
 ghost use Rattle.pcc_setup.specs.declared.setup.SetUpError.TheVariants.{NoMemory as Exhausted};
 
 use crate::action::{WrongAction, first_wrong};
@@ -48,14 +47,17 @@ impl From<NoMemory> for SetUpError {
 }
 
 /// The number of the first action's line, from 1.
-pub fn first_action(scenario: &Scenario) -> u32
-    requires { IsWithin scenario.now }
-    ensures { result ≡ first_action scenario.now }
+pub fn first_action(scenario: &Scenario) -> u64
+    ensures number { result ≡ first_action scenario.now }
+    ensures low { result < 2 ^ 63 }
 {
-    3 + scenario.opens.len() as u32 + scenario.cpus.len() as u32 + scenario.caps.len() as u32
+    let opens = scenario.opens.as_slice();
+    let cpus = scenario.cpus.as_slice();
+    let caps = scenario.caps.as_slice();
+    3 + opens.len() as u64 + cpus.len() as u64 + caps.len() as u64
 }
 
-// The checks behind the `open` lines.
+// The checks after the `open` lines.
 #[tactic(auto, using(crate::proofs::Checks::meeting, crate::proofs::Checks::wrong_action, crate::proofs::Checks::is_set_up))]
 fn finish(
     alloc: Global,
@@ -63,11 +65,10 @@ fn finish(
     table: &Table,
     opened: OpenedList,
 ) -> Result<SetUp, InputError>
-    requires within { IsWithin scenario.now }
     requires bytes { TableBytes scenario.now.table table.now }
     requires all_open { AllOpen table.now scenario.now.opens (length scenario.now.opens) }
     requires opened { opened ≡ opened_by table.now scenario.now.opens }
-    ensures { MatchResult result (λ u. (t : Table) × IsSetUp scenario.now t × (u.opened ≡ opened_by t scenario.now.opens)) (IsRefusedFor (SetUpRefused scenario.now)) }
+    ensures { MatchResult result (λ u. Opens scenario.now u.opened) (IsRefusedFor (SetUpRefused scenario.now)) }
 {
     let memories = memories(alloc, table, &scenario.opens)?;
     if let Err(found) = opened_apart(&memories) {
@@ -75,19 +76,18 @@ fn finish(
     }
     match first_wrong(scenario) {
         Some(WrongAction { place, fault }) => {
-            let line = first_action(scenario) + place as u32;
+            let line = first_action(scenario) + place as u64;
             Err(InputError::Refused(Refusal::Action { line, fault }))
         }
         None => Ok(SetUp { opened }),
     }
 }
 
-// The checks behind the table.
+// The checks after the table.
 #[tactic(auto, using(crate::proofs::Checks::wrong_open))]
 fn with_table(alloc: Global, scenario: &Scenario, table: &Table) -> Result<SetUp, InputError>
-    requires within { IsWithin scenario.now }
-    requires bytes { TableBytes scenario.now.table table.now }
-    ensures { MatchResult result (λ u. (t : Table) × IsSetUp scenario.now t × (u.opened ≡ opened_by t scenario.now.opens)) (IsRefusedFor (SetUpRefused scenario.now)) }
+    requires { TableBytes scenario.now.table table.now }
+    ensures { MatchResult result (λ u. Opens scenario.now u.opened) (IsRefusedFor (SetUpRefused scenario.now)) }
 {
     match open_all(alloc, table, &scenario.opens) {
         Ok(opened) => finish(alloc, scenario, table, opened),
@@ -95,11 +95,10 @@ fn with_table(alloc: Global, scenario: &Scenario, table: &Table) -> Result<SetUp
     }
 }
 
-/// The checks of `set_up`, with the refusal as a value.
+// All checks, with the refusal as a value.
 #[tactic(auto, using(crate::proofs::Checks::wrong_table))]
-pub fn checked_set_up(alloc: Global, scenario: &Scenario) -> Result<SetUp, InputError>
-    requires { IsWithin scenario.now }
-    ensures { MatchResult result (λ u. (t : Table) × IsSetUp scenario.now t × (u.opened ≡ opened_by t scenario.now.opens)) (IsRefusedFor (SetUpRefused scenario.now)) }
+fn checked(alloc: Global, scenario: &Scenario) -> Result<SetUp, InputError>
+    ensures { MatchResult result (λ u. Opens scenario.now u.opened) (IsRefusedFor (SetUpRefused scenario.now)) }
 {
     match whole_table(alloc, scenario.table.as_slice()) {
         Ok(table) => with_table(alloc, scenario, &table),
@@ -108,13 +107,13 @@ pub fn checked_set_up(alloc: Global, scenario: &Scenario) -> Result<SetUp, Input
 }
 
 /// Sets up what a script opens: its table is read, each `open` line opens its structure for the operating system to ask, the memories of the opened
-/// subspaces lie apart, and each action names what is opened. The script opens Banks alone.
+/// subspaces lie apart, and each action names what is opened. A script that fails a check is refused by the line of the first check that fails.
+/// Banks alone are built so far: the script has no other device, no processor and no cap.
 pub fn set_up(alloc: Global, scenario: &Scenario) -> Result<SetUp, SetUpError>
-    requires within { IsWithin scenario.now }
-    requires banks { opens_banks scenario.now ≡ true }
-    ensures { MatchResult result (λ u. (t : Table) × IsSetUp scenario.now t × (u.opened ≡ opened_by t scenario.now.opens)) (IfLine (SetUpRefused scenario.now)) }
+    requires { opens_banks scenario.now ≡ true }
+    ensures { MatchResult result (λ u. Opens scenario.now u.opened) (IfLine (SetUpRefused scenario.now)) }
 {
-    match checked_set_up(alloc, scenario) {
+    match checked(alloc, scenario) {
         Ok(set_up) => Ok(set_up),
         Err(InputError::Refused(refusal)) => Err(SetUpError::Refused {
             text: Bytes::from_vec(refused_line(alloc, refusal)?),

@@ -1,10 +1,10 @@
 use crate::{
-    ActionFault, InputError, OpenFault, Refusal, SetUpError, UseFault, checked_set_up,
-    first_action, opens_banks, refused_line, set_up, whole_table,
+    ActionFault, InputError, OpenFault, Refusal, SetUpError, UseFault, first_action, opens_banks,
+    refused_line, set_up, whole_table,
 };
 use cpc_package::{CpcFault, CpcKind};
 use pcc_io::Bytes;
-use pcc_script::{ScriptKind, scenario_from, within_limits};
+use pcc_script::{ScriptKind, scenario_from};
 use pcc_text::put_hex;
 use pcc_wiring::{Overlap, Role, WiringFault};
 use pcct_codec::{ONE_GENERIC_SUBSPACE, TableFault};
@@ -12,7 +12,7 @@ use pcct_table::BuildKind;
 use std::alloc::Global;
 use std::test::Fail;
 
-// The text of a script with this table and these lines behind the clock's.
+// The text of a script with this table and these lines after the clock's.
 fn script(alloc: Global, table: &[u8], lines: &[u8]) -> Result<Vec<u8>, Fail> {
     let mut text = Vec::from_slice(alloc, b"table ")?;
     put_hex(&mut text, table)?;
@@ -21,46 +21,31 @@ fn script(alloc: Global, table: &[u8], lines: &[u8]) -> Result<Vec<u8>, Fail> {
     Ok(text)
 }
 
-fn error_of(alloc: Global, text: &[u8]) -> Option<InputError> {
-    within_limits();
-    match scenario_from(alloc, text) {
-        Ok(scenario) => checked_set_up(alloc, &scenario).err(),
-        Err(_) => None,
+// What becomes of the set-up of a script that opens Banks alone.
+#[derive(Debug, Drop)]
+enum Ending {
+    Opened(usize),
+    Refused(Bytes),
+    Other,
+}
+
+fn ending_of(alloc: Global, text: &[u8]) -> Ending {
+    let Ok(scenario) = scenario_from(alloc, text) else {
+        return Ending::Other;
+    };
+    if !opens_banks(&scenario) {
+        return Ending::Other;
+    }
+    match set_up(alloc, &scenario) {
+        Ok(set_up) => Ending::Opened(set_up.opened.len()),
+        Err(SetUpError::Refused { text }) => Ending::Refused(text),
+        Err(SetUpError::NoMemory) => Ending::Other,
     }
 }
 
-fn opened_count(alloc: Global, text: &[u8]) -> Option<usize> {
-    within_limits();
-    match scenario_from(alloc, text) {
-        Ok(scenario) => match checked_set_up(alloc, &scenario) {
-            Ok(set_up) => Some(set_up.opened.len()),
-            Err(_) => None,
-        },
-        Err(_) => None,
-    }
-}
-
-fn first_action_of(alloc: Global, text: &[u8]) -> Option<u32> {
-    within_limits();
+fn first_action_of(alloc: Global, text: &[u8]) -> Option<u64> {
     match scenario_from(alloc, text) {
         Ok(scenario) => Some(first_action(&scenario)),
-        Err(_) => None,
-    }
-}
-
-fn line_told(alloc: Global, text: &[u8]) -> Option<Bytes> {
-    within_limits();
-    match scenario_from(alloc, text) {
-        Ok(scenario) => {
-            if opens_banks(&scenario) {
-                match set_up(alloc, &scenario) {
-                    Err(SetUpError::Refused { text }) => Some(text),
-                    _ => None,
-                }
-            } else {
-                None
-            }
-        }
         Err(_) => None,
     }
 }
@@ -74,70 +59,50 @@ fn one_subspace_is_opened(rt: HostRuntime) -> Result<(), Fail> {
         b"open 0 bank\ncall 0 0 17 - 1 0\n",
     )?;
     assert_eq!(rt; first_action_of(alloc, &text), Some(4));
-    assert_eq!(rt; opened_count(alloc, &text), Some(1));
+    match ending_of(alloc, &text) {
+        Ending::Opened(count) => assert_eq!(rt; count, 1),
+        _ => assert!(rt; false),
+    }
     Ok(())
 }
 
 #[test]
 fn the_first_check_that_fails(rt: HostRuntime) -> Result<(), Fail> {
     let alloc = rt.alloc();
-    let rows: [(&[u8], &[u8], Refusal); 4] = [
+    let rows: [(&[u8], &[u8], &[u8]); 4] = [
         (
             &ONE_GENERIC_SUBSPACE,
             b"open 0 bank\nopen 0 bank\ncall 0 3 17 - 1 0\n",
-            Refusal::Open {
-                id: 0,
-                fault: OpenFault::OpenedTwice,
-            },
+            b"refused open 0 opened twice\n",
         ),
         (
             &ONE_GENERIC_SUBSPACE,
             b"open 1 bank\nopen 0 bank\n",
-            Refusal::Open {
-                id: 1,
-                fault: OpenFault::NoSubspace,
-            },
+            b"refused open 1 no subspace\n",
         ),
         (
             &ONE_GENERIC_SUBSPACE,
             b"open 0 bank\ncall 0 3 17 - 1 0\n",
-            Refusal::Action {
-                line: 4,
-                fault: ActionFault::NotBank,
-            },
+            b"refused line 4 not bank\n",
         ),
         (
             &ONE_GENERIC_SUBSPACE[..100],
             b"open 1 bank\n",
-            Refusal::Table(TableFault::Short { at: 100 }),
+            b"refused table short 100\n",
         ),
     ];
-    for (table, lines, expected) in rows {
+    for (table, lines, line) in rows {
         let text = script(alloc, table, lines)?;
-        assert_eq!(rt; error_of(alloc, &text), Some(InputError::Refused(expected)));
-    }
-    Ok(())
-}
-
-#[test]
-fn a_set_up_tells_its_line(rt: HostRuntime) -> Result<(), Fail> {
-    let alloc = rt.alloc();
-    let text = script(
-        alloc,
-        &ONE_GENERIC_SUBSPACE,
-        b"open 0 bank\ncall 0 3 17 - 1 0\n",
-    )?;
-    match line_told(alloc, &text) {
-        Some(line) => {
-            assert_eq!(rt; line.as_slice(), b"refused line 4 not bank\n".as_slice());
+        match ending_of(alloc, &text) {
+            Ending::Refused(found) => assert_eq!(rt; found.as_slice(), line),
+            _ => assert!(rt; false),
         }
-        None => assert!(rt; false),
     }
     Ok(())
 }
 
 #[test]
-fn bytes_behind_a_table(rt: HostRuntime) -> Result<(), Fail> {
+fn bytes_after_a_table(rt: HostRuntime) -> Result<(), Fail> {
     let alloc = rt.alloc();
     let mut bytes = Vec::from_slice(alloc, &ONE_GENERIC_SUBSPACE)?;
     bytes.push(0)?;

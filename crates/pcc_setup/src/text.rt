@@ -180,14 +180,14 @@ fn use_word(fault: UseFault) -> &'static [u8]
     }
 }
 
-fn put_line(out: &mut Vec<u8>, line: u32, word: &[u8]) -> Result<(), NoMemory>
+fn put_line(out: &mut Vec<u8>, line: u64, word: &[u8]) -> Result<(), NoMemory>
     ensures { OnOk result (out.new.items ≡ out.old.items ++ spelled (line_pieces line word.now)) }
 {
     put_pieces(
         out,
         &[
             Piece::Text(b"line "),
-            Piece::Number(line as u64),
+            Piece::Number(line),
             Piece::Text(word),
         ],
     )

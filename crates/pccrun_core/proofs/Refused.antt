@@ -1,6 +1,6 @@
 -- Why inputs are refused, and that no served input is.
 use Rattle.std.proofs.Common.{◌≡◌, ℕ, true, false, List, sym, subst, Result, Ok, Err}
-use Rattle.std.specs.Prelude.{IsErrAnd, MatchResult, Some, None}
+use Rattle.std.specs.Prelude.{Some, None}
 use Rattle.pcc_script.specs.Faults.{IsReadAs}
 use Rattle.pcc_script.specs.Text.{IsScenario, script_text, statements_of}
 use Rattle.pcc_script.specs.declared.scenario.Scenario.{Scenario}
@@ -14,25 +14,25 @@ use Rattle.pcct_table.specs.declared.table.Table.{Table}
 use Rattle.pcct_table.specs.ShowFaults.{IsReadAs as TableReadAs, TextWrong}
 use Rattle.pcct_table.specs.ShowText.{HasText, show_text}
 use Rattle.pccrun_core.specs.declared.command.Command.{Command}
-use Rattle.pcc_setup.specs.declared.refusal.InputError.{InputError}
-use Rattle.pcc_setup.specs.declared.refusal.InputError.TheVariants as error
+use Rattle.pcc_setup.specs.declared.refusal.InputError.TheVariants as input
+use Rattle.pcc_setup.specs.declared.setup.SetUpError.{SetUpError}
+use Rattle.pcc_setup.specs.declared.setup.SetUpError.TheVariants as setup
+use Rattle.pccrun_core.specs.declared.error.CommandError.{CommandError}
+use Rattle.pccrun_core.specs.declared.error.CommandError.TheVariants as error
 use Rattle.pcc_setup.specs.declared.refusal.Refusal.{Refusal}
 use Rattle.pcc_setup.specs.declared.refusal.Refusal.TheVariants as refusal
 use Rattle.pcc_script.specs.Faults.{TextWrong as ScriptWrong}
-use Rattle.pcc_setup.specs.RefusalText.{IsRefusedFor}
-use Rattle.pcc_setup.specs.SetUps.{IsSetUp, SetUpRefused}
+use Rattle.std.specs.List.{list_all}
+use Rattle.pcc_setup.specs.SetUps.{IfLine, Opens, SetUpRefused, opens_banks}
 use Rattle.pcc_setup.proofs.Checks.{set_up_kept}
 use Rattle.pcc_setup.specs.declared.opening.Opened.{Opened}
 use Rattle.pcc_setup.specs.declared.refusal.UseFault.{UseFault}
-use Rattle.pcc_setup.specs.Openings.{opened_by}
-use Rattle.pccrun_core.specs.Answers.{IsServedScript, ServedBy}
+use Rattle.pccrun_core.specs.Answers.{IsServedScript, OpensFor, ServedBy, Serves}
+use Rattle.pccrun_core.specs.CommandErrors.{IsRefusedBy}
 use Rattle.pccrun_core.specs.Refusals.{BySetUp, ByUse, IsScript, IsSpelled, NotBuilt, NotServed, ScriptRefused, TextRefused, Unserved, WrongLine, WrongScript}
-use Rattle.pccrun_core.specs.SetUp.{is_built, use_fault}
-
--- an error that is passed on
-pub passed : {T : Type 0} (Q : T → Type 0) (P : InputError → Type 0) (r : Result T InputError) (e : InputError) → IsErrAnd r (λ f. f ≡ e) → P e → MatchResult r Q P
-passed Q P (Ok v) e h p = absurd h
-passed Q P (Err f) e h p = subst P (sym h) p
+use Rattle.script_run.specs.Built.{is_built, is_built_line}
+use Rattle.script_run.proofs.OpenedScripts.{left_of}
+use Rattle.pccrun_core.specs.Uses.{use_fault}
 
 -- ---- texts of tables
 
@@ -62,23 +62,33 @@ unfolding script_text
 one_scenario text s u h k =
     is_only text (Ok s) u (reads_again text (statements_of s) h.scenario.right h.scenario.whole h.spelled) k.scenario k.spelled
 
+-- what is built opens Banks alone
+pub banks_alone : (text : List ℕ) (s : Scenario) → IsScript text s → opens_banks s ≡ true
+banks_alone text s h = left_of (opens_banks s) (list_all is_built_line s.actions) h.built
+
 -- a scenario that isn't served
-pub not_served : (cmd : Command) (text : List ℕ) (s : Scenario) (e : InputError) → IsScript text s → IsRefusedFor (NotServed cmd s) e → IsRefusedFor (ScriptRefused cmd text) e
-not_served cmd text s (error.Refused r) h k = (Unserved s h r k.0, k.1)
-not_served cmd text s error.NoMemory h k = tt
+pub not_served : (cmd : Command) (text : List ℕ) (s : Scenario) (e : CommandError) → IsScript text s → IsRefusedBy (NotServed cmd s) e → IsRefusedBy (ScriptRefused cmd text) e
+not_served cmd text s (error.Input (input.Refused r)) h k = (Unserved s h r k.0, k.1)
+not_served cmd text s (error.Input input.NoMemory) h k = tt
+not_served cmd text s (error.SetUp (setup.Refused line)) h k = (k.0, Unserved s h k.0 k.1, k.2, k.3)
+not_served cmd text s (error.SetUp setup.NoMemory) h k = tt
 
-pub used_by : (cmd : Command) (s : Scenario) (os : List Opened) → ((t : Table) × IsSetUp s t × (os ≡ opened_by t s.opens)) → use_fault cmd s ≡ None → (t : Table) × ServedBy cmd s t × (os ≡ opened_by t s.opens)
-used_by cmd s os h none = (h.0, record { set_up = h.1; used = none }, h.2)
+pub used_by : (cmd : Command) (s : Scenario) (os : List Opened) → Opens s os → use_fault cmd s ≡ None → OpensFor cmd s os
+used_by cmd s os h none = record { opens = h; used = none }
 
-pub not_used : (cmd : Command) (s : Scenario) (os : List Opened) (fault : UseFault) → ((t : Table) × IsSetUp s t × (os ≡ opened_by t s.opens)) → use_fault cmd s ≡ Some fault → NotServed cmd s (refusal.Use fault) × Unit {0}
-not_used cmd s os fault h is = (ByUse h.0 h.1 fault is, tt)
+pub not_used : (cmd : Command) (s : Scenario) (os : List Opened) (fault : UseFault) → Opens s os → use_fault cmd s ≡ Some fault → NotServed cmd s (refusal.Use fault) × Unit {0}
+not_used cmd s os fault h is = (ByUse h.table h.checked fault is, tt)
 
-pub is_served : (cmd : Command) (text : List ℕ) (s : Scenario) (os : List Opened) → IsScript text s → ((t : Table) × ServedBy cmd s t × (os ≡ opened_by t s.opens)) → (t : Table) × IsServedScript cmd text s t × (os ≡ opened_by t s.opens)
-is_served cmd text s os h k = (k.0, record { script = h; served = k.1 }, k.2)
+pub is_served : (cmd : Command) (text : List ℕ) (s : Scenario) (os : List Opened) → IsScript text s → OpensFor cmd s os → Serves cmd text s os
+is_served cmd text s os h k = record { script = h; opens_for = k }
 
-pub not_set_up : (cmd : Command) (s : Scenario) (e : InputError) → IsRefusedFor (SetUpRefused s) e → IsRefusedFor (NotServed cmd s) e
-not_set_up cmd s (error.Refused r) k = (BySetUp r k.0, k.1)
-not_set_up cmd s error.NoMemory k = tt
+-- with the table that its set-up reads
+pub served_by : (text : List ℕ) (s : Scenario) (os : List Opened) (cmd : Command) → (h : Serves cmd text s os) → IsServedScript cmd text s h.opens_for.opens.table
+served_by text s os cmd h = record { script = h.script; served = record { set_up = h.opens_for.opens.checked; used = h.opens_for.used } }
+
+pub not_set_up : (cmd : Command) (s : Scenario) (e : SetUpError) → IfLine (SetUpRefused s) e → IfLine (NotServed cmd s) e
+not_set_up cmd s (setup.Refused line) k = (k.0, BySetUp k.0 k.1, k.2, k.3)
+not_set_up cmd s setup.NoMemory k = tt
 
 -- a served script is not refused
 pub script_kept : (cmd : Command) (text : List ℕ) (s : Scenario) (t : Table) (r : Refusal) → IsScript text s → ServedBy cmd s t → ScriptRefused cmd text r → ⊥

@@ -14,17 +14,16 @@ use Rattle.pccrun_core.specs.declared.command.Request.{Request}
 use Rattle.pccrun_core.specs.declared.command.Request.TheVariants as request
 use Rattle.pcc_setup.specs.declared.refusal.Refusal.{Refusal}
 use Rattle.pcc_setup.specs.declared.refusal.Refusal.TheVariants as refusal
-use Rattle.pccrun_core.specs.Answers.{Answers, Asks, AsksFor, AsksToMake, IsMade, IsServedInput, IsServedScript, Made, Makes, Refused, Summed, TooLong, Usage, input_limit, usage_line, word_of}
-use Rattle.pcc_setup.specs.RefusalText.{refused_line}
+use Rattle.pccrun_core.specs.Answers.{Answers, Asks, AsksFor, AsksToMake, IsMade, IsServedInput, Made, Makes, Refused, Serves, Summed, TooLong, Usage, input_limit, usage_line, word_of}
+use Rattle.pcc_setup.specs.RefusalText.{HasLine, refused_line}
 use Rattle.pcc_setup.proofs.Refused.{table_kept}
 use Rattle.pccrun_core.specs.Refusals.{Refuses, WrongLine}
 use Rattle.pcc_setup.specs.declared.opening.Opened.{Opened}
-use Rattle.pcc_setup.specs.Openings.{opened_by}
-use Rattle.pccrun_core.specs.SetUp.{step_text}
-use Rattle.pccrun_core.specs.Summaries.{IsSummary}
-use Rattle.pccrun_core.proofs.Several.{set_up_histories}
+use Rattle.pcc_setup.specs.SetUps.{Opens}
+use Rattle.script_run.specs.ScriptRuns.{IsStepText}
+use Rattle.script_run.specs.Summaries.{IsSummary}
 use Rattle.pccrun_core.proofs.Packaged.{package_kept}
-use Rattle.pccrun_core.proofs.Refused.{script_kept}
+use Rattle.pccrun_core.proofs.Refused.{script_kept, served_by}
 
 same_head : (x y : List ℕ) → x ∷ [] ≡ y ∷ [] → x ≡ y
 same_head x y h = cc
@@ -45,16 +44,20 @@ asks_to_make {X = X} f xs word count w k n at_least below first second is_w is_k
 -- ---- what an input leads to
 
 -- what is made of a served script
-pub stepped : (input : List ℕ) (s : Scenario) (os : List Opened) (text : List ℕ) → ((t : Table) × IsServedScript command.Step input s t × (os ≡ opened_by t s.opens)) → ((t : Table) → os ≡ opened_by t s.opens → text ≡ step_text s t) → Makes command.Step input text
-stepped input s os text h e = (s, h.0, h.1, set_up_histories s h.0 h.1.served.set_up.all_open, e h.0 h.2)
+pub stepped : (input : List ℕ) (s : Scenario) (os : List Opened) (text : List ℕ) → Serves command.Step input s os → ((h : Opens s os) → IsStepText s h.table text) → Makes command.Step input text
+stepped input s os text h e = (s, h.opens_for.opens.table, served_by input s os command.Step h, e h.opens_for.opens)
 
-pub made_of : (words : List (List ℕ)) (left left' : Option (List ℕ)) (input text : List ℕ) (c : Command) → AsksFor words c → Consumes left left' input → IsAtEnd left' → Makes c input text → Answers words left left' 0 text
-made_of words left left' input text c asked read end made = Made c asked input (record { read = read; end = end }) text made
+pub made_of : (words : List (List ℕ)) (left left' : Option (List ℕ)) (input text : List ℕ) (c : Command) → AsksFor words c → Consumes left left' input → IsAtEnd left' → length input ≤ input_limit → Makes c input text → Answers words left left' 0 text
+made_of words left left' input text c asked read end short made = Made c asked input (record { read = read; end = end; short = short }) text made
 
-pub refused_for : (words : List (List ℕ)) (left left' : Option (List ℕ)) (input text : List ℕ) (c : Command) (r : Refusal) → AsksFor words c → Consumes left left' input → IsAtEnd left' → Refuses c input r → text ≡ refused_line r → Answers words left left' 3 text
-refused_for words left left' input text c r asked read end cause e =
+pub refused_for : (words : List (List ℕ)) (left left' : Option (List ℕ)) (input text : List ℕ) (c : Command) (r : Refusal) → AsksFor words c → Consumes left left' input → IsAtEnd left' → length input ≤ input_limit → Refuses c input r → text ≡ refused_line r → Answers words left left' 3 text
+refused_for words left left' input text c r asked read end short cause e =
     let P : List ℕ → Type 0 = Answers words left left' 3 in
-    subst P (sym e) (Refused c asked input (record { read = read; end = end }) r cause)
+    subst P (sym e) (Refused c asked input (record { read = read; end = end; short = short }) r cause)
+
+pub not_set_up : (words : List (List ℕ)) (left left' : Option (List ℕ)) (input text : List ℕ) (c : Command) → AsksFor words c → Consumes left left' input → IsAtEnd left' → length input ≤ input_limit
+    → (r : Refusal) × Refuses c input r × HasLine r × (text ≡ refused_line r) → Answers words left left' 3 text
+not_set_up words left left' input text c asked read end short h = refused_for words left left' input text c h.0 asked read end short h.1 h.3
 
 pub summed : (words : List (List ℕ)) (left left' : Option (List ℕ)) (n : ℕ) (text : List ℕ) → AsksToMake words n → IsSummary n text → Answers words left left' 0 text
 summed words left left' n text asked is = Summed n asked text is
@@ -131,7 +134,7 @@ one_letter command.Cpc command.Build e = absurd (omega arith)
 one_command : (c d : Command) → word_of c ≡ word_of d → c ≡ d
 one_command c d e = one_letter c d (sym (second_of c) ∙ ap second e ∙ second_of d)
 
-same_command : (words : List (List ℕ)) (c d : Command) → AsksFor words c → AsksFor words d → c ≡ d
+pub same_command : (words : List (List ℕ)) (c d : Command) → AsksFor words c → AsksFor words d → c ≡ d
 same_command words c d a b = one_command c d (same_head (word_of c) (word_of d) (sym a ∙ b))
 
 -- what is made is not refused

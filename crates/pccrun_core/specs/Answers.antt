@@ -16,12 +16,13 @@ use Rattle.pccrun_core.specs.declared.command.Request.{Request}
 use Rattle.pccrun_core.specs.declared.command.Request.TheVariants as request
 use Rattle.pcc_setup.specs.declared.refusal.Refusal.{Refusal}
 use Rattle.pcc_setup.specs.declared.refusal.Refusal.TheVariants as refusal
-use Rattle.pccrun_core.specs.Histories.{AreHistories}
 use Rattle.pcc_setup.specs.RefusalText.{refused_line}
-use Rattle.pcc_setup.specs.SetUps.{IsSetUp}
+use Rattle.pcc_setup.specs.SetUps.{IsSetUp, Opens}
+use Rattle.pcc_setup.specs.declared.opening.Opened.{Opened}
 use Rattle.pccrun_core.specs.Refusals.{IsScript, Refuses}
-use Rattle.pccrun_core.specs.SetUp.{run_of, step_text, use_fault}
-use Rattle.pccrun_core.specs.Summaries.{IsSummary}
+use Rattle.script_run.specs.ScriptRuns.{IsStepText}
+use Rattle.pccrun_core.specs.Uses.{use_fault}
+use Rattle.script_run.specs.Summaries.{IsSummary}
 use Rattle.pccrun_core.specs.Weaving.{IsWoven}
 
 -- ---- words
@@ -58,10 +59,11 @@ usage_line = codes "usage: pccrun show|build|cpc|step|weave|threads|audit|make N
 abbrev pub input_limit : ℕ
 input_limit = 4194304
 
--- the text is all that the source had
+-- the text is all that the source had, and isn't too long
 pub record ReadWhole (left left' : Option (List ℕ)) (text : List ℕ) : Type 0 where
   pub read : Consumes left left' text
   pub end : IsAtEnd left'
+  pub short : length text ≤ input_limit
 
 -- more than the greatest input was read
 pub record ReadMore (left left' : Option (List ℕ)) : Type 0 where
@@ -76,6 +78,16 @@ pub record ServedBy (c : Command) (s : Scenario) (t : Table) : Type 0 where
   pub set_up : IsSetUp s t
   pub used : use_fault c s ≡ None
 
+-- these subspaces are what a script opens, and the command can be used with it
+pub record OpensFor (c : Command) (s : Scenario) (opened : List Opened) : Type 0 where
+  pub opens : Opens s opened
+  pub used : use_fault c s ≡ None
+
+-- a script that a command serves, and what it opens
+pub record Serves (c : Command) (input : List ℕ) (s : Scenario) (opened : List Opened) : Type 0 where
+  pub script : IsScript input s
+  pub opens_for : OpensFor c s opened
+
 -- a script and its table, which a command runs
 pub record IsServedScript (c : Command) (input : List ℕ) (s : Scenario) (t : Table) : Type 0 where
   pub script : IsScript input s
@@ -86,10 +98,10 @@ pub record IsTextOf (t : Table) (text : List ℕ) : Type 0 where
   pub value : IsTableValue t
   pub text_is : text ≡ show_text t
 
--- What a command makes of its whole input: of a served script its run, whose journals are histories; of the bytes of a table its
--- text; of the text of a table its bytes; of the bytes of a package its text.
+-- What a command makes of its whole input: of a served script the text of its run; of the bytes of a table its text; of the text of
+-- a table its bytes; of the bytes of a package its text.
 abbrev pub Makes : Command → List ℕ → List ℕ → Type 0
-Makes command.Step input text = (s : Scenario) × (t : Table) × IsServedScript command.Step input s t × AreHistories s.actions (run_of s t) × (text ≡ step_text s t)
+Makes command.Step input text = (s : Scenario) × (t : Table) × IsServedScript command.Step input s t × IsStepText s t text
 Makes command.Weave input text = (s : Scenario) × (t : Table) × IsServedScript command.Weave input s t × IsWoven s t text
 Makes command.Show input text = (t : Table) × TableBytes input t × (text ≡ show_text t)
 Makes command.Build input bytes = (t : Table) × (input ≡ show_text t) × IsBytes bytes × TableBytes bytes t

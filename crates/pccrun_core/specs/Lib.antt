@@ -1,13 +1,8 @@
-pub mod StepRun
-pub mod Histories
-pub mod ReplyText
-pub mod BankChannels
-pub mod Told
-pub mod SetUp
+pub mod Uses
 pub mod Weaving
-pub mod Summaries
 pub mod Packages
 pub mod Refusals
 pub mod Answers
+pub mod CommandErrors
 pub mod Statuses
-pub mod WorkedRuns
+pub mod Headlined

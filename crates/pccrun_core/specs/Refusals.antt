@@ -15,7 +15,8 @@ use Rattle.pcc_setup.specs.SetUps.{IsSetUp, SetUpRefused, TableRefused}
 use Rattle.pccrun_core.specs.declared.command.Command.{Command}
 use Rattle.pccrun_core.specs.declared.command.Command.TheVariants as command
 use Rattle.pccrun_core.specs.Packages.{PackageRefused}
-use Rattle.pccrun_core.specs.SetUp.{is_built, use_fault}
+use Rattle.script_run.specs.Built.{is_built}
+use Rattle.pccrun_core.specs.Uses.{use_fault}
 
 -- a text is no table's, with its first fault
 pub data TextRefused (text : List ℕ) : Refusal → Type 0 where

@@ -4,20 +4,23 @@ ghost use Rattle.std.specs.String.{string_bytes};
 ghost use Rattle.std.specs.Io.KnownBytes.{Appends, Keeps};
 ghost use Rattle.pcc_causes.specs.Causes.{AppendsPrefix, Rose};
 ghost use Rattle.pccrun_core.specs.Answers.{Answers, AsksFor, AsksToMake, IsServedInput, Makes, input_limit};
-ghost use Rattle.pcc_setup.specs.RefusalText.{HasLine, IsRefusedFor, refused_line};
+ghost use Rattle.pcc_setup.specs.RefusalText.{HasLine, refused_line};
+ghost use Rattle.pccrun_core.specs.CommandErrors.{IsRefusedBy};
+ghost use Rattle.pccrun_core.specs.Headlined.{Headlined};
 ghost use Rattle.pccrun_core.specs.Refusals.{Refuses};
 ghost use Rattle.pccrun_core.specs.Statuses.{code_of};
 ghost use Rattle.pccrun_core.specs.declared.command.Command.{Command};
 ghost use Rattle.pccrun_core.specs.declared.top.Stop.TheVariants.{NoMemory as OutOfMemory};
 
 use crate::command::{Command, Request, request_of, usage};
-use crate::make::make;
+use crate::error::CommandError;
 use crate::package::cpc;
 use crate::step::step;
 use crate::tables::{build, show};
 use crate::weave::weave;
-use pcc_io::{NoMemory, ReadEnd, Sink, Source, WriteFault, read_to_end, write_whole};
-use pcc_setup::{InputError, Refusal, refused_line};
+use pcc_io::{Bytes, NoMemory, ReadEnd, Sink, Source, WriteFault, read_to_end, write_whole};
+use pcc_setup::{InputError, Refusal, SetUpError, refused_line};
+use script_run::made_summary;
 use std::alloc::Global;
 
 /// How many bytes of input are read at most.
@@ -42,11 +45,11 @@ enum Status {
     NoMemory = 6,
 }
 
-// A text that is to be written, and the status behind it.
+// A text that is to be written, and the status after it.
 #[derive(Drop)]
 struct Answer {
     status: Status,
-    text: Vec<u8>,
+    text: Bytes,
 }
 
 // Why there is nothing to write.
@@ -64,16 +67,16 @@ impl From<NoMemory> for Stop {
     }
 }
 
-fn copy_of(alloc: Global, text: &[u8]) -> Result<Vec<u8>, NoMemory>
-    ensures { IfOk result (λ v. v.items ≡ text.now) }
+fn copy_of(alloc: Global, text: &[u8]) -> Result<Bytes, NoMemory>
+    ensures { IfOk result (λ v. v ≡ text.now) }
 {
-    Ok(Vec::from_slice(alloc, text)?)
+    Ok(Bytes::from_vec(Vec::from_slice(alloc, text)?))
 }
 
 // What a command makes of its whole input.
-fn made(alloc: Global, command: Command, input: &[u8]) -> Result<Vec<u8>, InputError>
+fn made(alloc: Global, command: Command, input: &[u8]) -> Result<Vec<u8>, CommandError>
     requires { length input.now ≤ input_limit }
-    ensures { MatchResult result (λ v. Makes command input.now v.items) (IsRefusedFor (Refuses command input.now)) }
+    ensures { MatchResult result (λ v. Makes command input.now v.items) (IsRefusedBy (Refuses command input.now)) }
 {
     match command {
         Command::Step => step(alloc, input),
@@ -85,19 +88,19 @@ fn made(alloc: Global, command: Command, input: &[u8]) -> Result<Vec<u8>, InputE
 }
 
 // What the words and the bytes of the source lead to.
-#[tactic(auto, using(crate::proofs::Tops::usage, crate::proofs::Tops::summed, crate::proofs::Tops::made_of, crate::proofs::Tops::refused_for, crate::proofs::Tops::too_long))]
+#[tactic(auto, using(crate::proofs::Tops::usage, crate::proofs::Tops::summed, crate::proofs::Tops::made_of, crate::proofs::Tops::refused_for, crate::proofs::Tops::not_set_up, crate::proofs::Tops::too_long))]
 fn answer_to<S: Source>(alloc: Global, words: &[String], source: &mut S) -> Result<Answer, Stop>
-    ensures answer { IfOk result (λ a. Answers (map (λ w. string_bytes w) words.now) (S.left source.old) (S.left source.new) (code_of a.status) a.text.items) }
+    ensures answer { IfOk result (λ a. Answers (map (λ w. string_bytes w) words.now) (S.left source.old) (S.left source.new) (code_of a.status) a.text) }
     ensures read_fault { IsErrOf result Stop.ReadFault → ((c : Command) × AsksFor (map (λ w. string_bytes w) words.now) c) × Rose (S.faults source.old) (S.faults source.new) }
     ensures unasked { ((c : Command) → AsksFor (map (λ w. string_bytes w) words.now) c → ⊥) → source.new ≡ source.old }
 {
     let command = match request_of(words) {
         Some(Request::Run(command)) => command,
         Some(Request::Make { calls }) => {
-            let text = make(alloc, calls)?;
+            let text = made_summary(alloc, calls)?;
             return Ok(Answer {
                 status: Status::Done,
-                text,
+                text: Bytes::from_vec(text),
             });
         }
         None => {
@@ -117,28 +120,33 @@ fn answer_to<S: Source>(alloc: Global, words: &[String], source: &mut S) -> Resu
     match made(alloc, command, &bytes) {
         Ok(text) => Ok(Answer {
             status: Status::Done,
+            text: Bytes::from_vec(text),
+        }),
+        Err(CommandError::Input(InputError::Refused(refusal))) => refused(alloc, refusal),
+        Err(CommandError::SetUp(SetUpError::Refused { text })) => Ok(Answer {
+            status: Status::Refused,
             text,
         }),
-        Err(InputError::Refused(refusal)) => refused(alloc, refusal),
-        Err(InputError::NoMemory) => Err(Stop::NoMemory),
+        Err(CommandError::Input(InputError::NoMemory)) => Err(Stop::NoMemory),
+        Err(CommandError::SetUp(SetUpError::NoMemory)) => Err(Stop::NoMemory),
     }
 }
 
 fn refused(alloc: Global, refusal: Refusal) -> Result<Answer, Stop>
     requires { HasLine refusal }
-    ensures line { IfOk result (λ a. (a.status ≡ Status.Refused) × (a.text.items ≡ refused_line refusal)) }
+    ensures line { IfOk result (λ a. (a.status ≡ Status.Refused) × (a.text ≡ refused_line refusal)) }
     ensures memory { IfErr result (λ e. e ≡ Stop.NoMemory) }
 {
     let text = refused_line(alloc, refusal)?;
     Ok(Answer {
         status: Status::Refused,
-        text,
+        text: Bytes::from_vec(text),
     })
 }
 
 /// Does all that the program does for a command without threads: tests the words, reads the source to its end where they ask for a command on
 /// the input, runs what they ask for, and writes its whole text. It always returns.
-#[tactic(auto, using(crate::proofs::Tops::served_input_runs, crate::proofs::Tops::made_runs, crate::proofs::Tops::makes_alone))]
+#[tactic(auto, using(crate::proofs::Tops::served_input_runs, crate::proofs::Tops::made_runs, crate::proofs::Tops::makes_alone, crate::proofs::Headlined::headlined))]
 pub fn run<S: Source, W: Sink>(
     alloc: Global,
     words: &[String],
@@ -151,6 +159,10 @@ pub fn run<S: Source, W: Sink>(
     ensures written { result.status < 4 → (text : List ℕ)
         × Answers (map (λ w. string_bytes w) words.now) (S.left source.old) (S.left source.new) result.status text
         × Appends (W.held sink.old) (W.held sink.new) text }
+
+    // Of `step` and of `make`: each journal of the run whose text was written keeps its headline.
+    ensures headline { result.status ≡ 0
+        → Headlined (map (λ w. string_bytes w) words.now) (S.left source.old) (S.left source.new) (W.held sink.old) (W.held sink.new) }
 
     // Only the source can make it 4, where it is read, and nothing is written then.
     ensures read_fault { result.status ≡ 4 → ((c : Command) × AsksFor (map (λ w. string_bytes w) words.now) c)
@@ -178,7 +190,7 @@ pub fn run<S: Source, W: Sink>(
         Err(Stop::ReadFault) => return ended(Status::ReadFault),
         Err(Stop::NoMemory) => return ended(Status::NoMemory),
     };
-    match write_whole(sink, &answer.text) {
+    match write_whole(sink, answer.text.as_slice()) {
         Ok(()) => ended(answer.status),
         Err(WriteFault) => ended(Status::WriteFault),
     }

@@ -3,25 +3,26 @@ ghost use Rattle.std.specs.Prelude.{◌≡◌, Some, IfOk, MatchResult, map, len
 ghost use Rattle.std.specs.List.{AllByRecursion};
 ghost use Rattle.pcc_script.specs.Limits.{IsWithin};
 ghost use Rattle.pccrun_core.specs.Answers.{Makes};
-ghost use Rattle.pcc_setup.specs.RefusalText.{IsRefusedFor};
+ghost use Rattle.pccrun_core.specs.CommandErrors.{IsRefusedBy};
 ghost use Rattle.pccrun_core.specs.Refusals.{Refuses};
 ghost use Rattle.pcct_table.specs.declared.table.Table.{Table};
 ghost use Rattle.pcc_steps.specs.Wires.{IsRight};
 ghost use Rattle.pccrun_core.specs.Weaving.{IsCall, IsOpenedAlone, IsWoven, asked_by, side_of};
 
 use crate::command::Command;
+use crate::error::CommandError;
 use crate::script::{Served, served_script};
 use channel_plain::{Asked, Plain, Side, weave_lines};
 use pcc_exec::Bank;
 use pcc_io::{Bytes, LineClock, NoMemory};
 use pcc_journal::put_journal;
 use pcc_script::{Actions, Letter, Line, Picks, Scenario};
-use pcc_setup::{InputError, Opened};
+use pcc_setup::Opened;
 use pcc_wiring::right_wirings;
 use std::alloc::Global;
 
 // The calls of the lines.
-#[tactic(auto, using(crate::proofs::Weaves::mapped_more, crate::proofs::Weaves::mapped_all))]
+#[tactic(auto, using(script_run::proofs::Mapped::mapped_more, script_run::proofs::Mapped::mapped_all))]
 fn calls_of(alloc: Global, actions: &Actions) -> Result<Vec<Asked>, NoMemory>
     requires { AllByRecursion IsCall actions.now }
     ensures { IfOk result (λ v. v.items ≡ map asked_by actions.now) }
@@ -64,7 +65,7 @@ fn side_of(letter: Letter) -> Side
 }
 
 // The sides that the letters pick.
-#[tactic(auto, using(crate::proofs::Weaves::mapped_more, crate::proofs::Weaves::mapped_all))]
+#[tactic(auto, using(script_run::proofs::Mapped::mapped_more, script_run::proofs::Mapped::mapped_all))]
 fn sides_of(alloc: Global, picks: &Picks) -> Result<Vec<Side>, NoMemory>
     ensures { IfOk result (λ v. v.items ≡ map side_of picks.now) }
 {
@@ -109,8 +110,8 @@ fn woven_text(
 }
 
 /// The trace and the journal of the script that a text spells.
-pub fn weave(alloc: Global, text: &[u8]) -> Result<Vec<u8>, InputError>
-    ensures { MatchResult result (λ v. Makes Command.Weave text.now v.items) (IsRefusedFor (Refuses Command.Weave text.now)) }
+pub fn weave(alloc: Global, text: &[u8]) -> Result<Vec<u8>, CommandError>
+    ensures { MatchResult result (λ v. Makes Command.Weave text.now v.items) (IsRefusedBy (Refuses Command.Weave text.now)) }
 {
     right_wirings();
     match served_script(alloc, Command::Weave, text) {

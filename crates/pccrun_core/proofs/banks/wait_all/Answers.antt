@@ -1,8 +1,0 @@
-use Rattle.std.proofs.Common.{◌<◌, length, arith}
-use Rattle.pccrun_core.proofs.BankLists.{moved_more}
-use Rattle.pccrun_core.proofs.banks.wait_all.Goals as goal
-
-pub loop-place-preserved : goal.loop-place-preserved
-loop-place-preserved c =
-    let lt : c.loop-place.place < length c.args.banks.now.items = omega arith in
-    moved_more c.args.n c.args.banks.now.items c.loop-place.banks.items c.loop-place.place c.index_mut.result.now c.wait.new.self lt c.loop-place.invariant c.index_mut.ensures.value c.wait.ensures

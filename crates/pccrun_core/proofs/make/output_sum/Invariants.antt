@@ -1,5 +1,0 @@
-use Rattle.pccrun_core.proofs.Counting.{Summed}
-use Rattle.pccrun_core.proofs.make.output_sum.Given as goal
-
-abbrev pub invariant-loop-i : goal.invariant-loop-i
-invariant-loop-i l = Summed l.records l.i l.total

@@ -1,9 +1,0 @@
-use Rattle.std.proofs.Common.{◌<◌, length, arith}
-use Rattle.pccrun_core.proofs.BankLists.{one_more_journal}
-use Rattle.pccrun_core.proofs.step.put_journals.Goals as goal
-
-pub loop-place-preserved : goal.loop-place-preserved
-loop-place-preserved c =
-    let lt : c.loop-place.place < length c.args.banks.now = omega arith in
-    one_more_journal c.args.banks.now c.loop-place.place c.index-banks-place.result c.args.out.now.items c.loop-place.out.items c.put_journal.new.out.items lt c.index-banks-place.is
-    (rw (c.head.ensures, c.records.ensures.items, c.pending.ensures) at c.in_ok-put_journal.ensures) c.loop-place.invariant

@@ -1,0 +1,9 @@
+pub mod Mapped
+mod Replies
+pub mod Steps
+pub mod Headlines
+pub mod Several
+mod ChannelLists
+pub mod OpenedScripts
+mod Counting
+mod MadeUp

@@ -1,0 +1,10 @@
+pub mod StepRun
+pub mod Headlines
+pub mod ReplyText
+pub mod Channels
+pub mod DeviceChannels
+pub mod LineOutcomes
+pub mod ScriptRuns
+pub mod Built
+pub mod Summaries
+pub mod WorkedRuns

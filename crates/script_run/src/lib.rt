@@ -1,0 +1,20 @@
+//! Runs of scripts in one thread: the channels of all opened subspaces answer the lines of a script, and the replies and the journals are printed;
+//! or a script is made up, and a summary of its run is printed.
+#![tactic(auto)]
+
+mod built;
+mod channel;
+mod channels;
+mod counts;
+mod laws;
+mod make;
+mod outcome;
+mod reply;
+mod step;
+mod worked;
+
+pub use built::is_built;
+pub use laws::run_laws;
+pub use make::made_summary;
+pub use step::run_text;
+pub use worked::worked_runs;

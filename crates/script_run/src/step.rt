@@ -1,0 +1,73 @@
+//! The text of `step`: the lines of a script are run in one thread, and their replies and the journals are printed.
+ghost use Rattle.std.specs.Prelude.{◌≡◌, ◌≤◌, ◌<◌, ◌++◌, ◌+◌, ◌^◌, [], ◌∷◌, ℕ, true, length, map, IfOk, OnOk};
+ghost use Rattle.std.specs.List.{AllByRecursion, flat_map};
+ghost use Rattle.pcc_script.specs.Limits.{IsWithin};
+ghost use Rattle.pcc_setup.specs.SetUps.{Opens};
+ghost use Rattle.script_run.specs.Built.{is_built};
+ghost use Rattle.script_run.specs.Channels.{CanRun, IsEarly, ids_of};
+ghost use Rattle.script_run.specs.DeviceChannels.{channels_by};
+ghost use Rattle.script_run.specs.ReplyText.{replies_text};
+ghost use Rattle.script_run.specs.ScriptRuns.{IsStepText, channel_journal};
+ghost use Rattle.script_run.specs.StepRun.{step_run, turn_of};
+
+use crate::channel::DeviceChannel;
+use crate::channels::OpenedChannels;
+use crate::reply::put_outcome;
+use pcc_io::NoMemory;
+use pcc_journal::put_journal;
+use pcc_script::{Actions, Scenario};
+use pcc_setup::{OpenedList, first_action};
+use std::alloc::Global;
+
+// Runs lines from a number on, and puts their replies at the end.
+#[tactic(auto, using(crate::proofs::Steps::putting_start, crate::proofs::Steps::putting_more, crate::proofs::Steps::putting_end, crate::proofs::ChannelLists::can_still, crate::proofs::ChannelLists::early_still))]
+fn run_lines(
+    alloc: Global,
+    out: &mut Vec<u8>,
+    channels: &mut OpenedChannels,
+    first: u64,
+    actions: &Actions,
+) -> Result<(), NoMemory>
+    requires lines { AllByRecursion (CanRun (ids_of (channels_by channels.old))) actions.now }
+    requires few { length actions.now ≤ 65536 }
+    requires low { first < 2 ^ 63 }
+    requires early { AllByRecursion (IsEarly 0) (channels_by channels.old) }
+    ensures replies { OnOk result (out.new.items ≡ out.old.items ++ replies_text first (step_run actions.now (channels_by channels.old)).replies) }
+    ensures channels { OnOk result ((step_run actions.now (channels_by channels.old)).channels ≡ channels_by channels.new) }
+{
+    for i in 0..actions.len() {
+        let outcome = channels.run(alloc, actions.at(i))?;
+        put_outcome(out, first + i as u64, channels.as_slice(), outcome)?;
+    }
+    Ok(())
+}
+
+// Puts the journals at the end, in the order of the lines that opened them.
+fn put_journals(out: &mut Vec<u8>, channels: &[DeviceChannel]) -> Result<(), NoMemory>
+    ensures { OnOk result (out.new.items ≡ out.old.items ++ flat_map channel_journal (channels_by channels.now)) }
+{
+    for place in 0..channels.len() {
+        let channel = &channels[place];
+        put_journal(out, channel.head(), channel.records(), channel.pending())?;
+    }
+    Ok(())
+}
+
+/// The replies and the journals of a script, which opens these subspaces.
+pub fn run_text(
+    alloc: Global,
+    scenario: &Scenario,
+    opened: &OpenedList,
+) -> Result<Vec<u8>, NoMemory>
+    requires within { IsWithin scenario.now }
+    requires built { is_built scenario.now ≡ true }
+    requires opens { Opens scenario.now opened.now }
+    ensures { IfOk result (λ v. (h : Opens scenario.now opened.now) → IsStepText scenario.now h.table v.items) }
+{
+    let mut out = Vec::new(alloc);
+    let mut channels = OpenedChannels::open(alloc, scenario, opened)?;
+    let first = first_action(scenario);
+    run_lines(alloc, &mut out, &mut channels, first, &scenario.actions)?;
+    put_journals(&mut out, channels.as_slice())?;
+    Ok(out)
+}
