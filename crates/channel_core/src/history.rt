@@ -47,7 +47,9 @@ impl History {
     pub fn journal(&self) -> &Journal
         ensures items { result.now.items ≡ self.now.records }
         ensures spare { result.now.spare ≡ self.now.spare }
+        ensures most { length result.now.items + result.now.spare ≤ MAX_ITEMS }
     {
+        self.journal.len();
         &self.journal
     }
 
@@ -103,6 +105,7 @@ impl History {
         ensures ok { OnOk result (self.new ≡ reserved self.old) }
         ensures full { IsErrOf result reserving.JournalFull ↔ (posts_of self.old ≡ MAX_ITEMS) }
         ensures err { OnErr result (self.new ≡ self.old) }
+        ensures most { length self.new.records + self.new.spare ≤ MAX_ITEMS }
     {
         let wanted = usize::from(self.in_flight()) + 1;
         self.notes.reserve_for(wanted)?;

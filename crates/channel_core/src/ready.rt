@@ -1,7 +1,8 @@
 //! A command that is made ready, with all the memory that it takes.
-ghost use Rattle.std.specs.Prelude.{◌≡◌, ◌≤◌, ◌<◌, IfOk, length};
+ghost use Rattle.std.specs.Prelude.{◌≡◌, ◌≤◌, ◌<◌, ◌+◌, IfOk, length};
 ghost use Rattle.std.specs.Borrow.{sem};
 ghost use Rattle.pcc_bytes.specs.Bytes.{IsBytes};
+ghost use Rattle.pcc_journal.specs.declared.reserved.TheConstants.{MAX_ITEMS};
 ghost use Rattle.channel_core.specs.Readying.{IsReadied, sent_by};
 ghost use Rattle.channel_core.specs.Lending.{LendsBytes};
 
@@ -149,7 +150,8 @@ pub fn make_ready(
     code: u32,
     bytes: &[u8],
 ) -> Result<Ready, CallRefusal>
-    ensures { IsReadied history.old (record { kind = kind; room = room; code = code; bytes = bytes.now }) history.new result }
+    ensures readied { IsReadied history.old (record { kind = kind; room = room; code = code; bytes = bytes.now }) history.new result }
+    ensures most { length history.new.records + history.new.spare ≤ MAX_ITEMS }
 {
     if let Some(refusal) = refusal(kind, room, code, bytes.len(), history.posts()) {
         return Err(refusal);

@@ -14,8 +14,9 @@ use Rattle.rate_limit.specs.RateLimits.{WithinLimits, earliest_of}
 use Rattle.rate_limit.proofs.Law.{exact as post_exact, completed as completion_keeps}
 use Rattle.std.proofs.lemmas.Bool.{ltb-false}
 use Rattle.channel_core.specs.Refusals as refusals
+use Rattle.channel_core.specs.declared.answers.CallRefusal.TheVariants as refusal
 use Rattle.channel_turns.specs.Replies.{Reply, BadCode, TooLong, JournalFull}
-use Rattle.channel_turns.specs.ChannelRuns.{Answered, Call, ChannelStart, ChannelState, InFlight, after_post, answer_behind, answer_call, answer_unless, completed, count_in_flight, exchange_with, fresh, journal_limit, next_reading, post_call, post_of, record_of, refusal_of}
+use Rattle.channel_turns.specs.ChannelRuns.{Answered, Call, ChannelStart, ChannelState, InFlight, after_post, answer_behind, answer_call, answer_unless, completed, count_in_flight, exchange_with, fresh, journal_limit, next_reading, post_call, post_of, record_of, refusal_of, replied}
 use Rattle.channel_headline.specs.Lines.{is_post}
 
 -- ---- histories that grow
@@ -174,12 +175,22 @@ no_post false true c code len room = refl
 no_post false false true code len room = refl
 no_post false false false code len room = tt
 
+-- a refusal, as the reply to its call
+replied_is : (a b c : Bool) (code len room : ℕ)
+    → replied (cond a (Some (refusal.BadCode code)) (cond b (Some (refusal.TooLong len room)) (cond c (Some refusal.JournalFull) None))) ≡ cond a (Some (BadCode code)) (cond b (Some (TooLong len room)) (cond c (Some JournalFull) None))
+replied_is true b c code len room = refl
+replied_is false true c code len room = refl
+replied_is false false true code len room = refl
+replied_is false false false code len room = refl
+
 -- the tests of a call, one after the other
 pub refusal_is : (start : ChannelStart) (call : Call) (now : ChannelState)
     → refusal_of start.head call now ≡ cond (refusals.has_byte_codes start.head.kind && nat_lt 255 call.code) (Some (BadCode call.code))
     (cond (nat_lt start.head.room (length call.bytes)) (Some (TooLong (length call.bytes) start.head.room))
     (cond (nat_le journal_limit (length now.records + count_in_flight now.in_flight)) (Some JournalFull) None))
-refusal_is start call now = refl
+refusal_is start call now =
+    replied_is (refusals.has_byte_codes start.head.kind && nat_lt 255 call.code) (nat_lt start.head.room (length call.bytes))
+    (nat_le journal_limit (length now.records + count_in_flight now.in_flight)) call.code (length call.bytes) start.head.room
 
 pub refusals_post_nothing : (start : ChannelStart) (call : Call) (now : ChannelState) → IfSome (refusal_of start.head call now) (λ r. is_post r ≡ false)
 refusals_post_nothing start call now =

@@ -19,15 +19,13 @@ use Rattle.pcc_steps.specs.Runs.{Run, ends, loads, stores, swaps, executes, With
 use Rattle.pcc_steps.specs.Walk.{answer_left, answer_after, Gives}
 use Rattle.pcc_steps.specs.Asking.{has_more}
 use Rattle.pcc_steps.specs.Answering.{Answer, AnswerOk, IsAnswerStepping, answer_begun, answer_next, answer_fed, answer_told, answer_fed_at, answer_told_at, after_ack, after_take, after_error, after_reply, after_close, after_done, done_stage, update_stage, asks_notify, take_on, take_told, load_on, reply_on, ran_with, answer_code}
-use Rattle.pcc_steps.specs.Agree.{act, Finds, Core, Asker, Answerer, Agree, Pose, free, writing, cleared, waiting, reading, replying, Fits, pose, turn_at, settle, settle_at, answerer_fed}
+use Rattle.pcc_steps.specs.Agree.{act, found, Finds, Core, Asker, Answerer, Agree, Pose, free, writing, cleared, waiting, reading, replying, Fits, pose, turn_at, settle, settle_at, answerer_fed}
 use Rattle.pcc_steps.specs.Laws.{AnswerBeginAgrees, AnswerStepAgrees}
 use Rattle.pcc_steps.proofs.AnswerWalks.{answers_by_table, answer_steps_by_table, executes_by_table}
 use Rattle.pcc_steps.proofs.Bounds.{answers_within}
 use Rattle.pcc_steps.proofs.Nexts.{idle_told}
-use Rattle.channel_plain.specs.Picks.{found}
-use Rattle.channel_plain.proofs.Keeps.{long_act, finds_found}
-use Rattle.channel_plain.proofs.AnswerHolds.{counted, framed}
-use Rattle.channel_plain.proofs.AnswerTurns.{is_rest, is_run, rest_is, run_is, ends_run, fed_rests}
+use Rattle.pcc_steps.proofs.WordSteps.{long_act, finds_found}
+use Rattle.channel_turns.proofs.AnswerFeeds.{counted, framed, is_rest, is_run, rest_is, run_is, ends_run, fed_rests}
 use Rattle.channel_turns.specs.WordRuns.{AnswerStep, AnswerKeeps, HasExecuted, HistoryIs}
 use Rattle.channel_turns.proofs.AskRuns.{one_less}
 

@@ -1,5 +1,5 @@
 -- The asking machine's word steps, one after the other.
-use Rattle.std.proofs.Common.{◌≡◌, ◌≢◌, ℕ, ◌+◌, ◌-◌, ◌^◌, ◌<◌, ◌≤◌, Bool, true, false, List, length, refl, sym, ap, ◌∙◌, subst, arith}
+use Rattle.std.proofs.Common.{◌≡◌, ◌≢◌, ℕ, ◌+◌, ◌-◌, ◌^◌, ◌<◌, ◌≤◌, Bool, true, false, cond, ltb, eqb, List, length, refl, sym, ap, ◌∙◌, subst, arith}
 use Rattle.std.specs.Prelude.{Option, Some, None, get_or}
 use Rattle.pcc_history.specs.Channel.{Exchange}
 use Rattle.pcc_steps.specs.declared.wiring.Wiring.{Wiring}
@@ -14,16 +14,15 @@ use Rattle.pcc_steps.specs.Wires.{style_of, block_of, sees_done, tells_error, ac
 use Rattle.pcc_steps.specs.Runs.{Run, ends, loads, stores, swaps, executes, Within}
 use Rattle.pcc_steps.specs.Walk.{ask_left, ask_after, Takes}
 use Rattle.pcc_steps.specs.Asking.{Ask, AskOk, Flies, PostsLeft, ask_stepped, look_told, IsAskRunning, ask_begun, ask_looking, ask_next, ask_fed, ask_told, ask_fed_at, has_more, after_block, after_update, after_mark, after_bell, after_look, store_on, look_on, read_on, block_on, line_on, lowered_on}
-use Rattle.pcc_steps.specs.Agree.{act, Finds, Agree, done_after, clears_after}
+use Rattle.pcc_steps.specs.Agree.{act, found, Finds, Agree, done_after, clears_after}
 use Rattle.pcc_steps.proofs.Agreement.{ask_step_agrees}
 use Rattle.pcc_steps.proofs.AskWalks.{asks_by_table, looks_by_table, posts_by_table}
 use Rattle.pcc_steps.proofs.Bounds.{looks_within, posts_within}
 use Rattle.pcc_steps.proofs.Nexts.{clear_told}
-use Rattle.channel_plain.specs.Picks.{found}
-use Rattle.channel_plain.specs.Standing.{is_rest, carried_at}
-use Rattle.channel_plain.proofs.Keeps.{long_act, finds_found}
-use Rattle.channel_plain.proofs.Feeds as feeds
-use Rattle.channel_turns.specs.WordRuns.{AskStep, AskSteps, looks_after, flies_after, IsFor, KeepsSpace, Stops}
+use Rattle.pcc_steps.proofs.WordSteps.{long_act, finds_found}
+use Rattle.channel_turns.proofs.AskFeeds.{is_rest, carried_at}
+use Rattle.channel_turns.proofs.AskFeeds as feeds
+use Rattle.channel_turns.specs.WordRuns.{AskStep, AskSteps, look_most, looks_after, flies_after, IsFor, KeepsSpace, Stops}
 
 -- ---- one step
 
@@ -68,11 +67,9 @@ done_same (Some (Drained e)) done a n = refl
 stepped : (ws : List ℕ) (a : Ask) (v : ℕ) → a.stage ≢ AskRest → Flies a.stage a.in_flight → v ≡ found (ask_next a) ws → v < 2 ^ 64 → AskSteps ws a (act (ask_next a) ws) (ask_fed a v) (ask_told a v)
 stepped ws a v runs flies e small = let told : Option AskOutcome = ask_told a v in let z : Ask = ask_fed_at a.stage a v in let b : Ask = ask_fed a v in
     let f : feeds.Fed a.stage a b told = feeds.stepped a.stage a z told b.steps (feeds.fed a.stage a v (feeds.not_rest a.stage runs) flies) in record {
-      keeps = λ exec start done clears y g. (
-        clears_after told clears,
-        subst (λ (l : List Exchange). Agree exec start (act (ask_next a) ws) (record { m = b; done = l; clears = clears_after told clears }) y) (sym (done_same told done z b.steps))
-            (ask_step_agrees exec start ws (record { m = a; done = done; clears = clears }) y v g (subst (λ (n : ℕ). Finds (ask_next a) ws n) (sym e) (finds_found (ask_next a) ws)) small),
-      );
+      keeps = λ exec start x y is g.
+          subst (λ (l : List Exchange). Agree exec start (act (ask_next a) ws) (record x { m = b; done = l; clears = clears_after told x.clears }) y) (sym (done_same told x.done z b.steps))
+          (ask_step_agrees exec start ws (record x { m = a }) y v (subst (λ (m : Ask). Agree exec start ws (record x { m = m }) y) is g) (subst (λ (n : ℕ). Finds (ask_next a) ws n) (sym e) (finds_found (ask_next a) ws)) small);
       long = long_act (ask_next a) ws;
       wiring = f.wiring;
       code = f.code;
@@ -92,14 +89,14 @@ step_goes ws a ws' b told runs h = let v : ℕ = found (ask_next a) ws in
 -- ---- some steps
 
 pub none_yet : (ws : List ℕ) (a : Ask) → a.stage ≢ AskRest → AskSteps ws a ws a None
-none_yet ws a runs = record { keeps = λ exec start done clears y g. (clears, g); long = refl; wiring = refl; code = refl; input = refl; budget = refl; looks = refl; flies = refl; space = refl; stops = runs; is_for = tt }
+none_yet ws a runs = record { keeps = λ exec start x y is g. subst (λ (m : Ask). Agree exec start ws (record x { m = m }) y) is g; long = refl; wiring = refl; code = refl; input = refl; budget = refl; looks = refl; flies = refl; space = refl; stops = runs; is_for = tt }
 
 looks_on : (told : Option AskOutcome) (m n : ℕ) → n ≡ m → looks_after told n ≡ looks_after told m
 looks_on told m n e = ap (looks_after told) e
 
 pub more : (ws ws1 ws2 : List ℕ) (a b c : Ask) (told : Option AskOutcome) → AskSteps ws a ws1 b None → AskSteps ws1 b ws2 c told → AskSteps ws a ws2 c told
 more ws ws1 ws2 a b c told h k = record {
-  keeps = λ exec start done clears y g. let p = h.keeps exec start done clears y g in k.keeps exec start done p.0 y p.1;
+  keeps = λ exec start x y is g. k.keeps exec start (record x { m = b }) y refl (h.keeps exec start x y is g);
   long = k.long ∙ h.long;
   wiring = k.wiring ∙ h.wiring;
   code = k.code ∙ h.code;
@@ -221,19 +218,78 @@ not_look st e q = cc_of (ap is_look q) e
 fed_behind : (a : Ask) (v : ℕ) → a.stage ≢ AskRest → (ask_fed a v).stage ≢ LookWord
 fed_behind a v runs = not_look (ask_fed a v).stage (behind_at a.stage a v runs)
 
+-- ---- the count of steps
+
+count_by : (b : Bool) (n : ℕ) → cond b (n + 1) n ≤ n + 1
+count_by true n = omega arith
+count_by false n = omega arith
+
+store_steps : (b : Bool) (j : ℕ) (a : Ask) → (store_on b j a).steps ≡ a.steps
+store_steps true j a = refl
+store_steps false j a = refl
+
+look_count : (b : Bool) (v : ℕ) (a : Ask) → (look_on b v a).steps ≡ a.steps
+look_count true v a = refl
+look_count false v a = refl
+
+block_steps : (b : Bool) (a : Ask) → (block_on b a).steps ≡ a.steps
+block_steps true a = refl
+block_steps false a = refl
+
+read_steps : (b : Bool) (j v : ℕ) (a : Ask) → (read_on b j v a).steps ≡ a.steps
+read_steps true j v a = refl
+read_steps false j v a = block_steps a.wiring.notify _
+
+line_steps : (b : Bool) (a : Ask) → (line_on b a).steps ≡ a.steps
+line_steps true a = refl
+line_steps false a = refl
+
+lowered_steps : (b : Bool) (a : Ask) → (lowered_on b a).steps ≡ a.steps
+lowered_steps true a = refl
+lowered_steps false a = refl
+
+-- only the count itself counts
+fed_steps : (st : AskStage) (a : Ask) (v : ℕ) → (ask_fed_at st a v).steps ≡ a.steps
+fed_steps (PostBlock j) a v = store_steps (has_more j a.wiring) j a
+fed_steps LookWord a v = look_count (sees_done a.wiring v) v a
+fed_steps (LookBlock j) a v = read_steps (has_more j a.wiring) j v a
+fed_steps LookLine a v = line_steps (eqb v 0) a
+fed_steps LookLineStore a v = lowered_steps (acknowledges a.wiring) a
+fed_steps AskRest a v = refl
+fed_steps PostHeader a v = refl
+fed_steps PostUpdateLoad a v = refl
+fed_steps PostUpdateStore a v = refl
+fed_steps PostMarkLoad a v = refl
+fed_steps PostMarkStore a v = refl
+fed_steps PostBellLoad a v = refl
+fed_steps PostBellStore a v = refl
+fed_steps PostLine a v = refl
+fed_steps LookError a v = refl
+fed_steps LookAckLoad a v = refl
+fed_steps LookAckStore a v = refl
+
+-- a step raises the count by one at most
+pub count_more : (a : Ask) (v : ℕ) → (ask_fed a v).steps ≤ (ask_fed_at a.stage a v).steps + 1
+count_more a v = count_by (ltb (ask_fed_at a.stage a v).steps (2 ^ 64 - 1)) (ask_fed_at a.stage a v).steps
+
+pub step_counts : (ws : List ℕ) (a : Ask) (ws' : List ℕ) (b : Ask) (told : Option AskOutcome) → AskStep ws a ws' b told → b.steps ≤ a.steps + 1
+step_counts ws a ws' b told h = let v : ℕ = found (ask_next a) ws in let c = count_more a v in let s : (ask_fed_at a.stage a v).steps ≡ a.steps = fed_steps a.stage a v in let e = ap (λ (x : Ask). x.steps) h.machine in omega (arith, c, s, e)
+
 -- ---- a run of so many steps at most
 
 pub record AskGoing (ws : List ℕ) (a : Ask) (most : ℕ) (i : ℕ) (ws' : List ℕ) (b : Ask) : Type 0 where
   pub steps : AskSteps ws a ws' b None
+  pub count : b.steps ≤ a.steps + i
   pub behind : b.stage ≢ LookWord
   pub within : AskOk b → Within (most - i) (ask_left b)
 
 pub going_start : (ws : List ℕ) (a : Ask) (most : ℕ) → a.stage ≢ AskRest → a.stage ≢ LookWord → (AskOk a → Within most (ask_left a)) → AskGoing ws a most 0 ws a
-going_start ws a most runs behind w = record { steps = none_yet ws a runs; behind = behind; within = λ ok. let e : most ≡ most - 0 = omega arith in subst (λ (n : ℕ). Within n (ask_left a)) e (w ok) }
+going_start ws a most runs behind w = record { steps = none_yet ws a runs; count = omega arith; behind = behind; within = λ ok. let e : most ≡ most - 0 = omega arith in subst (λ (n : ℕ). Within n (ask_left a)) e (w ok) }
 
 pub going_more : (ws : List ℕ) (a : Ask) (most i : ℕ) (ws1 ws2 : List ℕ) (b c : Ask) → AskGoing ws a most i ws1 b → AskStep ws1 b ws2 c None → AskGoing ws a most (i + 1) ws2 c
 going_more ws a most i ws1 ws2 b c h s = let v : ℕ = found (ask_next b) ws1 in let runs : b.stage ≢ AskRest = h.steps.stops in record {
   steps = more ws ws1 ws2 a b c None h.steps (step_goes ws1 b ws2 c None runs s);
+  count = let n = h.count in let m = step_counts ws1 b ws2 c None s in omega (arith, n, m);
   behind = subst (λ (x : Ask). x.stage ≢ LookWord) (sym s.machine) (fed_behind b v runs);
   within = λ ok. let e : most - i - 1 ≡ most - (i + 1) = omega arith in subst (λ (n : ℕ). Within n (ask_left c)) e (subst (λ (x : Ask). Within (most - i - 1) (ask_left x)) (sym s.machine) (rest_of (most - i) b v s.right runs (sym s.told_is) (h.within s.right)));
 }
@@ -241,6 +297,9 @@ going_more ws a most i ws1 ws2 b c h s = let v : ℕ = found (ask_next b) ws1 in
 -- the last step of a run
 pub going_ends : (ws : List ℕ) (a : Ask) (most i : ℕ) (ws1 ws2 : List ℕ) (b c : Ask) (o : AskOutcome) → AskGoing ws a most i ws1 b → AskStep ws1 b ws2 c (Some o) → AskSteps ws a ws2 c (Some o)
 going_ends ws a most i ws1 ws2 b c o h s = more ws ws1 ws2 a b c (Some o) h.steps (step_goes ws1 b ws2 c (Some o) h.steps.stops s)
+
+pub going_counts : (ws : List ℕ) (a : Ask) (most i : ℕ) (ws1 ws2 : List ℕ) (b c : Ask) (o : AskOutcome) → i < most → AskGoing ws a most i ws1 b → AskStep ws1 b ws2 c (Some o) → c.steps ≤ a.steps + most
+going_counts ws a most i ws1 ws2 b c o lt h s = let n = h.count in let m = step_counts ws1 b ws2 c (Some o) s in omega (arith, lt, n, m)
 
 pub going_sees : (ws : List ℕ) (a : Ask) (most i : ℕ) (ws1 ws2 : List ℕ) (b c : Ask) (o : AskOutcome) → AskGoing ws a most i ws1 b → AskStep ws1 b ws2 c (Some o) → o ≢ Clear
 going_sees ws a most i ws1 ws2 b c o h s e = h.behind ((clear_told b (found (ask_next b) ws1)).0 (sym s.told_is ∙ ap Some e)).0
@@ -289,3 +348,14 @@ look_steps a c d ws ws' o h k = more ws ws ws' (ask_looking a) c d (Some o) h k
 
 pub look_long : (a c : Ask) (ws : List ℕ) (o : Option AskOutcome) → AskSteps ws (ask_looking a) ws c o → length ws ≡ 8 + block_of a.wiring → length ws ≡ 8 + block_of c.wiring
 look_long a c ws o h long = long ∙ ap (λ (w : Wiring). 8 + block_of w) (sym h.wiring)
+
+-- ---- how many steps a look takes
+
+pub first_counts : (a b c : Ask) (v : ℕ) → b ≡ ask_looking a → c ≡ ask_fed b v → c.steps ≤ a.steps + 1
+first_counts a b c v e k = let x : Ask = ask_looking a in let n = count_more x v in let m : (ask_fed_at LookWord x v).steps ≡ a.steps = fed_steps LookWord x v in
+    let s : c.steps ≡ (ask_fed x v).steps = ap (λ (y : Ask). y.steps) (k ∙ ap (λ (y : Ask). ask_fed y v) e) in omega (arith, n, m, s)
+
+pub look_counts : (a c d : Ask) (n : ℕ) (o : AskOutcome) → o ≢ Clear → c.steps ≤ a.steps + 1 → n ≡ block_of c.wiring → c.wiring ≡ a.wiring → d.steps ≤ c.steps + (n + 5) → d.steps ≤ a.steps + look_most (block_of a.wiring) o
+look_counts a c d n Clear sees first e same rest = absurd (sees refl)
+look_counts a c d n Posted sees first e same rest = let m : n ≡ block_of a.wiring = e ∙ ap block_of same in omega (arith, first, rest, m)
+look_counts a c d n (Drained x) sees first e same rest = let m : n ≡ block_of a.wiring = e ∙ ap block_of same in omega (arith, first, rest, m)

@@ -1,6 +1,10 @@
+pub mod AskFeeds
 pub mod AskRuns
+pub mod AnswerFeeds
 pub mod AnswerRuns
 pub mod Standings
 pub mod Tellings
 pub mod Polls
+pub mod Counting
 pub mod Calls
+pub mod Working

@@ -6,9 +6,9 @@ use Rattle.pcc_history.specs.Devices.{Device}
 use Rattle.pcc_steps.specs.Agree.{flying}
 use Rattle.channel_turns.specs.ChannelRuns.{journal_limit}
 use Rattle.channel_turns.specs.EndsStates.{Awaited, EndsState, Looked, Sent, Turned, awaited, awaited_by, count_waiting, drained, executed_in, is_flying, looked, rings, turned}
-use Rattle.channel_turns.specs.declared.outcome.Look.{Look}
-use Rattle.channel_turns.specs.declared.outcome.Look.TheVariants as look
-use Rattle.channel_turns.specs.declared.outcome.Turn.{Turn}
+use Rattle.channel_core.specs.declared.answers.Look.{Look}
+use Rattle.channel_core.specs.declared.answers.Look.TheVariants as look
+use Rattle.channel_core.specs.declared.answers.Turn.{Turn}
 use Rattle.channel_turns.proofs.Tellings.{looked_clear}
 
 unexecuted : (b : Bool) → not b ≡ true → b ≡ false
@@ -110,6 +110,16 @@ module _ (exec : Device) where
       e ∙ (at_once s p.0 1 same (omega (arith, free))
       ∙ (ap (λ (z : EndsState). record { now = record (drained exec p.0 z) { hold = 0; looks = z.looks + z.hold }; place = Some (length z.records) }) h.is
       ∙ ((λ j. record { now = record (drained exec p.0 old) { hold = 0; looks = sum j }; place = Some (length old.records) }) ∙ sym (at_once old p.0 polls p.1 (omega (arith, all, lt))))))
+
+  -- where the reply comes, the hold has run down
+  pub going_hold : (old s t : EndsState) (i place : ℕ) → rings old.sent ≡ true → Going old i s → record { now = t; place = Some place } ≡ awaited exec 1 s → old.hold ≡ i
+  going_hold old s t i place ring h e = let p = rung old ring in let same : s.sent ≡ Some p.0 = ap (λ (z : EndsState). z.sent) h.is ∙ p.1 in
+      let free : s.hold ≡ 0 = some_or (nat_lt s.hold 1) s p.0 place same refl (ap (λ (a : Awaited exec). a.place) (sym e)) in
+      let left : s.hold ≡ old.hold - i = ap (λ (z : EndsState). z.hold) h.is in let most = h.held in omega (arith, free, left, most)
+
+  -- the wiring stays
+  pub going_wiring : (old s : EndsState) (i : ℕ) → Going old i s → s.wiring ≡ old.wiring
+  going_wiring old s i h = ap (λ (z : EndsState). z.wiring) h.is
 
   pub going_stops : (old s : EndsState) (i polls : ℕ) → rings old.sent ≡ true → i ≤ polls → polls ≤ i → Going old i s → record { now = s; place = None } ≡ awaited exec polls old
   going_stops old s i polls ring le ge h = let p = rung old ring in let same : i ≡ polls = omega (arith, le, ge) in let most = h.held in

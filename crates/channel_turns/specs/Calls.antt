@@ -1,23 +1,41 @@
 -- A channel that is called in one thread, and what a call makes of it.
-use Rattle.std.specs.Prelude.{◌≡◌, ◌≤◌, ℕ, ◌+◌, ◌-◌, ◌^◌, min, true, false, List, length, Option, Some, None, Result, Ok, OnOk}
+use Rattle.std.specs.Prelude.{◌≡◌, ◌≤◌, ℕ, ◌+◌, ◌-◌, ◌*◌, ◌^◌, [], min, true, false, List, length, Option, Some, None, Result, Ok, OnOk}
 use Rattle.pcc_history.specs.Devices.{Device}
 use Rattle.pcc_journal.specs.declared.text.JournalHead.{JournalHead}
 use Rattle.channel_turns.specs.ChannelRuns.{Call, ChannelStart, ChannelState, InFlight, ScriptClock, answer_call, fresh, post_call}
 use Rattle.channel_turns.specs.EndsStates.{EndsState, Sent, is_lost, start_of}
 use Rattle.channel_turns.specs.Outcomes.{IsPlaced, StandsFor}
 use Rattle.pcc_io.specs.declared.items.NoMemory.{NoMemory}
-use Rattle.channel_turns.specs.declared.outcome.CallRefusal.{CallRefusal}
-use Rattle.channel_turns.specs.declared.outcome.CallRefusal.TheVariants as refusal
+use Rattle.channel_core.specs.declared.answers.CallRefusal.{CallRefusal}
+use Rattle.channel_core.specs.declared.answers.CallRefusal.TheVariants as refusal
+use Rattle.pcc_journal.specs.declared.note.Note.{Note}
+use Rattle.pcc_steps.specs.declared.wiring.Wiring.{Wiring}
+use Rattle.pcc_steps.specs.Wires.{block_of}
+use Rattle.channel_turns.specs.Counts.{Counts, Spent}
+use Rattle.channel_turns.specs.Seeing.{EndsSeen, nothing_spent}
 use Rattle.channel_turns.specs.declared.outcome.Outcome.{Outcome}
 use Rattle.channel_turns.specs.declared.outcome.Outcome.TheVariants as outcome
+
+-- what a channel has done, of which no reply speaks
+pub record Efforts : Type 0 where
+  -- looks that saw clear, turns, and word steps of the asking end
+  pub counts : Counts
+  -- the looks that saw clear since the budget was set or the last command was posted, and the looks that are allowed
+  pub looks : ℕ
+  pub budget : ℕ
+  -- the notes beside the records, and that of the command in flight
+  pub notes : List Note
+  pub note : Option Note
 
 -- what stays of an opened subspace, but for the meaning of its device, and what changes
 pub record OpenChannel : Type 0 where
   pub head : JournalHead
+  pub wiring : Wiring
   pub clock : ScriptClock
   pub state : List ℕ
   pub opening : List ℕ
   pub now : ChannelState
+  pub efforts : Efforts
 
 abbrev pub flight_of : Option Sent → ℕ → Option InFlight
 flight_of None hold = None
@@ -26,8 +44,15 @@ flight_of (Some c) hold = Some (record { command = c.command; left = hold })
 abbrev pub now_of : EndsState → ChannelState
 now_of s = record { object = s.object; records = s.records; in_flight = flight_of s.sent s.hold; taken = s.taken; added = s.added }
 
-abbrev pub open_channel : EndsState → OpenChannel
-open_channel s = record { head = s.head; clock = s.clock; state = s.first; opening = s.opening; now = now_of s }
+abbrev pub note_in : Option Sent → Option Note
+note_in None = None
+note_in (Some c) = Some c.note
+
+abbrev pub efforts_of : EndsSeen → Efforts
+efforts_of e = let s = e.state in record { counts = e.counts; looks = s.looks; budget = s.budget; notes = s.notes; note = note_in s.sent }
+
+abbrev pub open_channel : EndsSeen → OpenChannel
+open_channel e = let s = e.state in record { head = s.head; wiring = s.wiring; clock = s.clock; state = s.first; opening = s.opening; now = now_of s; efforts = efforts_of e }
 
 -- between two calls a command in flight was given up, and is not executed yet
 abbrev pub IsLate : Option Sent → Type 0
@@ -37,14 +62,75 @@ IsLate (Some c) = (c.executed ≡ false) × (is_lost c ≡ true)
 abbrev pub start_by : Device → OpenChannel → ChannelStart
 start_by exec c = record { head = c.head; clock = c.clock; device = exec; state = c.state; opening = c.opening }
 
--- what became of a call stands for its answer, which leaves the channel as it is
+-- what became of a call stands for its answer, which leaves the channel as it is, but for what the channel has done
 pub record IsAnswered (exec : Device) (old : OpenChannel) (call : Call) (new : OpenChannel) (outcome : Outcome) : Type 0 where
   pub told : let a = answer_call (start_by exec old) call old.now in StandsFor a.now.records outcome a.reply
-  pub left : new ≡ record old { now = (answer_call (start_by exec old) call old.now).now }
+  pub left : new ≡ record old { now = (answer_call (start_by exec old) call old.now).now; efforts = new.efforts }
+
+-- ---- what a call does
+
+-- the looks that saw an earlier command incomplete before it was drained, and the turns that were made for it
+abbrev pub earlier_looks : Option InFlight → ℕ
+earlier_looks None = 0
+earlier_looks (Some p) = p.left
+
+abbrev pub earlier_turns : Option InFlight → ℕ
+earlier_turns None = 0
+earlier_turns (Some p) = p.left + 1
+
+-- those for the call's own command
+abbrev pub own_looks : Call → Outcome → ℕ
+own_looks call (outcome.Done place) = call.hold
+own_looks call (outcome.TimedOut looks) = call.polls
+own_looks call _ = 0
+
+abbrev pub own_turns : Call → Outcome → ℕ
+own_turns call (outcome.Done place) = call.hold + 1
+own_turns call (outcome.TimedOut looks) = call.polls
+own_turns call _ = 0
+
+-- the looks that saw clear in a call, and its turns, by what became of it
+abbrev pub clear_looks : Option InFlight → Call → Outcome → ℕ
+clear_looks earlier call (outcome.BadCode code) = 0
+clear_looks earlier call (outcome.TooLong len room) = 0
+clear_looks earlier call outcome.JournalFull = 0
+clear_looks earlier call (outcome.StillPending looks) = call.polls
+clear_looks earlier call o = earlier_looks earlier + own_looks call o
+
+abbrev pub turns_made : Option InFlight → Call → Outcome → ℕ
+turns_made earlier call (outcome.BadCode code) = 0
+turns_made earlier call (outcome.TooLong len room) = 0
+turns_made earlier call outcome.JournalFull = 0
+turns_made earlier call (outcome.StillPending looks) = call.polls
+turns_made earlier call o = earlier_turns earlier + own_turns call o
+
+-- a call that ends with a command incomplete has made all looks that it was allowed, and each saw clear
+abbrev pub HasLooked : ℕ → Efforts → Outcome → Type 0
+HasLooked polls new (outcome.TimedOut looks) = (new.looks ≡ polls) × (new.budget ≡ polls)
+HasLooked polls new (outcome.StillPending looks) = (new.looks ≡ polls) × (new.budget ≡ polls)
+HasLooked polls new _ = Unit {0}
+
+pub record HasWorked (call : Call) (old new : OpenChannel) (o : Outcome) : Type 0 where
+  pub counts : Spent (clear_looks old.now.in_flight call o) (turns_made old.now.in_flight call o) (2 * call.polls + 3 * block_of old.wiring + 24) old.efforts.counts new.efforts.counts
+  pub looks : HasLooked call.polls new.efforts o
+
+-- what a call without an earlier command ends with: done, timed out, or too soon
+abbrev pub EndsByPost : Outcome → Type 0
+EndsByPost (outcome.Done place) = Unit {0}
+EndsByPost (outcome.TimedOut looks) = Unit {0}
+EndsByPost (outcome.TooSoon now earliest) = Unit {0}
+EndsByPost _ = ⊥
+
+-- nothing was in flight
+pub record HasPosted (call : Call) (old new : EndsSeen) (o : Outcome) : Type 0 where
+  pub counts : Spent (own_looks call o) (own_turns call o) (call.polls + 2 * block_of old.state.wiring + 13) old.counts new.counts
+  pub looks : HasLooked call.polls (efforts_of new) o
+  pub ends : EndsByPost o
 
 -- what stays
 pub record Stays (old new : EndsState) : Type 0 where
   pub head : new.head ≡ old.head
+  pub wiring : new.wiring ≡ old.wiring
   pub clock : new.clock ≡ old.clock
   pub first : new.first ≡ old.first
   pub opening : new.opening ≡ old.opening
@@ -63,13 +149,23 @@ IsRefused (refusal.BadCode code) result = result ≡ Ok (outcome.BadCode code)
 IsRefused (refusal.TooLong len room) result = result ≡ Ok (outcome.TooLong len room)
 IsRefused refusal.JournalFull result = result ≡ Ok outcome.JournalFull
 IsRefused refusal.NoMemory result = OnOk result ⊥
+IsRefused (refusal.StillPending looks) result = result ≡ Ok (outcome.StillPending looks)
 IsRefused (refusal.TooSoon now earliest) result = result ≡ Ok (outcome.TooSoon now earliest)
+IsRefused (refusal.TimedOut looks) result = result ≡ Ok (outcome.TimedOut looks)
 
 -- nothing was asked yet
-abbrev pub new_channel : Device → JournalHead → ℕ → ℕ → List ℕ → List ℕ → OpenChannel
-new_channel exec head start step state opening =
+abbrev pub new_channel : Device → JournalHead → Wiring → ℕ → ℕ → List ℕ → List ℕ → OpenChannel
+new_channel exec head wiring start step state opening =
     let clock : ScriptClock = record { start = start; step = step } in
-    record { head = head; clock = clock; state = state; opening = opening; now = fresh (record { head = head; clock = clock; device = exec; state = state; opening = opening }) }
+    record {
+      head = head;
+      wiring = wiring;
+      clock = clock;
+      state = state;
+      opening = opening;
+      now = fresh (record { head = head; clock = clock; device = exec; state = state; opening = opening });
+      efforts = record { counts = nothing_spent; looks = 0; budget = 0; notes = []; note = None };
+    }
 
 -- the clock is moved up
 abbrev pub waited : ℕ → OpenChannel → OpenChannel

@@ -1,6 +1,6 @@
 -- A channel in the run of `step`: what it is, as one thread sees it, and what a call is answered and how it leaves the channel.
 -- There is no machine, no word and no look in it.
-use Rattle.std.specs.Prelude.{◌&&◌, ℕ, ◌+◌, ◌-◌, nat_lt, nat_le, Bool, true, false, if◌then◌else◌, List, [], ◌∷◌, ◌++◌, length, Option, Some, None}
+use Rattle.std.specs.Prelude.{ℕ, ◌+◌, ◌-◌, nat_lt, Bool, true, false, if◌then◌else◌, List, [], ◌∷◌, ◌++◌, length, Option, Some, None}
 use Rattle.pcc_causes.specs.Clock.{line_reading}
 use Rattle.pcc_history.specs.Devices.{Device}
 use Rattle.pcc_history.specs.Channel.{Exchange, Object, exchange_of, object_after, over}
@@ -10,6 +10,9 @@ use Rattle.pcc_journal.specs.declared.record.Record.{Record}
 use Rattle.pcc_journal.specs.declared.record.Pending.{Pending}
 use Rattle.pcc_journal.specs.declared.text.JournalHead.{JournalHead}
 use Rattle.pcc_journal.specs.Records.{times_of}
+use Rattle.channel_core.specs.Refusals as refusals
+use Rattle.channel_core.specs.declared.answers.CallRefusal.{CallRefusal}
+use Rattle.channel_core.specs.declared.answers.CallRefusal.TheVariants as refusal
 use Rattle.channel_turns.specs.Replies.{Reply, Done, BadCode, TooLong, JournalFull, StillPending, TooSoon, TimedOut}
 
 -- ---- an opened subspace
@@ -83,17 +86,23 @@ pub record Answered : Type 0 where
   pub reply : Reply
   pub now : ChannelState
 
--- the generic header of the types 0 to 2 has a code of one byte
-abbrev pub has_byte_codes : ℕ → Bool
-has_byte_codes kind = nat_le kind 2
+-- what is answered where a call is refused
+abbrev pub reply_to : CallRefusal → Option Reply
+reply_to (refusal.BadCode code) = Some (BadCode code)
+reply_to (refusal.TooLong len room) = Some (TooLong len room)
+reply_to refusal.JournalFull = Some JournalFull
+reply_to refusal.NoMemory = None
+reply_to (refusal.StillPending looks) = Some (StillPending looks)
+reply_to (refusal.TooSoon now earliest) = Some (TooSoon now earliest)
+reply_to (refusal.TimedOut looks) = Some (TimedOut looks)
+
+abbrev pub replied : Option CallRefusal → Option Reply
+replied None = None
+replied (Some e) = reply_to e
 
 -- a call that is refused by itself, or by a full journal
 abbrev pub refusal_of : JournalHead → Call → ChannelState → Option Reply
-refusal_of head call now =
-    if has_byte_codes head.kind && nat_lt 255 call.code then Some (BadCode call.code)
-    else if nat_lt head.room (length call.bytes) then Some (TooLong (length call.bytes) head.room)
-    else if nat_le journal_limit (length now.records + count_in_flight now.in_flight) then Some JournalFull
-    else None
+refusal_of head call now = replied (refusals.refusal_of head.kind head.room call.code (length call.bytes) (length now.records + count_in_flight now.in_flight))
 
 abbrev pub exchange_with : ChannelStart → Pending → ChannelState → Exchange
 exchange_with start command now = exchange_of start.device start.head.reports now.object.state command.code command.input

@@ -1,5 +1,5 @@
 -- Both ends of a channel in one thread that calls them in turn, and what each call makes of them. There is no machine and no word in it.
-use Rattle.std.specs.Prelude.{◌≡◌, ◌<◌, ◌≤◌, Result, IsErrOf, MatchResult, ◌==◌, ℕ, ◌+◌, ◌-◌, ◌^◌, min, nat_lt, nat_le, Bool, true, false, not, ◌&&◌, if◌then◌else◌, List, [], ◌∷◌, ◌++◌, length, Option, Some, None}
+use Rattle.std.specs.Prelude.{◌≡◌, ◌<◌, ◌≤◌, Result, IsErrOf, MatchResult, ◌==◌, ℕ, ◌+◌, ◌-◌, ◌^◌, min, nat_lt, Bool, true, false, not, if◌then◌else◌, List, [], ◌∷◌, ◌++◌, length, Option, Some, None}
 use Rattle.pcc_causes.specs.Clock.{line_reading}
 use Rattle.pcc_history.specs.Devices.{Device}
 use Rattle.pcc_history.specs.Channel.{Exchange, Object, exchange_of, object_after, over}
@@ -9,31 +9,40 @@ use Rattle.pcc_journal.specs.declared.record.Pending.{Pending}
 use Rattle.pcc_journal.specs.declared.text.JournalHead.{JournalHead}
 use Rattle.pcc_journal.specs.Records.{times_of}
 use Rattle.pcc_steps.specs.Agree.{flying}
-use Rattle.channel_turns.specs.ChannelRuns.{ChannelStart, ScriptClock, has_byte_codes, journal_limit, record_of}
-use Rattle.channel_turns.specs.declared.outcome.CallRefusal.{CallRefusal}
-use Rattle.channel_turns.specs.declared.outcome.CallRefusal.TheVariants as refusal
-use Rattle.channel_turns.specs.declared.outcome.Look.{Look}
-use Rattle.channel_turns.specs.declared.outcome.Look.TheVariants as look
-use Rattle.channel_turns.specs.declared.outcome.Turn.{Turn}
-use Rattle.channel_turns.specs.declared.outcome.Turn.TheVariants as turn
+use Rattle.pcc_journal.specs.declared.note.Note.{Note}
+use Rattle.pcc_steps.specs.declared.wiring.Wiring.{Wiring}
+use Rattle.channel_core.specs.Readings.{counted}
+use Rattle.channel_core.specs.Readying.{ReadyCommand}
+use Rattle.channel_core.specs.Refusals.{refusal_of}
+use Rattle.channel_core.specs.Sendings.{first_looks}
+use Rattle.channel_core.specs.declared.answers.CallRefusal.{CallRefusal}
+use Rattle.channel_core.specs.declared.answers.CallRefusal.TheVariants as refusal
+use Rattle.channel_core.specs.declared.answers.Look.{Look}
+use Rattle.channel_core.specs.declared.answers.Look.TheVariants as look
+use Rattle.channel_core.specs.declared.answers.Turn.{Turn}
+use Rattle.channel_core.specs.declared.answers.Turn.TheVariants as turn
+use Rattle.channel_turns.specs.ChannelRuns.{ChannelStart, ScriptClock, journal_limit, record_of}
 
 -- a command in flight
 pub record Sent : Type 0 where
   pub command : Pending
+  -- its note so far: the looks are those after which its caller first gave it up, 0 where no caller did
+  pub note : Note
   -- the device has executed it, and its reply waits
   pub executed : Bool
-  -- the looks after which its caller first gave it up, 0 where no caller did
-  pub lost : ℕ
 
 pub record EndsState : Type 0 where
-  -- what stays: the head of the journal, the clock, the device's state at the start and the communication space at the start
+  -- what stays: the head of the journal, the wiring, the clock, the device's state at the start and the communication space at the start
   pub head : JournalHead
+  pub wiring : Wiring
   pub clock : ScriptClock
   pub first : List ℕ
   pub opening : List ℕ
   -- the channel behind the records: a command in flight is not in it, executed or not
   pub object : Object
   pub records : List Record
+  -- beside each record
+  pub notes : List Note
   pub sent : Option Sent
   -- the readings that the clock gave, and the time that was added to it
   pub taken : ℕ
@@ -47,14 +56,16 @@ pub record EndsState : Type 0 where
   pub spare : ℕ
 
 -- nothing was asked yet
-abbrev pub new_ends : JournalHead → ℕ → ℕ → List ℕ → List ℕ → EndsState
-new_ends head start step state opening = record {
+abbrev pub new_ends : JournalHead → Wiring → ℕ → ℕ → List ℕ → List ℕ → EndsState
+new_ends head wiring start step state opening = record {
   head = head;
+  wiring = wiring;
   clock = record { start = start; step = step };
   first = state;
   opening = opening;
   object = record { state = state; space = opening };
   records = [];
+  notes = [];
   sent = None;
   taken = 0;
   added = 0;
@@ -70,7 +81,7 @@ abbrev pub loss_of : ℕ → Bool
 loss_of lost = nat_lt 0 lost
 
 abbrev pub is_lost : Sent → Bool
-is_lost c = loss_of c.lost
+is_lost c = loss_of c.note.looks
 
 abbrev pub is_flying : Option Sent → Bool
 is_flying None = false
@@ -96,32 +107,13 @@ count_waiting (Some c) = flying c.executed
 abbrev pub reading_of : EndsState → ℕ
 reading_of s = line_reading s.clock.start s.clock.step s.added s.taken
 
--- the count of readings stands still at its end
-abbrev pub counted : ℕ → ℕ
-counted n = min (n + 1) (2 ^ 64 - 1)
-
 -- the least reading for the next post
 abbrev pub earliest_post : EndsState → ℕ
 earliest_post s = earliest_of s.head.limits (times_of s.records)
 
 -- ---- a call is made ready
 
--- a command with the memory that it takes
-pub record ReadyState : Type 0 where
-  pub kind : ℕ
-  pub room : ℕ
-  pub code : ℕ
-  pub bytes : List ℕ
-
--- what refuses a command of this code and so many bytes behind so many posts
-abbrev pub ready_refusal : JournalHead → ℕ → ℕ → ℕ → Option CallRefusal
-ready_refusal head code len posts =
-    if has_byte_codes head.kind && nat_lt 255 code then Some (refusal.BadCode code)
-    else if nat_lt head.room len then Some (refusal.TooLong len head.room)
-    else if nat_le journal_limit posts then Some refusal.JournalFull
-    else None
-
-pub record Readied (old new : EndsState) (code : ℕ) (bytes : List ℕ) (r : ReadyState) : Type 0 where
+pub record Readied (old new : EndsState) (code : ℕ) (bytes : List ℕ) (r : ReadyCommand) : Type 0 where
   pub command : r ≡ record { kind = old.head.kind; room = old.head.room; code = code; bytes = bytes }
   -- the memory for its record is there, beside that for the command in flight
   pub spare : count_flying old.sent < new.spare
@@ -129,12 +121,12 @@ pub record Readied (old new : EndsState) (code : ℕ) (bytes : List ℕ) (r : Re
   pub rest : new ≡ record old { spare = new.spare }
 
 -- it is refused, or the memory was taken or ran out
-abbrev pub ReadiedBy : Option CallRefusal → EndsState → ℕ → List ℕ → EndsState → Result ReadyState CallRefusal → Type 0
+abbrev pub ReadiedBy : Option CallRefusal → EndsState → ℕ → List ℕ → EndsState → Result ReadyCommand CallRefusal → Type 0
 ReadiedBy (Some e) old code bytes new result = IsErrOf result e × (new ≡ old)
 ReadiedBy None old code bytes new result = MatchResult result (Readied old new code bytes) (λ e. (e ≡ refusal.NoMemory) × (new ≡ old))
 
-abbrev pub IsReadied : EndsState → ℕ → List ℕ → EndsState → Result ReadyState CallRefusal → Type 0
-IsReadied old code bytes new result = ReadiedBy (ready_refusal old.head code (length bytes) (length old.records + count_flying old.sent)) old code bytes new result
+abbrev pub IsReadied : EndsState → ℕ → List ℕ → EndsState → Result ReadyCommand CallRefusal → Type 0
+IsReadied old code bytes new result = ReadiedBy (refusal_of old.head.kind old.head.room code (length bytes) (length old.records + count_flying old.sent)) old code bytes new result
 
 -- ---- what the calls make of it
 
@@ -145,20 +137,21 @@ abbrev pub read_once : EndsState → EndsState
 read_once s = record s { taken = counted s.taken }
 
 -- the next reading is the post of the command
-abbrev pub posted : ℕ → ReadyState → EndsState → EndsState
+abbrev pub posted : ℕ → ReadyCommand → EndsState → EndsState
 posted caller r s = record s {
-  sent = Some (record { command = record { caller = caller; code = r.code; input = over s.object.space r.bytes; post = reading_of s }; executed = false; lost = 0 });
+  sent = Some (record {
+    command = record { caller = caller; code = r.code; input = over s.object.space r.bytes; post = reading_of s };
+    note = record { post_at = s.taken; done_at = 0; looks = 0 };
+    executed = false;
+  });
   taken = counted s.taken;
   looks = 0;
 }
 
-abbrev pub first_loss : ℕ → ℕ → ℕ
-first_loss lost looks = if loss_of lost then lost else looks
-
 -- the first looks of a caller that gave the command up are kept
 abbrev pub lost_after : Option Sent → ℕ → Option Sent
 lost_after None looks = None
-lost_after (Some c) looks = Some (record c { lost = first_loss c.lost looks })
+lost_after (Some c) looks = Some (record c { note = record c.note { looks = first_looks c.note.looks looks } })
 
 abbrev pub gave_up : EndsState → EndsState
 gave_up s = record s { sent = lost_after s.sent s.looks }
@@ -204,6 +197,7 @@ module _ (exec : Device) where
   drained c s = record s {
     object = object_after exec s.object.state c.command.code c.command.input;
     records = s.records ++ record_of c.command (reply_of s c.command) (reading_of s) (is_lost c) ∷ [];
+    notes = s.notes ++ record c.note { done_at = s.taken } ∷ [];
     sent = None;
     taken = counted s.taken;
     spare = s.spare - 1;

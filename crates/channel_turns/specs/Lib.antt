@@ -2,7 +2,9 @@ pub mod Replies
 pub mod ChannelRuns
 pub mod Outcomes
 pub mod EndsStates
+pub mod Counts
 pub mod WordRuns
-pub mod Readying
 pub mod Standing
+pub mod Links
+pub mod Seeing
 pub mod Calls

@@ -11,8 +11,7 @@ use Rattle.pcc_steps.specs.declared.answer.AnswerOutcome.{AnswerOutcome}
 use Rattle.pcc_steps.specs.declared.answer.AnswerOutcome.TheVariants.{Idle, Served}
 use Rattle.pcc_steps.specs.Asking.{Ask, AskOk, ask_next, ask_fed, ask_told}
 use Rattle.pcc_steps.specs.Answering.{Answer, AnswerOk, answer_next, answer_fed, answer_told}
-use Rattle.pcc_steps.specs.Agree.{act, Asker, Answerer, Agree, done_after, settle}
-use Rattle.channel_plain.specs.Picks.{found}
+use Rattle.pcc_steps.specs.Agree.{act, found, Asker, Answerer, Agree, clears_after, done_after, settle}
 
 -- ---- the asking end
 
@@ -57,8 +56,8 @@ Stops (Some o) a = a.stage ≡ AskRest
 -- some word steps of a run, and what the last of them told
 pub record AskSteps (ws : List ℕ) (a : Ask) (ws' : List ℕ) (b : Ask) (told : Option AskOutcome) : Type 0 where
   -- whatever the other end did, the relation is kept
-  pub keeps : (exec : Device) (start : List ℕ) (done : List Exchange) (clears : ℕ) (y : Answerer) → Agree exec start ws (record { m = a; done = done; clears = clears }) y
-      → (n : ℕ) × Agree exec start ws' (record { m = b; done = done_after told done b; clears = n }) y
+  pub keeps : (exec : Device) (start : List ℕ) (x : Asker) (y : Answerer) → x.m ≡ a → Agree exec start ws x y
+      → Agree exec start ws' (record x { m = b; done = done_after told x.done b; clears = clears_after told x.clears }) y
   pub long : length ws' ≡ length ws
   pub wiring : b.wiring ≡ a.wiring
   pub code : b.code ≡ a.code
@@ -69,6 +68,12 @@ pub record AskSteps (ws : List ℕ) (a : Ask) (ws' : List ℕ) (b : Ask) (told :
   pub space : KeepsSpace told a.space b.space
   pub stops : Stops told b
   pub is_for : IsFor told a.in_flight
+
+-- the word steps of a look at most, for a block of so many words
+abbrev pub look_most : ℕ → AskOutcome → ℕ
+look_most block Clear = 1
+look_most block Posted = block + 6
+look_most block (Drained e) = block + 6
 
 -- ---- the answering end
 

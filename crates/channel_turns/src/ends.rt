@@ -1,59 +1,51 @@
-//! Both ends of a channel on a plain list of words, with the device, the journal and the clock. Each call of an end makes a whole run of its
+//! Both ends of a channel on a plain list of words, with the device, the history and the clock. Each call of an end makes a whole run of its
 //! machine; contracts see no machine and no word.
 
 ghost use Rattle.std.specs.Prelude.{◌≡◌, ◌≢◌, ◌≤◌, ◌<◌, ◌+◌, ℕ, true, false, None, length, IfOk, MatchResult};
 ghost use Rattle.std.specs.Option.{option_copied};
 ghost use Rattle.pcc_journal.specs.declared.reserved.TheConstants.{MAX_ITEMS};
-ghost use Rattle.pcc_steps.specs.Wires.{IsRight};
-ghost use Rattle.channel_turns.specs.EndsStates.{IsReadied, budgeted, command_of, count_flying, counted, drained, earliest_post, gave_up, is_flying, is_given_up, looked, new_ends, posted, read_once, reading_of, turned, waited};
-ghost use Rattle.channel_turns.specs.Standing.{IsHeadOf};
-ghost use Rattle.channel_turns.specs.declared.outcome.CallRefusal.TheVariants as refusal;
+ghost use Rattle.pcc_steps.specs.Wires.{IsRight, block_of};
+ghost use Rattle.channel_turns.specs.EndsStates.{IsReadied, budgeted, command_of, count_waiting, drained, earliest_post, gave_up, is_flying, is_given_up, looked, new_ends, posted, read_once, reading_of, turned, waited};
+ghost use Rattle.channel_turns.specs.Counts.{Spent};
+ghost use Rattle.channel_turns.specs.Seeing.{SpentByLook, nothing_spent};
+ghost use Rattle.channel_turns.specs.Standing.{IsHeadOf, sent_of};
+ghost use Rattle.channel_core.specs.declared.answers.CallRefusal.TheVariants as refusal;
 
-use crate::flight::{Flight, count_waiting, execute, lose};
-use crate::outcome::{CallRefusal, Look, Turn};
-use crate::ready::{Ready, fit};
-use crate::runs::{answer_run, look_run, post_run};
-use channel_plain::opening_words;
+use crate::link::Link;
+use channel_core::{CallRefusal, Caller, History, Look, Ready, Turn, make_ready, too_soon};
 use pcc_exec::Executor;
 use pcc_io::{Clock, LineClock, NoMemory};
-use pcc_journal::{Journal, JournalHead, MAX_ITEMS, Pending};
-use pcc_steps::{AnswerOutcome, AnswerState, AskOutcome, AskState, Wiring, ask_budget};
-use rate_limit::earliest;
+use pcc_journal::{Journal, JournalHead, MAX_ITEMS, Notes, Pending};
+use pcc_steps::{AnswerOutcome, AskOutcome, Wiring};
 use std::alloc::Global;
 use std::marker::Model;
 use std::snapshot::Snapshot;
 
-/// The greatest code that the generic header of types 0 to 2 can carry (ACPI 6.5, 14.2.1).
-const GREATEST_CODE: u32 = 255;
-
-/// The last of the types whose codes stand in the generic header.
-const LAST_GENERIC: u8 = 2;
-
-/// Both ends of a channel: its words, both machines, the device, the journal and the clock.
+/// Both ends of a channel: the words with both machines and the device, the history, and the clock.
 #[derive(Drop)]
 pub struct PlainEnds<E: Executor> {
     head: JournalHead,
-    words: Vec<u64>,
-    ask: AskState,
-    answer: AnswerState,
-    device: E,
-    first: Snapshot<E>,
-    opening: Snapshot<Vec<u8>>,
-    clock: LineClock,
-    journal: Journal,
-    flight: Option<Flight>,
+    link: Link<E>,
+    start: Snapshot<Link<E>>,
+    caller: Caller<LineClock>,
+    history: History,
+    // Whether the command in flight is executed.
+    executed: bool,
     hold: u32,
+    clears: u64,
+    turns: u64,
 }
 
 impl<E: Executor> Model for PlainEnds<E> {
     ghost use Rattle.channel_turns.specs.EndsStates.{EndsState};
-    ghost use Rattle.channel_turns.specs.Standing.{HasMemory, Stands, seen, sent_of};
+    ghost use Rattle.channel_turns.specs.Seeing.{EndsSeen, IsKept};
+    ghost use Rattle.channel_turns.specs.Standing.{Stands, seen, sent_of};
 
-    ghost Value = { EndsState };
+    ghost Value = { EndsSeen };
 
-    ghost view = { λ s. seen E.exec_of s.head s.clock (E.state s.first.value) s.opening.value.items (record { words = s.words.items; ask = s.ask; answer = s.answer; device = E.state s.device }) s.journal (sent_of s.flight) s.hold };
+    ghost view = { λ s. record { state = seen E.exec_of s.head s.caller.clock s.start.value.device s.start.value.ask.space s.link s.history s.executed s.hold; counts = record { clears = s.clears; turns = s.turns; steps = s.link.ask.steps } } };
 
-    ghost invariant = { λ s. Stands E.exec_of E.is_state E.room_of (record { words = s.words.items; ask = s.ask; answer = s.answer; device = E.state s.device }) (seen E.exec_of s.head s.clock (E.state s.first.value) s.opening.value.items (record { words = s.words.items; ask = s.ask; answer = s.answer; device = E.state s.device }) s.journal (sent_of s.flight) s.hold) × HasMemory s.flight s.journal.spare };
+    ghost invariant = { λ s. Stands E.exec_of s.head s.start.value.device s.start.value.ask.space E.is_state E.room_of s.link s.history.records (sent_of s.history.sent s.executed) × IsKept s.head s.caller.limits s.caller.clock s.caller.readings };
 }
 
 impl<E: Executor> PlainEnds<E> {
@@ -71,174 +63,173 @@ impl<E: Executor> PlainEnds<E> {
         requires head { IsHeadOf head wiring }
         requires room { E.room_of (E.state device) ≡ wiring.room }
         requires long { length opening.now ≡ wiring.room }
-        ensures { IfOk result (λ ends. ends ≡ new_ends head start step (E.state device) opening.now) }
+        ensures { IfOk result (λ ends. ends ≡ record { state = new_ends head wiring start step (E.state device) opening.now; counts = nothing_spent }) }
     {
-        device.room();
-        fit(opening);
-        let space = Vec::from_slice(alloc, opening)?;
-        let ask = AskState::new(alloc, wiring, opening)?;
-        let answer = AnswerState::new(alloc, wiring)?;
-        let words = opening_words(alloc, &wiring, opening)?;
-        let first = Snapshot::of(&device);
+        let link = Link::new(alloc, wiring, device, opening)?;
+        let start_link = Snapshot::of(&link);
         Ok(PlainEnds {
             head,
-            words,
-            ask,
-            answer,
-            device,
-            first,
-            opening: Snapshot::of(&space),
-            clock: LineClock::new(start, step),
-            journal: Journal::new(alloc),
-            flight: None,
+            link,
+            start: start_link,
+            caller: Caller::new(head.limits, LineClock::new(start, step)),
+            history: History::new(alloc),
+            executed: false,
             hold: 0,
+            clears: 0,
+            turns: 0,
         })
     }
 
     /// The head of the journal.
     pub fn head(&self) -> &JournalHead
-        ensures { result.now ≡ self.now.head }
+        ensures { result.now ≡ self.now.state.head }
     {
         &self.head
     }
 
     /// The records of the commands that were drained, in order.
     pub fn journal(&self) -> &Journal
-        ensures items { result.now.items ≡ self.now.records }
-        ensures spare { result.now.spare ≡ self.now.spare }
+        ensures items { result.now.items ≡ self.now.state.records }
+        ensures spare { result.now.spare ≡ self.now.state.spare }
+        ensures most { length result.now.items + result.now.spare ≤ MAX_ITEMS }
     {
-        &self.journal
+        self.history.journal()
+    }
+
+    /// The notes beside the records.
+    pub fn notes(&self) -> &Notes
+        ensures { result.now.items ≡ self.now.state.notes }
+    {
+        self.history.notes()
     }
 
     /// The command in flight.
     pub fn pending(&self) -> Option<&Pending>
-        ensures { option_copied result ≡ command_of self.now.sent }
+        ensures { option_copied result ≡ command_of self.now.state.sent }
     {
-        match &self.flight {
-            None => None,
-            Some(flight) => Some(&flight.command),
-        }
+        self.history.pending()
+    }
+
+    /// The space that came back last, at first the opening space.
+    pub fn space(&self) -> &[u8]
+        ensures { result.now ≡ self.now.state.object.space }
+    {
+        self.link.ask().space()
     }
 
     /// Whether a command is in flight: posted, and not yet drained.
     pub fn in_flight(&self) -> bool
-        ensures { result ≡ is_flying self.now.sent }
+        ensures { result ≡ is_flying self.now.state.sent }
     {
-        self.flight.is_some()
+        self.history.in_flight()
     }
 
     /// Whether a command is in flight that was given up.
     pub fn given_up(&self) -> bool
-        ensures { result ≡ is_given_up self.now.sent }
+        ensures { result ≡ is_given_up self.now.state.sent }
     {
-        match &self.flight {
-            None => false,
-            Some(flight) => flight.lost > 0,
-        }
+        self.history.given_up()
     }
 
     /// The turns of the answering end for which the next command is held.
     pub fn left(&self) -> u32
-        ensures { result ≡ self.now.hold }
+        ensures { result ≡ self.now.state.hold }
     {
         self.hold
     }
 
     /// Takes all memory of one more command: for its input, its reply and its record. A code above 255 on types 0 to 2, more bytes than the space
-    /// has, and a journal whose records and command in flight are 4,096 together are refused, in this order. All then stands.
+    /// has, and 4,096 posts are refused, in this order. All then stands.
     pub fn ready(&mut self, alloc: Global, code: u32, bytes: &[u8]) -> Result<Ready, CallRefusal>
-        ensures { IsReadied self.old code bytes.now self.new result }
+        ensures state { IsReadied self.old.state code bytes.now self.new.state result }
+        ensures counts { self.new.counts ≡ self.old.counts }
     {
-        let kind = self.head.kind;
-        let room = self.head.room;
-        if kind <= LAST_GENERIC && code > GREATEST_CODE {
-            return Err(CallRefusal::BadCode { code });
-        }
-        let len = bytes.len();
-        if len > room as usize {
-            return Err(CallRefusal::TooLong { len, room });
-        }
-        let flights = usize::from(self.in_flight());
-        if self.journal.len() + flights >= MAX_ITEMS {
-            return Err(CallRefusal::JournalFull);
-        }
-        let ready = match Ready::new(alloc, kind, room, code, bytes) {
-            Ok(ready) => ready,
-            Err(_) => return Err(CallRefusal::NoMemory),
-        };
-        match self.journal.reserve_for(flights + 1) {
-            Ok(()) => Ok(ready),
-            Err(_) => Err(CallRefusal::NoMemory),
-        }
+        make_ready(
+            &mut self.history,
+            alloc,
+            self.head.kind,
+            self.head.room,
+            code,
+            bytes,
+        )
     }
 
-    /// Sets the number of looks that are allowed, from 1 to 1,000,000, and forgets those that were made.
+    /// Sets the number of looks that are allowed, and forgets those that were made.
     pub fn budget(&mut self, polls: u32)
-        ensures { self.new ≡ budgeted polls self.old }
+        requires some { 0 < polls }
+        requires most { polls ≤ 1000000 }
+        ensures state { self.new.state ≡ budgeted polls self.old.state }
+        ensures counts { self.new.counts ≡ self.old.counts }
     {
-        ask_budget(&mut self.ask, polls);
+        self.link.budget(polls);
     }
 
     /// Posts a command that is made ready, at the next reading. Where that is below the earliest that the limits allow, it is too soon, and the
     /// clock alone has moved.
     pub fn post(&mut self, caller: u32, ready: Ready) -> Result<(), CallRefusal>
-        requires free { self.old.sent ≡ None }
-        requires kind { ready.kind ≡ self.old.head.kind }
-        requires room { ready.room ≡ self.old.head.room }
-        requires spare { 0 < self.old.spare }
-        ensures { MatchResult result
-            (λ _. (earliest_post self.old ≤ reading_of self.old) × (self.new ≡ posted caller ready self.old))
-            (λ e. (reading_of self.old < earliest_post self.old) × (e ≡ refusal.TooSoon (reading_of self.old) (earliest_post self.old)) × (self.new ≡ read_once self.old)) }
+        requires free { self.old.state.sent ≡ None }
+        requires budget { self.old.state.budget ≢ 0 }
+        requires kind { ready.kind ≡ self.old.state.head.kind }
+        requires room { ready.room ≡ self.old.state.head.room }
+        requires spare { 0 < self.old.state.spare }
+        ensures state { MatchResult result
+            (λ _. (earliest_post self.old.state ≤ reading_of self.old.state) × (self.new.state ≡ posted caller ready self.old.state))
+            (λ e. (reading_of self.old.state < earliest_post self.old.state) × (e ≡ refusal.TooSoon (reading_of self.old.state) (earliest_post self.old.state)) × (self.new.state ≡ read_once self.old.state)) }
+        ensures counts { Spent 0 0 (block_of self.old.state.wiring + 7) self.old.counts self.new.counts }
     {
-        let now = self.clock.now();
-        let earliest = earliest(&self.head.limits, self.journal.times());
-        if u128::from(now) < earliest {
-            return Err(CallRefusal::TooSoon { now, earliest });
+        let at = self.caller.clock.now();
+        let reading = self.caller.count(at);
+        if let Some(refusal) = too_soon(&self.caller.limits, self.history.journal().times(), at) {
+            return Err(refusal);
         }
-        self.journal.len();
-        fit(ready.bytes());
-        post_run(&mut self.words, &mut self.ask, ready.code(), ready.bytes());
-        self.flight = Some(ready.fly(caller, now, self.ask.space()));
+        self.link.post(ready.code(), ready.bytes());
+        let flight = ready.fly(caller, &reading, self.link.ask().space());
+        self.history.mark_post(flight);
+        self.executed = false;
         Ok(())
     }
 
     /// Makes one look for the command in flight. Where it is complete, the reply is taken at the next reading and recorded.
     pub fn look(&mut self) -> Look
-        requires flies { is_flying self.old.sent ≡ true }
-        requires left { self.old.looks < self.old.budget }
-        ensures { record { now = self.new; told = result } ≡ looked E.exec_of self.old }
+        requires flies { is_flying self.old.state.sent ≡ true }
+        requires left { self.old.state.looks < self.old.state.budget }
+        ensures state { record { now = self.new.state; told = result } ≡ looked E.exec_of self.old.state }
+        ensures counts { SpentByLook (block_of self.old.state.wiring) result self.old.counts self.new.counts }
     {
-        match look_run(&mut self.words, &mut self.ask) {
-            AskOutcome::Clear => Look::Clear {
-                looks: self.ask.looks(),
-            },
-            AskOutcome::Drained { error } => match self.flight.take() {
-                None => unreachable!(),
-                Some(flight) => {
-                    let done = self.clock.now();
-                    let place = self.journal.len() as u32;
-                    let late = flight.lost > 0;
-                    let entry = flight.recorded(error, self.ask.space(), done);
-                    self.journal.append(entry);
-                    Look::Drained { place, late }
+        match self.link.look() {
+            AskOutcome::Clear => {
+                self.clears = self.clears.saturating_add(1);
+                Look::Clear {
+                    looks: self.link.ask().looks(),
                 }
-            },
+            }
+            AskOutcome::Drained { error } => {
+                let at = self.caller.clock.now();
+                let done = self.caller.count(at);
+                let late = self.history.given_up();
+                let place = self
+                    .history
+                    .mark_done(error, self.link.ask().space(), &done);
+                Look::Drained { place, late }
+            }
             AskOutcome::Posted => unreachable!(),
         }
     }
 
     /// Gives the command in flight up, once the budget is spent: its record will say that it was late.
     pub fn give_up(&mut self)
-        requires flies { is_flying self.old.sent ≡ true }
-        requires spent { self.old.looks ≡ self.old.budget }
-        ensures { self.new ≡ gave_up self.old }
+        requires flies { is_flying self.old.state.sent ≡ true }
+        requires spent { self.old.state.looks ≡ self.old.state.budget }
+        ensures state { self.new.state ≡ gave_up self.old.state }
+        ensures counts { self.new.counts ≡ self.old.counts }
     {
-        lose(&mut self.flight, self.ask.looks());
+        self.history.mark_late(self.link.ask().looks());
     }
 
     /// Holds the next command for so many turns of the answering end.
     pub fn hold(&mut self, turns: u32)
-        ensures { self.new ≡ record self.old { hold = turns } }
+        ensures state { self.new.state ≡ record self.old.state { hold = turns } }
+        ensures counts { self.new.counts ≡ self.old.counts }
     {
         self.hold = turns;
     }
@@ -246,8 +237,10 @@ impl<E: Executor> PlainEnds<E> {
     /// One turn of the answering end. A held one touches no word. Else it executes the command in flight, unless that is executed already or
     /// 4,096 commands were executed.
     pub fn turn(&mut self) -> Turn
-        ensures { record { now = self.new; told = result } ≡ turned self.old }
+        ensures state { record { now = self.new.state; told = result } ≡ turned self.old.state }
+        ensures counts { Spent 0 1 0 self.old.counts self.new.counts }
     {
+        self.turns = self.turns.saturating_add(1);
         if self.hold > 0 {
             self.hold -= 1;
             return Turn::Held { left: self.hold };
@@ -257,17 +250,17 @@ impl<E: Executor> PlainEnds<E> {
 
     // A turn that isn't held.
     fn serve(&mut self) -> Turn
-        requires { self.old.hold ≡ 0 }
-        ensures { record { now = self.new; told = result } ≡ turned self.old }
+        requires { self.old.state.hold ≡ 0 }
+        ensures state { record { now = self.new.state; told = result } ≡ turned self.old.state }
+        ensures counts { self.new.counts ≡ self.old.counts }
     {
-        if self.journal.len() + count_waiting(&self.flight) == MAX_ITEMS {
+        if self.history.journal().len() + count_waiting(&self.history, self.executed) == MAX_ITEMS {
             return Turn::JournalFull;
         }
-        let block = self.ask.wiring().block();
-        match answer_run(&mut self.words, &mut self.answer, &mut self.device, block) {
+        match self.link.answer() {
             AnswerOutcome::Idle => Turn::Idle,
             AnswerOutcome::Served => {
-                execute(&mut self.flight);
+                self.executed = true;
                 Turn::Served
             }
         }
@@ -275,8 +268,20 @@ impl<E: Executor> PlainEnds<E> {
 
     /// Moves the clock up by so many microseconds.
     pub fn wait(&mut self, n: u64)
-        ensures { self.new ≡ waited n self.old }
+        ensures state { self.new.state ≡ waited n self.old.state }
+        ensures counts { self.new.counts ≡ self.old.counts }
     {
-        self.clock.add(n);
+        self.caller.clock.add(n);
     }
+}
+
+// The commands that are executed and not drained.
+#[tactic(auto, using(crate::proofs::Standings::count_flown, crate::proofs::Standings::count_free))]
+fn count_waiting(history: &History, executed: bool) -> usize
+    ensures { result ≡ count_waiting (sent_of history.now.sent executed) }
+{
+    if history.in_flight() {
+        return usize::from(executed);
+    }
+    0
 }

@@ -3,15 +3,14 @@
 #![tactic(auto)]
 
 mod ends;
-mod flight;
+mod link;
 mod outcome;
-mod ready;
 mod runs;
 mod turns;
 
+pub use channel_core::{CallRefusal, Look, Ready, Turn};
 pub use ends::PlainEnds;
-pub use outcome::{CallRefusal, Look, Outcome, Turn};
-pub use ready::Ready;
+pub use outcome::Outcome;
 pub use turns::TurnChannel;
 
 #[cfg(test)]

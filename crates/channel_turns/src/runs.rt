@@ -11,13 +11,12 @@ ghost use Rattle.pcc_steps.specs.Answering.{AnswerOk, IsAnswerStepping};
 ghost use Rattle.pcc_steps.specs.Runs.{Within};
 ghost use Rattle.pcc_steps.specs.Walk.{answer_left, ask_left};
 ghost use Rattle.pcc_steps.specs.Agree.{settle};
-ghost use Rattle.channel_turns.specs.WordRuns.{AnswerKeeps, AnswerStep, AskStep, AskSteps, LineWas};
+ghost use Rattle.channel_turns.specs.WordRuns.{AnswerKeeps, AnswerStep, AskStep, AskSteps, LineWas, look_most};
 
-use channel_plain::perform;
 use pcc_exec::Executor;
 use pcc_steps::{
     Action, AnswerOutcome, AnswerState, AskOutcome, AskState, answer_execute, answer_feed,
-    answer_next, answer_start, answering_laws, ask_begin, ask_feed, ask_look, ask_next,
+    answer_next, answer_start, answering_laws, ask_begin, ask_feed, ask_look, ask_next, perform,
 };
 
 /// The place of the word that says whether a command is complete, with whose load a look begins.
@@ -45,6 +44,7 @@ fn finish_ask(words: &mut [u64], ask: &mut AskState, most: u32) -> AskOutcome
     requires long { length words.old ≡ 8 + block_of ask.old.wiring }
     requires within { AskOk ask.old → Within most (ask_left ask.old) }
     ensures steps { AskSteps words.old ask.old words.new ask.new (Some result) }
+    ensures count { ask.new.steps ≤ ask.old.steps + most }
     ensures seen { result ≢ Clear }
 {
     for _ in 0..most {
@@ -65,7 +65,8 @@ pub(crate) fn post_run(words: &mut [u64], ask: &mut AskState, code: u32, bytes: 
     requires posts { ask.old.posts < 4096 }
     requires code { ask.old.wiring.kind ≤ 2 → code < 256 }
     requires long { length words.old ≡ 8 + block_of ask.old.wiring }
-    ensures { AskSteps words.old (ask_begun ask.old code bytes.now) words.new ask.new (Some Posted) }
+    ensures steps { AskSteps words.old (ask_begun ask.old code bytes.now) words.new ask.new (Some Posted) }
+    ensures count { ask.new.steps ≤ ask.old.steps + (block_of ask.old.wiring + 7) }
 {
     ask_begin(ask, code, bytes);
     // The run has a first step, and so the machine is right.
@@ -81,6 +82,7 @@ pub(crate) fn look_run(words: &mut [u64], ask: &mut AskState) -> AskOutcome
     requires left { ask.old.looks < ask.old.budget }
     requires long { length words.old ≡ 8 + block_of ask.old.wiring }
     ensures steps { AskSteps words.old (ask_looking ask.old) words.new ask.new (Some result) }
+    ensures count { ask.new.steps ≤ ask.old.steps + look_most (block_of ask.old.wiring) result }
     ensures clear { result ≡ Clear → sees_done ask.old.wiring (get_or words.old 0 0) ≡ false }
 {
     ask_look(ask);

@@ -13,6 +13,7 @@ use std::alloc::Global;
 // A generic subspace of 16 bytes: the doorbell's lowest bit is set, and the others are kept.
 fn wired() -> Wiring
     ensures right { IsRight result }
+    ensures id { result.id ≡ 0 }
     ensures kind { result.kind ≡ 0 }
     ensures reports { result.reports ≡ true }
     ensures room { result.room ≡ 16 }
@@ -130,6 +131,7 @@ fn both_ends_at_rest(rt: HostRuntime) {
         &rt, "memory",
     );
     ends.hold(1);
+    assert!(rt; ends.space() == [0u8; 16].as_slice() && ends.notes().len() == 0);
     assert!(rt; ends.turn() == Turn::Held { left: 0 });
     assert!(rt; ends.turn() == Turn::Idle);
     assert!(rt; ends.left() == 0 && !ends.in_flight() && !ends.given_up());

@@ -4,14 +4,16 @@ ghost use Rattle.std.specs.Prelude.{◌≡◌, ◌≤◌, ◌<◌, ◌+◌, ◌^
 ghost use Rattle.std.specs.Option.{option_copied};
 ghost use Rattle.pcc_steps.specs.Wires.{IsRight};
 ghost use Rattle.channel_turns.specs.ChannelRuns.{journal_limit, pending_of};
-ghost use Rattle.channel_turns.specs.Calls.{IsAnswered, IsLate, IsPosted, IsRefused, new_channel, waited};
+ghost use Rattle.channel_turns.specs.Calls.{HasPosted, HasWorked, IsAnswered, IsLate, IsPosted, IsRefused, new_channel, waited};
+ghost use Rattle.channel_turns.specs.Counts.{SpentByPoll, SpentByPolls};
+ghost use Rattle.pcc_steps.specs.Wires.{block_of};
 ghost use Rattle.channel_turns.specs.EndsStates.{awaited, rings};
 ghost use Rattle.channel_turns.specs.Outcomes.{IsPlaced};
 ghost use Rattle.channel_turns.specs.Standing.{IsHeadOf};
 
 use crate::ends::PlainEnds;
-use crate::outcome::{CallRefusal, Look, Outcome};
-use crate::ready::Ready;
+use crate::outcome::Outcome;
+use channel_core::{CallRefusal, Look, Ready};
 use pcc_exec::Executor;
 use pcc_io::NoMemory;
 use pcc_journal::{JournalHead, Pending, Record};
@@ -32,7 +34,7 @@ impl<E: Executor> Model for TurnChannel<E> {
 
     ghost view = { λ c. open_channel c.ends };
 
-    ghost invariant = { λ c. IsLate c.ends.sent };
+    ghost invariant = { λ c. IsLate c.ends.state.sent };
 }
 
 impl<E: Executor> TurnChannel<E> {
@@ -51,7 +53,7 @@ impl<E: Executor> TurnChannel<E> {
         requires head { IsHeadOf head wiring }
         requires room { E.room_of (E.state device) ≡ wiring.room }
         requires long { length opening.now ≡ wiring.room }
-        ensures { IfOk result (λ c. c ≡ new_channel E.exec_of head start step (E.state device) opening.now) }
+        ensures { IfOk result (λ c. c ≡ new_channel E.exec_of head wiring start step (E.state device) opening.now) }
     {
         Ok(TurnChannel {
             ends: PlainEnds::new(alloc, head, wiring, device, opening, start, step)?,
@@ -70,9 +72,7 @@ impl<E: Executor> TurnChannel<E> {
         ensures items { result.now ≡ self.now.now.records }
         ensures few { length result.now ≤ journal_limit }
     {
-        let journal = self.ends.journal();
-        journal.len();
-        journal.as_slice()
+        self.ends.journal().as_slice()
     }
 
     /// The command in flight.
@@ -102,8 +102,10 @@ impl<E: Executor> TurnChannel<E> {
         hold: u32,
     ) -> Result<Outcome, NoMemory>
         requires polls { 0 < polls }
+        requires most { polls ≤ 1000000 }
         requires early { self.old.now.taken < 2 ^ 63 }
         ensures answered { IfOk result (IsAnswered E.exec_of self.old (record { caller = caller; code = code; bytes = bytes.now; polls = polls; hold = hold }) self.new) }
+        ensures worked { IfOk result (HasWorked (record { caller = caller; code = code; bytes = bytes.now; polls = polls; hold = hold }) self.old self.new) }
         ensures placed { IfOk result (IsPlaced (length self.new.now.records)) }
         ensures readings { self.new.now.taken ≤ self.old.now.taken + 3 }
         ensures head { self.new.head ≡ self.old.head }
@@ -129,16 +131,17 @@ fn post<E: Executor>(
     polls: u32,
     hold: u32,
 ) -> Result<Outcome, NoMemory>
-    requires free { ends.old.sent ≡ None }
-    requires kind { ready.kind ≡ ends.old.head.kind }
-    requires room { ready.room ≡ ends.old.head.room }
-    requires spare { 0 < ends.old.spare }
-    requires few { length ends.old.records + ends.old.spare ≤ 4096 }
+    requires free { ends.old.state.sent ≡ None }
+    requires kind { ready.kind ≡ ends.old.state.head.kind }
+    requires room { ready.room ≡ ends.old.state.head.room }
+    requires spare { 0 < ends.old.state.spare }
+    requires few { length ends.old.state.records + ends.old.state.spare ≤ 4096 }
     requires polls { 0 < polls }
-    requires budget { ends.old.budget ≡ polls }
-    requires early { ends.old.taken + 2 < 2 ^ 64 }
-    ensures answered { IfOk result (IsPosted E.exec_of ends.old (record { caller = caller; code = ready.code; bytes = ready.bytes; polls = polls; hold = hold }) ends.new) }
-    ensures late { IsLate ends.new.sent }
+    requires budget { ends.old.state.budget ≡ polls }
+    requires early { ends.old.state.taken + 2 < 2 ^ 64 }
+    ensures answered { IfOk result (IsPosted E.exec_of ends.old.state (record { caller = caller; code = ready.code; bytes = ready.bytes; polls = polls; hold = hold }) ends.new.state) }
+    ensures worked { IfOk result (HasPosted (record { caller = caller; code = ready.code; bytes = ready.bytes; polls = polls; hold = hold }) ends.old ends.new) }
+    ensures late { IsLate ends.new.state.sent }
     ensures err { OnErr result ⊥ }
 {
     match ends.post(caller, ready) {
@@ -160,11 +163,12 @@ fn post<E: Executor>(
 
 // A turn and a look, until the command in flight is drained or so many looks are made. The place of its record, where it is drained.
 fn await_reply<E: Executor>(ends: &mut PlainEnds<E>, polls: u32) -> Option<u32>
-    requires rings { rings ends.old.sent ≡ true }
-    requires few { length ends.old.records < 4096 }
-    requires looks { ends.old.looks ≡ 0 }
-    requires budget { ends.old.budget ≡ polls }
-    ensures { record { now = ends.new; place = result } ≡ awaited E.exec_of polls ends.old }
+    requires rings { rings ends.old.state.sent ≡ true }
+    requires few { length ends.old.state.records < 4096 }
+    requires looks { ends.old.state.looks ≡ 0 }
+    requires budget { ends.old.state.budget ≡ polls }
+    ensures state { record { now = ends.new.state; place = result } ≡ awaited E.exec_of polls ends.old.state }
+    ensures counts { SpentByPolls (block_of ends.old.state.wiring) polls ends.old.state.hold result ends.old.counts ends.new.counts }
 {
     for _ in 0..polls {
         if let Some(place) = poll(ends) {
@@ -176,10 +180,11 @@ fn await_reply<E: Executor>(ends: &mut PlainEnds<E>, polls: u32) -> Option<u32>
 
 // A turn, and then a look.
 fn poll<E: Executor>(ends: &mut PlainEnds<E>) -> Option<u32>
-    requires rings { rings ends.old.sent ≡ true }
-    requires few { length ends.old.records < 4096 }
-    requires left { ends.old.looks < ends.old.budget }
-    ensures { record { now = ends.new; place = result } ≡ awaited E.exec_of 1 ends.old }
+    requires rings { rings ends.old.state.sent ≡ true }
+    requires few { length ends.old.state.records < 4096 }
+    requires left { ends.old.state.looks < ends.old.state.budget }
+    ensures state { record { now = ends.new.state; place = result } ≡ awaited E.exec_of 1 ends.old.state }
+    ensures counts { SpentByPoll (block_of ends.old.state.wiring) result ends.old.counts ends.new.counts }
 {
     ends.turn();
     match ends.look() {
@@ -197,6 +202,8 @@ fn refused(refusal: CallRefusal) -> Result<Outcome, NoMemory>
         CallRefusal::TooLong { len, room } => Ok(Outcome::TooLong { len, room }),
         CallRefusal::JournalFull => Ok(Outcome::JournalFull),
         CallRefusal::NoMemory => Err(NoMemory),
+        CallRefusal::StillPending { looks } => Ok(Outcome::StillPending { looks }),
         CallRefusal::TooSoon { now, earliest } => Ok(Outcome::TooSoon { now, earliest }),
+        CallRefusal::TimedOut { looks } => Ok(Outcome::TimedOut { looks }),
     }
 }

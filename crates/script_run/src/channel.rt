@@ -94,6 +94,7 @@ impl DeviceChannel {
         hold: u32,
     ) -> Result<Outcome, NoMemory>
         requires polls { 0 < polls }
+        requires most { polls ≤ 1000000 }
         requires early { (channel_of self.old).now.taken < 2 ^ 63 }
         ensures answered { IfOk result (IsAnsweredBy (channel_of self.old) (record { caller = caller; code = code; bytes = bytes.now; polls = polls; hold = hold }) (channel_of self.new)) }
         ensures placed { IfOk result (IsPlaced (length (channel_of self.new).now.records)) }

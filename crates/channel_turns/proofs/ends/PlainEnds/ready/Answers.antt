@@ -1,9 +1,15 @@
-use Rattle.channel_turns.specs.Standing.{Plain, sent_of}
-use Rattle.channel_turns.proofs.Standings.{grew, memory_more, spared_stands}
+use Rattle.std.proofs.Common.{ℕ, List, sym, subst}
+use Rattle.std.specs.Prelude.{Option}
+use Rattle.pcc_journal.specs.declared.record.Record.{Record}
+use Rattle.channel_core.specs.declared.sent.Sent.{Sent as Noted}
+use Rattle.channel_turns.specs.EndsStates.{Sent}
+use Rattle.channel_turns.specs.Standing.{Stands, sent_of}
+use Rattle.channel_turns.proofs.Standings.{readied_keeps}
 use Rattle.channel_turns.proofs.ends.PlainEnds.ready.Goals as goal
 
 pub invariant_of-self : goal.invariant_of-self
-invariant_of-self g c = let x = c.self.inside in let p : Plain = record { words = x.words.items; ask = x.ask; answer = x.answer; device = g.E.Executor.state x.device } in let r = c.reserve_for.ensures in (
-  spared_stands g.E.Executor.exec_of g.E.Executor.is_state g.E.Executor.room_of x.head x.clock (g.E.Executor.state x.first.value) x.opening.value.items p x.journal c.reserve_for.new.self (sent_of x.flight) x.hold r.items c.self.invariant.0,
-  memory_more x.flight x.journal.spare c.reserve_for.new.self.spare (grew c.reserve_for.result x.journal.spare c.reserve_for.new.self.spare _ r.ok r.err) c.self.invariant.1,
-)
+invariant_of-self g c = let x = c.self.inside in let exec = g.E.Executor.exec_of in let is_state = g.E.Executor.is_state in let room_of = g.E.Executor.room_of in let first : List ℕ = x.start.value.device in let opening : List ℕ = x.start.value.ask.space in let rs : List Record = x.history.records in let sent : Option Sent = sent_of x.history.sent x.executed in
+    let k = readied_keeps x.history c.make_ready.new.history (record { kind = x.head.kind; room = x.head.room; code = c.args.code; bytes = c.args.bytes.now }) c.make_ready.result c.make_ready.ensures.readied in (
+      subst (λ (z : List Record × Option Noted). Stands exec x.head first opening is_state room_of x.link z.0 (sent_of z.1 x.executed)) (λ i. (sym k.0 i, sym k.1 i)) c.self.invariant.0,
+      c.self.invariant.1,
+    )
