@@ -1,7 +1,7 @@
 -- What happened on a channel, as its asking side saw it: made of the records, of the notes beside them, and of the command in flight.
 -- A reading has a number, by which it stands among all readings that the channel's clock has given, from 0.
-use Rattle.std.specs.Prelude.{◌≡◌, ◌==◌, ℕ, ◌+◌, Bool, true, false, List, [], ◌∷◌, ◌++◌, Option, Some, None}
-use Rattle.std.specs.List.{filter}
+use Rattle.std.specs.Prelude.{◌≡◌, ◌==◌, ℕ, ◌+◌, Bool, true, false, List, [], ◌∷◌, ◌++◌, map, Option, Some, None}
+use Rattle.std.specs.List.{filter, flat_map}
 use Rattle.pcc_journal.specs.declared.record.Record.{Record}
 use Rattle.pcc_journal.specs.declared.record.Pending.{Pending}
 use Rattle.pcc_journal.specs.declared.note.Note.{Note}
@@ -28,10 +28,41 @@ pub data Event : Type 0 where
   Lost : Posted → ℕ → Event
   Drained : Completed → Event
 
+-- ---- records and commands with their notes
+
+-- a record with its note: there is no record without one
+pub record Noted : Type 0 where
+  pub entry : Record
+  pub note : Note
+
 -- a command that was posted and isn't complete, with its note as far as that was begun
 pub record NotedPending : Type 0 where
   pub command : Pending
   pub note : Note
+
+-- the note of a record that has no other
+abbrev pub blank_note : Note
+blank_note = record { post_at = 0; done_at = 0; looks = 0 }
+
+-- Each record with the note at its place. Where the notes are fewer, the further records have blank ones, so that no record is left out.
+abbrev pub noted : List Record → List Note → List Noted
+noted [] ns = []
+noted (r ∷ rs) [] = record { entry = r; note = blank_note } ∷ noted rs []
+noted (r ∷ rs) (n ∷ ns) = record { entry = r; note = n } ∷ noted rs ns
+
+-- the command in flight, if there is one, with its note
+abbrev pub noted_pending : Option Pending → Option Note → Option NotedPending
+noted_pending None _ = None
+noted_pending (Some p) None = Some (record { command = p; note = blank_note })
+noted_pending (Some p) (Some n) = Some (record { command = p; note = n })
+
+-- the records alone
+abbrev pub records_of : List Noted → List Record
+records_of entries = map (λ n. n.entry) entries
+
+-- the notes alone
+abbrev pub notes_of : List Noted → List Note
+notes_of entries = map (λ n. n.note) entries
 
 -- ---- the events of a journal
 
@@ -47,14 +78,9 @@ abbrev pub completion_events : Bool → Posted → ℕ → Completed → List Ev
 completion_events false p looks c = Answered p c ∷ []
 completion_events true p looks c = Lost p looks ∷ Drained c ∷ []
 
-abbrev pub events_of_record : ℕ → Record → Note → List Event
-events_of_record before r n = completion_events r.late (posted_of before r n) n.looks (completed_of before r n)
-
--- each record has one note
-abbrev pub events_of_records : ℕ → List Record → List Note → List Event
-events_of_records before [] notes = []
-events_of_records before (r ∷ rs) [] = []
-events_of_records before (r ∷ rs) (n ∷ ns) = events_of_record before r n ++ events_of_records before rs ns
+abbrev pub events_of_record : ℕ → Noted → List Event
+events_of_record before n =
+    completion_events n.entry.late (posted_of before n.entry n.note) n.note.looks (completed_of before n.entry n.note)
 
 abbrev pub posted_of_pending : ℕ → NotedPending → Posted
 posted_of_pending before p =
@@ -66,8 +92,9 @@ abbrev pub events_of_pending : ℕ → Option NotedPending → List Event
 events_of_pending before None = []
 events_of_pending before (Some p) = Lost (posted_of_pending before p) p.note.looks ∷ []
 
-abbrev pub events_of : ℕ → List Record → List Note → Option NotedPending → List Event
-events_of before records notes pending = events_of_records before records notes ++ events_of_pending before pending
+-- what happened, by the records with their notes, the first one first, and the command in flight
+abbrev pub events_of : ℕ → List Noted → Option NotedPending → List Event
+events_of before entries pending = flat_map (events_of_record before) entries ++ events_of_pending before pending
 
 -- ---- the calls in them
 

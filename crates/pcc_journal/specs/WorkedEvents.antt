@@ -3,7 +3,7 @@
 use Rattle.std.specs.Prelude.{true, false, List, [], ◌∷◌, Option, Some}
 use Rattle.pcc_journal.specs.declared.record.Record.{Record}
 use Rattle.pcc_journal.specs.declared.note.Note.{Note}
-use Rattle.pcc_journal.specs.Events.{Event, Answered, Lost, Drained, NotedPending, events_of}
+use Rattle.pcc_journal.specs.Events.{Event, Answered, Lost, Drained, Noted, NotedPending, events_of, noted}
 
 abbrev pub timely_record : Record
 timely_record = record { caller = 3; code = 16; input = 1 ∷ []; error = true; output = 2 ∷ []; post = 10; done = 20; late = false }
@@ -16,6 +16,9 @@ both_records = timely_record ∷ late_record ∷ []
 
 abbrev pub both_notes : List Note
 both_notes = record { post_at = 0; done_at = 1; looks = 0 } ∷ record { post_at = 2; done_at = 3; looks = 7 } ∷ []
+
+abbrev pub both_noted : List Noted
+both_noted = noted both_records both_notes
 
 abbrev pub in_flight : Option NotedPending
 in_flight =
@@ -39,4 +42,4 @@ abbrev pub lost_third : Event
 lost_third = Lost (record { caller = 3; code = 18; input = 8 ∷ []; post = 50; post_number = 104 }) 9
 
 abbrev pub all_events : List Event
-all_events = events_of 100 both_records both_notes in_flight
+all_events = events_of 100 both_noted in_flight

@@ -11,9 +11,9 @@ mod record;
 mod reserved;
 mod text;
 
-pub use cases::worked_cases;
+pub use cases::{limits_are, worked_cases};
 pub use command::{Command, Commands};
-pub use events::events_grow;
+pub use events::{events_grow, notes_pair};
 pub use journal::Journal;
 pub use note::{Note, Notes};
 pub use record::{Pending, Record};

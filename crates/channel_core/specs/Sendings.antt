@@ -1,0 +1,66 @@
+-- A command that is posted or in flight, and what becomes of it.
+use Rattle.std.specs.Prelude.{◌≡◌, ◌<◌, ℕ, nat_lt, Bool, true, false, if◌then◌else◌, List, length, Option, Some, None}
+use Rattle.pcc_journal.specs.declared.note.Note.{Note}
+use Rattle.pcc_journal.specs.declared.record.Record.{Record}
+use Rattle.pcc_journal.specs.declared.record.Pending.{Pending}
+use Rattle.channel_core.specs.declared.sent.Sent.{Sent}
+use Rattle.channel_core.specs.declared.sent.Flight.{Flight}
+
+abbrev pub is_flying : Option Sent → Bool
+is_flying None = false
+is_flying (Some c) = true
+
+abbrev pub command_of : Option Sent → Option Pending
+command_of None = None
+command_of (Some c) = Some c.command
+
+-- the reading at which it was posted
+abbrev pub post_of : Option Sent → Option ℕ
+post_of None = None
+post_of (Some c) = Some c.command.post
+
+abbrev pub count_flying : Option Sent → ℕ
+count_flying None = 0
+count_flying (Some c) = 1
+
+-- its caller has given it up
+abbrev pub is_late : Sent → Bool
+is_late c = nat_lt 0 c.note.looks
+
+abbrev pub is_given_up : Option Sent → Bool
+is_given_up None = false
+is_given_up (Some c) = is_late c
+
+-- the looks after which a caller first gave it up are kept
+abbrev pub first_looks : ℕ → ℕ → ℕ
+first_looks before looks = if nat_lt 0 before then before else looks
+
+abbrev pub given_up_after : ℕ → Option Sent → Option Sent
+given_up_after looks None = None
+given_up_after looks (Some c) = Some (record c { note = record c.note { looks = first_looks c.note.looks looks } })
+
+-- its record, by what came back and the reading at which that was seen
+abbrev pub record_of : Sent → Bool → List ℕ → ℕ → Record
+record_of c error output done =
+    let p = c.command in
+    record { caller = p.caller; code = p.code; input = p.input; error = error; output = output; post = p.post; done = done; late = is_late c }
+
+-- its note, with the number of that reading
+abbrev pub note_of : Sent → ℕ → Note
+note_of c number = record c.note { done_at = number }
+
+-- ---- memory that was taken ahead
+
+abbrev pub sent_of : Option Flight → Option Sent
+sent_of None = None
+sent_of (Some f) = Some f.sent
+
+-- the memory for its reply, and a place for its record
+abbrev pub HasMemory : Option Flight → ℕ → Type 0
+HasMemory None spare = Unit {0}
+HasMemory (Some f) spare = (length f.reply.items ≡ length f.sent.command.input) × (0 < spare)
+
+-- a command is in flight, whose space has so many bytes
+abbrev pub FliesWith : Option Sent → ℕ → Type 0
+FliesWith None room = ⊥
+FliesWith (Some c) room = length c.command.input ≡ room
