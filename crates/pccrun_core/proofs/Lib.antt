@@ -3,3 +3,4 @@ mod Weavable
 mod Refused
 mod Packaged
 mod Tops
+pub mod Headlined

@@ -134,7 +134,7 @@ one_letter command.Cpc command.Build e = absurd (omega arith)
 one_command : (c d : Command) → word_of c ≡ word_of d → c ≡ d
 one_command c d e = one_letter c d (sym (second_of c) ∙ ap second e ∙ second_of d)
 
-same_command : (words : List (List ℕ)) (c d : Command) → AsksFor words c → AsksFor words d → c ≡ d
+pub same_command : (words : List (List ℕ)) (c d : Command) → AsksFor words c → AsksFor words d → c ≡ d
 same_command words c d a b = one_command c d (same_head (word_of c) (word_of d) (sym a ∙ b))
 
 -- what is made is not refused

@@ -5,3 +5,4 @@ pub mod Refusals
 pub mod Answers
 pub mod CommandErrors
 pub mod Statuses
+pub mod Headlined

@@ -6,6 +6,7 @@ ghost use Rattle.pcc_causes.specs.Causes.{AppendsPrefix, Rose};
 ghost use Rattle.pccrun_core.specs.Answers.{Answers, AsksFor, AsksToMake, IsServedInput, Makes, input_limit};
 ghost use Rattle.pcc_setup.specs.RefusalText.{HasLine, refused_line};
 ghost use Rattle.pccrun_core.specs.CommandErrors.{IsRefusedBy};
+ghost use Rattle.pccrun_core.specs.Headlined.{Headlined};
 ghost use Rattle.pccrun_core.specs.Refusals.{Refuses};
 ghost use Rattle.pccrun_core.specs.Statuses.{code_of};
 ghost use Rattle.pccrun_core.specs.declared.command.Command.{Command};
@@ -145,7 +146,7 @@ fn refused(alloc: Global, refusal: Refusal) -> Result<Answer, Stop>
 
 /// Does all that the program does for a command without threads: tests the words, reads the source to its end where they ask for a command on
 /// the input, runs what they ask for, and writes its whole text. It always returns.
-#[tactic(auto, using(crate::proofs::Tops::served_input_runs, crate::proofs::Tops::made_runs, crate::proofs::Tops::makes_alone))]
+#[tactic(auto, using(crate::proofs::Tops::served_input_runs, crate::proofs::Tops::made_runs, crate::proofs::Tops::makes_alone, crate::proofs::Headlined::headlined))]
 pub fn run<S: Source, W: Sink>(
     alloc: Global,
     words: &[String],
@@ -158,6 +159,10 @@ pub fn run<S: Source, W: Sink>(
     ensures written { result.status < 4 → (text : List ℕ)
         × Answers (map (λ w. string_bytes w) words.now) (S.left source.old) (S.left source.new) result.status text
         × Appends (W.held sink.old) (W.held sink.new) text }
+
+    // Of `step` and of `make`: each journal of the run whose text was written keeps its headline.
+    ensures headline { result.status ≡ 0
+        → Headlined (map (λ w. string_bytes w) words.now) (S.left source.old) (S.left source.new) (W.held sink.old) (W.held sink.new) }
 
     // Only the source can make it 4, where it is read, and nothing is written then.
     ensures read_fault { result.status ≡ 4 → ((c : Command) × AsksFor (map (λ w. string_bytes w) words.now) c)

@@ -1,7 +1,7 @@
 pub mod Mapped
 mod Replies
 pub mod Steps
-pub mod Histories
+pub mod Headlines
 pub mod Several
 mod ChannelLists
 pub mod OpenedScripts

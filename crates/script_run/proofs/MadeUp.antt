@@ -29,7 +29,7 @@ use Rattle.script_run.specs.Built.{is_built, is_built_line}
 use Rattle.script_run.specs.StepRun.{Run, step_run}
 use Rattle.script_run.specs.Summaries.{IsSummary, count_pending, counts_of, records_of, summary_pieces, summary_text}
 use Rattle.script_run.specs.declared.counts.Counts.{Counts}
-use Rattle.script_run.proofs.Several.{has_structure, opened_channel, run_length, set_up_histories, set_up_opened}
+use Rattle.script_run.proofs.Several.{has_structure, opened_channel, run_length, set_up_headlines, set_up_opened}
 
 -- ---- the summary
 
@@ -123,6 +123,6 @@ made_text n s os text is h e =
     let set_up : IsSetUp (made_scenario_of n) h.table = subst (λ (u : Scenario). IsSetUp u h.table) is h.checked in (
       h.table,
       set_up,
-      set_up_histories (made_scenario_of n) h.table set_up.all_open,
+      set_up_headlines (made_scenario_of n) h.table set_up.all_open,
       e h ∙ (λ k. summary_text (length (is k).actions) (run_of (is k) h.table)) ∙ ap (λ (m : ℕ). summary_text m (run_of (made_scenario_of n) h.table)) (made_length n),
     )

@@ -25,7 +25,7 @@ use Rattle.script_run.specs.Channels.{AreDistinct, CanRun, IsEarly, IsOnOneOf, I
 use Rattle.script_run.specs.ReplyText.{replies_text}
 use Rattle.script_run.specs.ScriptRuns.{IsStepText, channel_journal, clock_of, run_of, run_text, set_up_of, step_text}
 use Rattle.script_run.specs.StepRun.{step_run}
-use Rattle.script_run.proofs.Several.{open_rest, opened_channel, opens_apart, set_up_histories, set_up_ids, set_up_opened}
+use Rattle.script_run.proofs.Several.{open_rest, opened_channel, opens_apart, set_up_headlines, set_up_ids, set_up_opened}
 
 -- ---- the channels of a script
 
@@ -106,7 +106,7 @@ text_is s os cs after none put text first opened line empty replies left e h =
     ∙ ap (λ (v : List Channel). replies_text first (step_run s.actions cs).replies ++ flat_map channel_journal v) (sym left) in
     record {
       text_is = subst P (opened h) whole ∙ ap (λ (n : ℕ). run_text n (step_run s.actions (set_up_of s h.table))) line;
-      histories = set_up_histories s h.table h.checked.all_open;
+      headline = set_up_headlines s h.table h.checked.all_open;
     }
 
 -- ---- wirings

@@ -8,7 +8,6 @@ use Rattle.std.proofs.lemmas.List.{length-map, map-set}
 use Rattle.std.proofs.lemmas.Option.{same_Some, slice_get-get_or, slice_get_within}
 use Rattle.pcct_table.specs.declared.subspace.Subspace.{Subspace}
 use Rattle.pcct_table.specs.declared.table.Table.{Table}
-use Rattle.pcc_history.specs.Histories.{WholeHistory}
 use Rattle.pcc_journal.specs.Records.{exchanges_of}
 use Rattle.pcc_script.specs.declared.scenario.Line.{Line}
 use Rattle.pcc_script.specs.declared.scenario.Line.TheVariants as line
@@ -19,12 +18,14 @@ use Rattle.pcc_setup.specs.declared.opening.Opened.{Opened}
 use Rattle.pcc_setup.specs.Openings.{AllOpen, opened_by, opened_with, opens_id, structure_fault}
 use Rattle.pcc_setup.specs.SetUps.{action_fault, is_bank, opens_bank}
 use Rattle.script_run.specs.Channels.{AreDistinct, bank_start, fresh_channel, id_of, moved_up}
-use Rattle.script_run.specs.Histories.{AreHistories, IsHistory, asked_by, asked_on}
+use Rattle.script_run.specs.Headlines.{AreHeadlines, KeepsHeadline, line_on, lines_on}
 use Rattle.channel_turns.specs.Replies.{Reply}
 use Rattle.script_run.specs.ScriptRuns.{channels_of, clock_of, run_of, set_up_of}
 use Rattle.channel_turns.specs.ChannelRuns.{Call, Channel, ChannelStart, ScriptClock, answer_call, fresh}
+use Rattle.channel_headline.specs.ChannelLog.{ChannelLine}
+use Rattle.channel_headline.specs.Runs.{HeadlineOf}
 use Rattle.script_run.specs.StepRun.{Run, Turn, call_on, step_run, turn_of, waited}
-use Rattle.script_run.proofs.Histories.{run_histories}
+use Rattle.script_run.proofs.Headlines.{run_headlines}
 
 -- ---- lists
 
@@ -182,7 +183,7 @@ waited_channel n id (c ∷ cs) = at (c.start.head.id == id) (waited_channel n id
     at true later = refl
     at false later = later
 
--- what a line makes of the channel with an ID, and what it asks of it, is told by that channel alone
+-- what a line makes of the channel with an ID, and how that channel sees the line, is a matter of that channel alone
 turn_channel : (l : Line) (id : ℕ) (cs ds : List Channel) → channel_on id cs ≡ channel_on id ds → channel_on id (turn_of l cs).channels ≡ channel_on id (turn_of l ds).channels
 turn_channel (line.Call worker subspace code bytes polls hold) id cs ds e =
     let call : Call = record { caller = worker; code = code; bytes = bytes; polls = polls; hold = hold } in
@@ -195,17 +196,17 @@ turn_channel (line.Wait n) id cs ds e = waited_channel n id cs ∙ ap (option_ma
 turn_channel (line.Read worker cpu polls hold) id cs ds e = e
 turn_channel (line.Set worker wish polls hold) id cs ds e = e
 
-turn_asks : (l : Line) (id : ℕ) (cs ds : List Channel) → channel_on id cs ≡ channel_on id ds → asked_by id l (turn_of l cs).reply ≡ asked_by id l (turn_of l ds).reply
-turn_asks (line.Call worker subspace code bytes polls hold) id cs ds e =
+turn_sees : (l : Line) (id : ℕ) (cs ds : List Channel) → channel_on id cs ≡ channel_on id ds → line_on id l (turn_of l cs).reply ≡ line_on id l (turn_of l ds).reply
+turn_sees (line.Call worker subspace code bytes polls hold) id cs ds e =
     let call : Call = record { caller = worker; code = code; bytes = bytes; polls = polls; hold = hold } in
     let P : ℕ → Type 0 = λ n. (call_on n call cs).reply ≡ (call_on n call ds).reply in
     elim (cases_eq id subspace) [
-      | inl same ↦ ap (asked_by id (line.Call worker subspace code bytes polls hold)) (subst P same (call_reply id call cs ∙ ap (option_map (λ (c : Channel). (answer_call c.start call c.now).reply)) e ∙ sym (call_reply id call ds)))
+      | inl same ↦ ap (line_on id (line.Call worker subspace code bytes polls hold)) (subst P same (call_reply id call cs ∙ ap (option_map (λ (c : Channel). (answer_call c.start call c.now).reply)) e ∙ sym (call_reply id call ds)))
       | inr differs ↦ let unlike : (id == subspace) ≡ false = ne_eqb id subspace differs in rw unlike refl
     ]
-turn_asks (line.Wait n) id cs ds e = refl
-turn_asks (line.Read worker cpu polls hold) id cs ds e = refl
-turn_asks (line.Set worker wish polls hold) id cs ds e = refl
+turn_sees (line.Wait n) id cs ds e = refl
+turn_sees (line.Read worker cpu polls hold) id cs ds e = refl
+turn_sees (line.Set worker wish polls hold) id cs ds e = refl
 
 waited_starts : (n : ℕ) (cs : List Channel) → map (λ c. c.start) (map (waited n) cs) ≡ map (λ c. c.start) cs
 waited_starts n cs = map_map (λ (c : Channel). c.start) (waited n) cs
@@ -240,17 +241,17 @@ turn_length l cs = same_length (turn_of l cs).channels cs (turn_starts l cs)
 pub run_length : (ls : List Line) (cs : List Channel) → length (step_run ls cs).channels ≡ length cs
 run_length ls cs = same_length (step_run ls cs).channels cs (run_starts ls cs)
 
--- what a run makes of the channel with an ID, and what it asks of it, is told by that channel alone
+-- what a run makes of the channel with an ID, and how that channel sees the line, is a matter of that channel alone
 pub run_channel : (ls : List Line) (id : ℕ) (cs ds : List Channel) → channel_on id cs ≡ channel_on id ds → channel_on id (step_run ls cs).channels ≡ channel_on id (step_run ls ds).channels
 run_channel [] id cs ds e = e
 run_channel (l ∷ ls) id cs ds e = run_channel ls id (turn_of l cs).channels (turn_of l ds).channels (turn_channel l id cs ds e)
 
-pub run_asks : (ls : List Line) (id : ℕ) (cs ds : List Channel) → channel_on id cs ≡ channel_on id ds → asked_on id ls (step_run ls cs).replies ≡ asked_on id ls (step_run ls ds).replies
-run_asks [] id cs ds e = refl
-run_asks (l ∷ ls) id cs ds e =
-    let here : asked_by id l (turn_of l cs).reply ≡ asked_by id l (turn_of l ds).reply = turn_asks l id cs ds e in
-    let later : asked_on id ls (step_run ls (turn_of l cs).channels).replies ≡ asked_on id ls (step_run ls (turn_of l ds).channels).replies = run_asks ls id (turn_of l cs).channels (turn_of l ds).channels (turn_channel l id cs ds e) in
-    ap (λ (v : List (List ℕ)). v ++ asked_on id ls (step_run ls (turn_of l cs).channels).replies) here ∙ ap (λ (v : List (List ℕ)). asked_by id l (turn_of l ds).reply ++ v) later
+pub run_sees : (ls : List Line) (id : ℕ) (cs ds : List Channel) → channel_on id cs ≡ channel_on id ds → lines_on id ls (step_run ls cs).replies ≡ lines_on id ls (step_run ls ds).replies
+run_sees [] id cs ds e = refl
+run_sees (l ∷ ls) id cs ds e =
+    let here : line_on id l (turn_of l cs).reply ≡ line_on id l (turn_of l ds).reply = turn_sees l id cs ds e in
+    let later : lines_on id ls (step_run ls (turn_of l cs).channels).replies ≡ lines_on id ls (step_run ls (turn_of l ds).channels).replies = run_sees ls id (turn_of l cs).channels (turn_of l ds).channels (turn_channel l id cs ds e) in
+    ap (λ (v : List ChannelLine). v ++ lines_on id ls (step_run ls (turn_of l cs).channels).replies) here ∙ ap (λ (v : List ChannelLine). line_on id l (turn_of l ds).reply ++ v) later
 
 no_channels : (ls : List Line) → (step_run ls []).channels ≡ []
 no_channels [] = refl
@@ -286,25 +287,23 @@ runs_apart ls cs i c apart e =
     let alone : channel_on (id_of d) (c ∷ []) ≡ Some c = rw test refl in
     (d, at, only_one (id_of d) a.channels d (run_length ls (c ∷ [])) (run_channel ls (id_of d) (c ∷ []) cs (alone ∙ sym before) ∙ left))
 
--- ---- histories
+-- ---- headlines
 
 -- nothing was asked of a channel yet
 abbrev pub IsFresh : Channel → Type 0
 IsFresh c = c.now ≡ fresh c.start
 
-other_replies : (ls : List Line) (rs qs : List (Option Reply)) (c : Channel) → asked_on (id_of c) ls rs ≡ asked_on (id_of c) ls qs → IsHistory ls rs c → IsHistory ls qs c
-other_replies ls rs qs c e h =
-    let P : List (List ℕ) → Type 0 = λ v. WholeHistory c.start.opening (exchanges_of c.now.records) (take (length c.now.records) v) in
-    record { legal = h.legal; whole = subst P e h.whole; limits = h.limits }
+other_replies : (ls : List Line) (rs qs : List (Option Reply)) (c : Channel) → lines_on (id_of c) ls rs ≡ lines_on (id_of c) ls qs → KeepsHeadline ls rs c → KeepsHeadline ls qs c
+other_replies ls rs qs c e h = let P : List ChannelLine → Type 0 = λ v. HeadlineOf c.start v c.now in subst P e h
 
 -- the channel that a run leaves with an ID
-left_history : (ls : List Line) (cs : List Channel) (d : Channel) (o : Option Channel) → AllByRecursion IsFresh cs → channel_on (id_of d) cs ≡ o → channel_on (id_of d) (step_run ls cs).channels ≡ Some d → IsHistory ls (step_run ls cs).replies d
-left_history ls cs d None new e found =
+left_headline : (ls : List Line) (cs : List Channel) (d : Channel) (o : Option Channel) → AllByRecursion IsFresh cs → channel_on (id_of d) cs ≡ o → channel_on (id_of d) (step_run ls cs).channels ≡ Some d → KeepsHeadline ls (step_run ls cs).replies d
+left_headline ls cs d None new e found =
     let none : channel_on (id_of d) (step_run ls cs).channels ≡ channel_on (id_of d) (step_run ls []).channels = run_channel ls (id_of d) cs [] e in
     let empty : channel_on (id_of d) (step_run ls []).channels ≡ None = ap (channel_on (id_of d)) (no_channels ls) in
     let both : Some d ≡ None = sym found ∙ none ∙ empty in
     absurd cc
-left_history ls cs d (Some c) new e found =
+left_headline ls cs d (Some c) new e found =
     let has : (c.now ≡ fresh c.start) × (id_of c ≡ id_of d) = found_has IsFresh (id_of d) cs c new e in
     let test : (c.start.head.id == id_of d) ≡ true = eq-eqb (id_of c) (id_of d) has.1 in
     let alone : List Channel = fresh_channel c.start ∷ [] in
@@ -312,15 +311,15 @@ left_history ls cs d (Some c) new e found =
     let first : channel_on (id_of d) alone ≡ Some (fresh_channel c.start) = rw test refl in
     let same : channel_on (id_of d) alone ≡ channel_on (id_of d) cs = first ∙ ap Some is ∙ sym e in
     let there : channel_on (id_of d) (step_run ls alone).channels ≡ Some d = run_channel ls (id_of d) alone cs same ∙ found in
-    let history : IsHistory ls (step_run ls alone).replies d = (found_has (IsHistory ls (step_run ls alone).replies) (id_of d) (step_run ls alone).channels d (run_histories c.start ls) there).0 in
-    other_replies ls (step_run ls alone).replies (step_run ls cs).replies d (run_asks ls (id_of d) alone cs same) history
+    let kept : KeepsHeadline ls (step_run ls alone).replies d = (found_has (KeepsHeadline ls (step_run ls alone).replies) (id_of d) (step_run ls alone).channels d (run_headlines c.start ls) there).0 in
+    other_replies ls (step_run ls alone).replies (step_run ls cs).replies d (run_sees ls (id_of d) alone cs same) kept
 
--- the journals of fresh channels with distinct IDs
-pub fresh_histories : (cs : List Channel) → AllByRecursion IsFresh cs → AreDistinct (map id_of cs) → (ls : List Line) → AreHistories ls (step_run ls cs)
-fresh_histories cs new apart ls =
+-- the journals of fresh channels with distinct IDs keep the headline
+pub fresh_headlines : (cs : List Channel) → AllByRecursion IsFresh cs → AreDistinct (map id_of cs) → (ls : List Line) → AreHeadlines ls (step_run ls cs)
+fresh_headlines cs new apart ls =
     let r : Run = step_run ls cs in
     let left : AreDistinct (map id_of r.channels) = subst AreDistinct (sym (run_ids ls cs)) apart in
-    all_from (IsHistory ls r.replies) r.channels (λ i d at. left_history ls cs d (channel_on (id_of d) cs) new refl (channel_at r.channels i d left at))
+    all_from (KeepsHeadline ls r.replies) r.channels (λ i d at. left_headline ls cs d (channel_on (id_of d) cs) new refl (channel_at r.channels i d left at))
 
 -- no two have one ID
 abbrev pub HasDistinctIds : List ChannelStart → Type 0
@@ -330,8 +329,8 @@ all_fresh : (starts : List ChannelStart) → AllByRecursion IsFresh (map fresh_c
 all_fresh [] = tt
 all_fresh (s ∷ ss) = (refl, all_fresh ss)
 
-pub run_histories_all : (starts : List ChannelStart) → HasDistinctIds starts → (ls : List Line) → AreHistories ls (step_run ls (map fresh_channel starts))
-run_histories_all starts apart ls = fresh_histories (map fresh_channel starts) (all_fresh starts) (subst AreDistinct (sym (map_map id_of fresh_channel starts)) apart) ls
+pub run_headlines_all : (starts : List ChannelStart) → HasDistinctIds starts → (ls : List Line) → AreHeadlines ls (step_run ls (map fresh_channel starts))
+run_headlines_all starts apart ls = fresh_headlines (map fresh_channel starts) (all_fresh starts) (subst AreDistinct (sym (map_map id_of fresh_channel starts)) apart) ls
 
 -- ---- the channels of a script
 
@@ -419,6 +418,6 @@ pub set_up_fresh : (clock : ScriptClock) (t : Table) (opens : List OpenLine) →
 set_up_fresh clock t [] = tt
 set_up_fresh clock t (o ∷ os) = all_append IsFresh (channels_of clock o.id (slice_get t.subspaces o.id)) _ (channels_fresh clock o.id (slice_get t.subspaces o.id)) (set_up_fresh clock t os)
 
--- each journal of a script's run is a history
-pub set_up_histories : (s : Scenario) (t : Table) → AllOpen t s.opens (length s.opens) → AreHistories s.actions (run_of s t)
-set_up_histories s t h = fresh_histories (set_up_of s t) (set_up_fresh (clock_of s) t s.opens) (subst AreDistinct (sym (set_up_ids (clock_of s) t s.opens h)) (opens_apart t s.opens h)) s.actions
+-- each journal of a script's run keeps the headline
+pub set_up_headlines : (s : Scenario) (t : Table) → AllOpen t s.opens (length s.opens) → AreHeadlines s.actions (run_of s t)
+set_up_headlines s t h = fresh_headlines (set_up_of s t) (set_up_fresh (clock_of s) t s.opens) (subst AreDistinct (sym (set_up_ids (clock_of s) t s.opens h)) (opens_apart t s.opens h)) s.actions

@@ -1,5 +1,5 @@
 pub mod StepRun
-pub mod Histories
+pub mod Headlines
 pub mod ReplyText
 pub mod Channels
 pub mod DeviceChannels

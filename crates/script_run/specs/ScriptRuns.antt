@@ -9,7 +9,7 @@ use Rattle.pcc_setup.specs.Openings.{head_of}
 use Rattle.pcc_setup.specs.SetUps.{first_action}
 use Rattle.channel_turns.specs.ChannelRuns.{Channel, ScriptClock, pending_of}
 use Rattle.script_run.specs.Channels.{bank_start, fresh_channel}
-use Rattle.script_run.specs.Histories.{AreHistories}
+use Rattle.script_run.specs.Headlines.{AreHeadlines}
 use Rattle.script_run.specs.ReplyText.{replies_text}
 use Rattle.script_run.specs.StepRun.{Run, step_run}
 
@@ -42,7 +42,7 @@ run_text first r = replies_text first r.replies ++ flat_map channel_journal r.ch
 unfoldable pub step_text : Scenario → Table → List ℕ
 step_text s t = run_text (first_action s) (run_of s t)
 
--- the text is what `step` prints for a script with this table, and the journals of its run are histories
+-- the text is what `step` prints for a script with this table, and the journals of its run keep the headline
 pub record IsStepText (s : Scenario) (t : Table) (text : List ℕ) : Type 0 where
   pub text_is : text ≡ step_text s t
-  pub histories : AreHistories s.actions (run_of s t)
+  pub headline : AreHeadlines s.actions (run_of s t)

@@ -9,7 +9,7 @@ use Rattle.pcct_table.specs.declared.table.Table.{Table}
 use Rattle.channel_turns.specs.ChannelRuns.{Channel, count_in_flight}
 use Rattle.channel_turns.specs.Replies.{Reply, Done, StillPending, TimedOut}
 use Rattle.script_run.specs.declared.counts.Counts.{Counts}
-use Rattle.script_run.specs.Histories.{AreHistories}
+use Rattle.script_run.specs.Headlines.{AreHeadlines}
 use Rattle.script_run.specs.ScriptRuns.{run_of}
 use Rattle.script_run.specs.StepRun.{Run}
 
@@ -67,6 +67,6 @@ summary_text calls run = spelled (summary_pieces calls (counts_of run.replies) (
 
 -- ---- a made-up run
 
--- the text is the summary of the run of a made-up scenario with so many calls, whose journals are histories
+-- the text is the summary of the run of a made-up scenario with so many calls, whose journals keep the headline
 abbrev pub IsSummary : ℕ → List ℕ → Type 0
-IsSummary n text = let s = made_scenario_of n in (t : Table) × IsSetUp s t × AreHistories s.actions (run_of s t) × (text ≡ summary_text n (run_of s t))
+IsSummary n text = let s = made_scenario_of n in (t : Table) × IsSetUp s t × AreHeadlines s.actions (run_of s t) × (text ≡ summary_text n (run_of s t))

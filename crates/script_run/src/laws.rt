@@ -2,7 +2,7 @@
 ghost use Rattle.std.specs.Prelude.{◌≡◌, ◌∷◌, [], ℕ, List, Some, map, slice_get};
 ghost use Rattle.pcc_script.specs.declared.scenario.Line.{Line};
 ghost use Rattle.script_run.specs.Channels.{AreDistinct};
-ghost use Rattle.script_run.specs.Histories.{AreHistories};
+ghost use Rattle.script_run.specs.Headlines.{AreHeadlines};
 ghost use Rattle.channel_turns.specs.ChannelRuns.{Channel, ChannelStart, fresh};
 ghost use Rattle.script_run.specs.StepRun.{step_run};
 
@@ -11,7 +11,7 @@ pub fn run_laws()
     // Each channel is left as a run of the same lines on that channel alone leaves it.
     ensures apart { (lines : List Line) (cs : List Channel) (i : ℕ) (c : Channel) → AreDistinct (map (λ x. x.start.head.id) cs) → slice_get cs i ≡ Some c
         → (d : Channel) × (slice_get (step_run lines cs).channels i ≡ Some d) × ((step_run lines (c ∷ [])).channels ≡ d ∷ []) }
-    // Each journal is a history, where nothing was asked before.
-    ensures histories { (starts : List ChannelStart) (lines : List Line) → AreDistinct (map (λ s. s.head.id) starts)
-        → AreHistories lines (step_run lines (map (λ s. record { start = s; now = fresh s }) starts)) }
+    // Each journal keeps the headline, where nothing was asked before.
+    ensures headline { (starts : List ChannelStart) (lines : List Line) → AreDistinct (map (λ s. s.head.id) starts)
+        → AreHeadlines lines (step_run lines (map (λ s. record { start = s; now = fresh s }) starts)) }
 {}

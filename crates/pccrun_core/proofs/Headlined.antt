@@ -1,0 +1,42 @@
+-- The headline of what was written.
+use Rattle.std.proofs.Common.{◌≡◌, ◌≤◌, ℕ, List, [], ◌∷◌, get_or, sym, ap, ◌∙◌, subst, arith}
+use Rattle.std.specs.Prelude.{Option, codes, decimal}
+use Rattle.std.specs.Io.KnownBytes.{Appends}
+use Rattle.std.proofs.lemmas.Fmt.{decimal_injective}
+use Rattle.pcc_script.specs.declared.limits.TheConstants.{MAX_MADE_CALLS}
+use Rattle.pccrun_core.specs.declared.command.Command.{Command}
+use Rattle.pccrun_core.specs.declared.command.Command.TheVariants as command
+use Rattle.pccrun_core.specs.Answers.{Answers, AsksFor, AsksToMake, Made, Makes, Refused, Summed, TooLong, Usage}
+use Rattle.pccrun_core.specs.Headlined.{Headlined, MakeHeadline, StepHeadline}
+use Rattle.pccrun_core.proofs.Tops.{makes_alone, same_command}
+use Rattle.script_run.specs.Summaries.{IsSummary}
+
+-- words ask for one number of calls
+same_number : (words : List (List ℕ)) (m n : ℕ) → AsksToMake words m → AsksToMake words n → m ≡ n
+same_number words m n a b =
+    let both : codes "make" ∷ decimal m ∷ [] ≡ codes "make" ∷ decimal n ∷ [] = sym a.words_are ∙ b.words_are in
+    let few : m ≤ MAX_MADE_CALLS = a.few in
+    let few_too : n ≤ MAX_MADE_CALLS = b.few in
+    decimal_injective m n (omega (arith, few)) (omega (arith, few_too)) (ap (λ (v : List (List ℕ)). get_or v 1 []) both)
+
+pub headlined : (words : List (List ℕ)) (left left' held held' : Option (List ℕ)) (status : ℕ) (text : List ℕ) → Answers words left left' status text → Appends held held' text → status ≡ 0
+    → Headlined words left left' held held'
+headlined words left left' held held' status text (Made c asked input read made is) written e =
+    let P : Command → Type 0 = λ d. Makes d input text in
+    let A : List ℕ → Type 0 = λ v. Appends held held' v in
+    record {
+      step = λ a. let m : Makes command.Step input text = subst P (same_command words c command.Step asked a) is in
+        record { input = input; scenario = m.0; table = m.1; read = read; served = m.2; text = subst A m.3.text_is written; journals = m.3.headline };
+      make = λ n h. absurd (makes_alone words c n asked h);
+    }
+headlined words left left' held held' status text (Summed m asked made is) written e =
+    let P : ℕ → Type 0 = λ n. IsSummary n text in
+    let A : List ℕ → Type 0 = λ v. Appends held held' v in
+    record {
+      step = λ a. absurd (makes_alone words command.Step m a asked);
+      make = λ n h. let s : IsSummary n text = subst P (same_number words m n asked h) is in
+        record { table = s.0; set_up = s.1; text = subst A s.3 written; journals = s.2 };
+    }
+headlined words left left' held held' status text (Usage unasked) written e = absurd (omega (arith, e))
+headlined words left left' held held' status text (TooLong c asked more) written e = absurd (omega (arith, e))
+headlined words left left' held held' status text (Refused c asked input read r cause) written e = absurd (omega (arith, e))
