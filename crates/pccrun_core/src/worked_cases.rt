@@ -1,6 +1,6 @@
 //! Worked cases of every command over the top call, in tables. Large inputs are made here.
-use crate::tests::{SIX_FIELDS_TEXT, TABLE, changed, words_of};
 use crate::run;
+use crate::tests::{SIX_FIELDS_TEXT, TABLE, changed, words_of};
 use cpc_package::SIX_FIELDS_PACKAGE;
 use pcc_io::{MemSink, MemSource, NoMemory};
 use pcc_text::{put, put_hex, put_number};
@@ -18,7 +18,12 @@ fn joined(alloc: Global, parts: &[&[u8]]) -> Result<Vec<u8>, NoMemory> {
 }
 
 // The status of a command on an input, where it reads all of it and writes this text.
-fn status_of(alloc: Global, words: &str, input: &[u8], text: &[u8]) -> Result<Option<u8>, NoMemory> {
+fn status_of(
+    alloc: Global,
+    words: &str,
+    input: &[u8],
+    text: &[u8],
+) -> Result<Option<u8>, NoMemory> {
     let words = words_of(alloc, words)?;
     let mut source = MemSource::new(alloc, input, 65_536, &[])?;
     let mut sink = MemSink::new(alloc, 1_000_000, 65_536, &[])?;
@@ -98,7 +103,14 @@ fn the_earliest_reading_of_a_post(rt: HostRuntime) -> Result<(), Fail> {
     ];
     let text = joined(
         alloc,
-        &[b"4", ZEROS, b"5", ZEROS, SLOW_HEAD, &joined(alloc, &records)?],
+        &[
+            b"4",
+            ZEROS,
+            b"5",
+            ZEROS,
+            SLOW_HEAD,
+            &joined(alloc, &records)?,
+        ],
     )?;
     assert_eq!(rt; status_of(alloc, "step", &exact, &text)?, Some(0));
     let below = joined(
@@ -189,8 +201,14 @@ fn many_structures(
         put(&mut bytes, &ONE_GENERIC_SUBSPACE[48..])?;
         put(&mut text, b"subspace ")?;
         put_number(&mut text, place)?;
-        put(&mut text, b" type 0 reserved=000000000000 base=2147483648 length=24 ")?;
-        put(&mut text, b"doorbell=0:32:0:3:4275044352 preserve=4294967294 ")?;
+        put(
+            &mut text,
+            b" type 0 reserved=000000000000 base=2147483648 length=24 ",
+        )?;
+        put(
+            &mut text,
+            b"doorbell=0:32:0:3:4275044352 preserve=4294967294 ",
+        )?;
         put(&mut text, b"write=1 latency=1000 rate=0 turnaround=0\n")?;
     }
     Ok((bytes, text))
@@ -262,10 +280,16 @@ fn reserved_bytes_and_revisions(rt: HostRuntime) -> Result<(), Fail> {
 fn other_entries_of_a_package(rt: HostRuntime) -> Result<(), Fail> {
     let alloc = rt.alloc();
     let six = &SIX_FIELDS_PACKAGE;
-    let integer = joined(alloc, &[b"\x12\x43\x10", &six[3..38], b"\x0a\x05", &six[59..]])?;
+    let integer = joined(
+        alloc,
+        &[b"\x12\x43\x10", &six[3..38], b"\x0a\x05", &six[59..]],
+    )?;
     let line = b"refused package not register 7 38\n";
     assert_eq!(rt; status_of(alloc, "cpc", &integer, line)?, Some(3));
-    let word = joined(alloc, &[b"\x12\x47\x11", &six[3..6], b"\x0b\x03\x00", &six[8..]])?;
+    let word = joined(
+        alloc,
+        &[b"\x12\x47\x11", &six[3..6], b"\x0b\x03\x00", &six[8..]],
+    )?;
     let text = joined(
         alloc,
         &[
@@ -343,7 +367,10 @@ fn a_trace_with_the_platform_interrupt(rt: HostRuntime) -> Result<(), Fail> {
     )?;
     let mut script = Vec::from_slice(alloc, b"table ")?;
     put_hex(&mut script, &table)?;
-    put(&mut script, b"\nclock 0 10\nopen 0 bank\ncall 0 0 16 0102 3 0\n")?;
+    put(
+        &mut script,
+        b"\nclock 0 10\nopen 0 bank\ncall 0 0 16 0102 3 0\n",
+    )?;
     put(&mut script, b"pick ooooopppppppoooo\n")?;
     assert_eq!(rt; status_of(alloc, "weave", &script, NOTIFIED)?, Some(0));
     Ok(())
