@@ -4,6 +4,7 @@
 mod command;
 mod error;
 mod package;
+mod program;
 mod script;
 mod step;
 mod tables;
@@ -11,7 +12,10 @@ mod top;
 mod uses;
 mod weave;
 
+pub use program::run_program;
 pub use top::{Finished, run};
 
 #[cfg(test)]
 mod tests;
+#[cfg(test)]
+mod worked_cases;

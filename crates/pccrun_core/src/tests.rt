@@ -6,7 +6,7 @@ use pcct_codec::{NO_SUBSPACES, ONE_GENERIC_SUBSPACE};
 use std::alloc::Global;
 use std::test::Fail;
 
-const TABLE: &[u8] =
+pub const TABLE: &[u8] =
     b"table 504343546e000000026e50434352554e4558414d504c4531010000005445535401000000000000000000000000000000003e0000000000\
 0000000080000000001800000000000000002000030000d0fe00000000feffffff000000000100000000000000e8030000000000000000\n";
 
@@ -61,7 +61,7 @@ fn script(alloc: Global, rest: &[u8]) -> Result<Vec<u8>, NoMemory> {
     Ok(text)
 }
 
-fn words_of(alloc: Global, text: &str) -> Result<Vec<String>, NoMemory> {
+pub fn words_of(alloc: Global, text: &str) -> Result<Vec<String>, NoMemory> {
     let mut words = Vec::new(alloc);
     for word in text.split(' ') {
         words.push(String::from_str(alloc, word)?)?;
@@ -114,7 +114,7 @@ subspace 0 type 0 reserved=000000000000 base=2147483648 length=24 doorbell=0:32:
 write=1 latency=1000 rate=0 turnaround=0\n";
 
 // The bytes with some of them changed.
-fn changed(alloc: Global, bytes: &[u8], changes: &[(usize, u8)]) -> Result<Vec<u8>, NoMemory> {
+pub fn changed(alloc: Global, bytes: &[u8], changes: &[(usize, u8)]) -> Result<Vec<u8>, NoMemory> {
     let mut bytes = Vec::from_slice(alloc, bytes)?;
     for (place, value) in changes {
         if let Some(byte) = bytes.get_mut(*place) {
@@ -188,7 +188,7 @@ fn wrong_texts_of_tables_are_refused(rt: HostRuntime) -> Result<(), Fail> {
     Ok(())
 }
 
-const SIX_FIELDS_TEXT: &[u8] = b"0 NumEntries integer 23 byte\n\
+pub const SIX_FIELDS_TEXT: &[u8] = b"0 NumEntries integer 23 byte\n\
 1 Revision integer 3 byte\n\
 2 HighestPerformance integer 300 word\n\
 3 NominalPerformance integer 200 byte\n\
