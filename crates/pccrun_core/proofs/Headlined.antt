@@ -26,7 +26,7 @@ headlined words left left' held held' status text (Made c asked input read made 
     let A : List ℕ → Type 0 = λ v. Appends held held' v in
     record {
       step = λ a. let m : Makes command.Step input text = subst P (same_command words c command.Step asked a) is in
-        record { input = input; scenario = m.0; table = m.1; read = read; served = m.2; text = subst A m.3.text_is written; journals = m.3.headline };
+          record { input = input; scenario = m.0; table = m.1; read = read; served = m.2; text = subst A m.3.text_is written; journals = m.3.headline };
       make = λ n h. absurd (makes_alone words c n asked h);
     }
 headlined words left left' held held' status text (Summed m asked made is) written e =
@@ -35,7 +35,7 @@ headlined words left left' held held' status text (Summed m asked made is) writt
     record {
       step = λ a. absurd (makes_alone words command.Step m a asked);
       make = λ n h. let s : IsSummary n text = subst P (same_number words m n asked h) is in
-        record { table = s.0; set_up = s.1; text = subst A s.3 written; journals = s.2 };
+          record { table = s.0; set_up = s.1; text = subst A s.3 written; journals = s.2 };
     }
 headlined words left left' held held' status text (Usage unasked) written e = absurd (omega (arith, e))
 headlined words left left' held held' status text (TooLong c asked more) written e = absurd (omega (arith, e))
