@@ -1,0 +1,2 @@
+pub mod TraceLog
+pub mod WordHeadline

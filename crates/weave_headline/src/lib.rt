@@ -1,0 +1,6 @@
+//! The headline of one channel whose words both ends step through: what its journal is worth by its calls and its trace.
+#![tactic(auto)]
+
+mod law;
+
+pub use law::headline_of_weave;
