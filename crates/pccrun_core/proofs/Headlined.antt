@@ -7,7 +7,7 @@ use Rattle.pcc_script.specs.declared.limits.TheConstants.{MAX_MADE_CALLS}
 use Rattle.pccrun_core.specs.declared.command.Command.{Command}
 use Rattle.pccrun_core.specs.declared.command.Command.TheVariants as command
 use Rattle.pccrun_core.specs.Answers.{Answers, AsksFor, AsksToMake, Made, Makes, Refused, Summed, TooLong, Usage}
-use Rattle.pccrun_core.specs.Headlined.{Headlined, MakeHeadline, StepHeadline}
+use Rattle.pccrun_core.specs.Headlined.{Headlined, MakeHeadline, StepHeadline, WeaveHeadline}
 use Rattle.pccrun_core.proofs.Tops.{makes_alone, same_command}
 use Rattle.script_run.specs.Summaries.{IsSummary}
 
@@ -27,6 +27,8 @@ headlined words left left' held held' status text (Made c asked input read made 
     record {
       step = λ a. let m : Makes command.Step input text = subst P (same_command words c command.Step asked a) is in
           record { input = input; scenario = m.0; table = m.1; read = read; served = m.2; text = subst A m.3.text_is written; journals = m.3.headline };
+      weave = λ a. let m : Makes command.Weave input text = subst P (same_command words c command.Weave asked a) is in
+          record { input = input; scenario = m.0; table = m.1; text = text; read = read; served = m.2; written = written; woven = m.3 };
       make = λ n h. absurd (makes_alone words c n asked h);
     }
 headlined words left left' held held' status text (Summed m asked made is) written e =
@@ -34,6 +36,7 @@ headlined words left left' held held' status text (Summed m asked made is) writt
     let A : List ℕ → Type 0 = λ v. Appends held held' v in
     record {
       step = λ a. absurd (makes_alone words command.Step m a asked);
+      weave = λ a. absurd (makes_alone words command.Weave m a asked);
       make = λ n h. let s : IsSummary n text = subst P (same_number words m n asked h) is in
           record { table = s.0; set_up = s.1; text = subst A s.3 written; journals = s.2 };
     }

@@ -38,6 +38,7 @@ use Rattle.channel_plain.specs.WordRuns.{WordRun, flown}
 use Rattle.pcc_script.specs.declared.scenario.OpenLine.{OpenLine}
 use Rattle.pcc_setup.specs.Openings.{head_of}
 use Rattle.pccrun_core.specs.Weaving.{AreReadings, IsCall, IsWoven, asked_by, side_of}
+use Rattle.weave_headline.proofs.Headlines.{word_headline}
 use Rattle.pcc_wiring.specs.Wirings.{wiring_with}
 
 -- ---- readings
@@ -147,6 +148,8 @@ is_woven s t o u letters w limits state begin end clock0 clock calls sides trace
     let L : Bool × List ℕ → Type 0 = λ z. Legal bank_exec z.0 z.1 (exchanges_of end.calls.records) in
     let W : Wiring × List Asked → Type 0 = λ z. IsWhole (opening_of z.0) z.1 end.calls.records in
     let K : Limits → Type 0 = λ l. WithinLimits l (times_of end.calls.records) (post_of (flown end.ask.in_flight end.calls.sent)) in
+    let legal : Legal bank_exec (head_of o.id u).reports (0 ∷ replicate (head_of o.id u).room 0) (exchanges_of end.calls.records) = subst L (λ i. (reports i, (stay.start ∙ start) i)) good.legal in
+    let wired_run = subst R (λ i. (wires i, lims i, start i, called i, sided i)) run in
     record {
       open_line = o;
       opens = alone;
@@ -159,10 +162,13 @@ is_woven s t o u letters w limits state begin end clock0 clock calls sides trace
       records = end.calls.records;
       sent = flown end.ask.in_flight end.calls.sent;
       executed = exchanges_of_commands end.executed;
-      run = subst R (λ i. (wires i, lims i, start i, called i, sided i)) run;
+      run = wired_run;
       read = (ticked s rs clock (omega arith) (subst C clocked readings)).read;
-      legal = subst L (λ i. (reports i, (stay.start ∙ start) i)) good.legal;
+      legal = legal;
       whole = subst W (λ i. (wires i, called i)) whole;
       limits = subst K (stay.limits ∙ lims) (limits_flown end.calls.limits (times_of end.calls.records) end.ask.in_flight end.calls.sent good.limits);
+      ahead = good.ahead;
+      headline = word_headline bank_exec (wiring_with o.id t.flags u) (head_of o.id u).limits (0 ∷ replicate (head_of o.id u).room 0) (replicate (head_of o.id u).room 0) (map asked_by s.actions)
+          (map side_of letters) trace rs end.calls.records (flown end.ask.in_flight end.calls.sent) (exchanges_of_commands end.executed) wired_run legal;
       text_is = is ∙ ap (λ (p : _). trace_text trace ++ journal_text (head_of o.id u) end.calls.records p) (pending_flown end.ask.in_flight end.calls.sent);
     }
