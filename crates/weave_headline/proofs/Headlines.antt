@@ -1,5 +1,5 @@
 -- The headline of a run of words.
-use Rattle.std.proofs.Common.{◌≡◌, ◌≤◌, ◌<◌, ℕ, ◌+◌, Bool, true, false, List, [], ◌∷◌, ◌++◌, length, take, refl, sym, ap, ◌∙◌, subst, arith}
+use Rattle.std.proofs.Common.{◌≡◌, ◌≤◌, ℕ, ◌+◌, Bool, true, false, List, [], ◌∷◌, ◌++◌, length, take, refl, sym, ap, ◌∙◌, subst, arith}
 use Rattle.std.specs.Prelude.{Option, Some, None}
 use Rattle.std.specs.List.{AllByRecursion, filter, slice_get}
 use Rattle.std.proofs.lemmas.List.{append-nil, length-append, take-append-le, take_all}
@@ -23,8 +23,8 @@ use Rattle.channel_headline.specs.Headline.{Headline}
 use Rattle.channel_headline.specs.Lines.{AreEnded, CallLine, HasReply, asked_by}
 use Rattle.weave_headline.specs.TraceLog.{TraceLog, empty_log, line_of, lines_in, log_from, log_of, open_line}
 use Rattle.weave_headline.specs.WordHeadline.{WordHeadline, journal_of, terms_of}
-use Rattle.weave_headline.proofs.Points.{IsLost, Point, T, headline_at, lost, lost_note, note_of, nothing}
-use Rattle.weave_headline.proofs.Turns.{Flies, Holds, Rests, late, log_append, log_walk, owned, quiet, stepped, turns_hold}
+use Rattle.weave_headline.proofs.Points.{IsLost, Point, headline_at, lost, lost_note, note_of, nothing}
+use Rattle.weave_headline.proofs.Turns.{Flies, Holds, Rests, late, log_append, log_walk, owned, quiet, turns_hold}
 
 all_ended : (ls : List CallLine) → AllByRecursion (λ l. HasReply l.reply) ls → AreEnded ls
 all_ended [] h = tt

@@ -19,10 +19,10 @@ use Rattle.pcc_journal.specs.Records.{exchange_of_record, exchanges_of, times_of
 use Rattle.pcc_journal.specs.Events.{Event, Answered, Drained, Lost, Completed, Noted, NotedPending, Posted, completed_of, events_of, noted, post_count, posted_of, posted_of_pending, records_of}
 use Rattle.pcc_journal.proofs.EventsGrow.{drained as events_drained, last as events_last, noted_last, noted_records, posted as events_posted, post_count-append}
 use Rattle.pcc_steps.specs.declared.wiring.Wiring.{Wiring}
-use Rattle.channel_turns.specs.Replies.{Reply, Done, StillPending, TooSoon}
+use Rattle.channel_turns.specs.Replies.{Reply, Done, TooSoon}
 use Rattle.channel_headline.specs.After.{After, IsRead, IsReading, Rise, after_event, after_events, before_all, numbers_in}
 use Rattle.channel_headline.specs.Causes.{AllCaused, HasCause, IsTooSoon, Past, Terms, own_refusal}
-use Rattle.channel_headline.specs.Headline.{Headline, NotedJournal, pending_count, pending_post}
+use Rattle.channel_headline.specs.Headline.{Headline, pending_count, pending_post}
 use Rattle.channel_headline.specs.Lines.{AreEnded, CallLine, asked_by, mine_of, soon_lines, soon_numbers, was_posted, was_too_soon}
 use Rattle.channel_headline.specs.Matches.{AllMatch, Matches, Placed, Tied, own_calls, placed}
 use Rattle.channel_headline.proofs.Growing.{after-append, all_last, all_read, match_drained, match_more, match_quiet, one_match, reading_first, reading_second, rise_events, rise_higher, soon_count, soon_more, soon_other}

@@ -1,19 +1,18 @@
 -- The log of a trace follows the calls of its runs.
-use Rattle.std.proofs.Common.{◌≡◌, ◌≤◌, ◌<◌, ℕ, ◌+◌, Bool, true, false, cond, List, [], ◌∷◌, ◌++◌, length, take, refl, sym, ap, ◌∙◌, subst, arith}
+use Rattle.std.proofs.Common.{◌≡◌, ◌≤◌, ◌<◌, ℕ, ◌+◌, Bool, true, false, cond, List, [], ◌∷◌, ◌++◌, length, refl, sym, ap, ◌∙◌, subst, arith}
 use Rattle.std.specs.Prelude.{◌&&◌, nat_lt, nat_le, Option, Some, None}
 use Rattle.std.specs.List.{AllByRecursion, slice_get}
 use Rattle.std.proofs.lemmas.Bool.{leb-false, leb-true}
 use Rattle.std.proofs.lemmas.List.{append_assoc, append-nil, length-append}
 use Rattle.std.proofs.lemmas.Option.{same_Some}
 use Rattle.pcc_history.specs.Devices.{Device}
-use Rattle.pcc_history.specs.Channel.{over}
 use Rattle.rate_limit.specs.declared.Limits.{Limits}
 use Rattle.rate_limit.specs.RateLimits.{earliest_of}
 use Rattle.pcc_journal.specs.declared.reserved.TheConstants.{MAX_ITEMS}
 use Rattle.pcc_journal.specs.declared.note.Note.{Note}
 use Rattle.pcc_journal.specs.declared.record.Record.{Record}
 use Rattle.pcc_journal.specs.Records.{times_of}
-use Rattle.pcc_journal.specs.Events.{Event, NotedPending, post_count}
+use Rattle.pcc_journal.specs.Events.{NotedPending, post_count}
 use Rattle.pcc_steps.specs.declared.wiring.Wiring.{Wiring}
 use Rattle.pcc_steps.specs.declared.wiring.Action.{Action}
 use Rattle.pcc_steps.specs.declared.wiring.Action.TheVariants.{Load, Store, Swap}
@@ -29,7 +28,7 @@ use Rattle.channel_plain.specs.Picks.{drained_end, given_up_end, record_of, refu
 use Rattle.channel_plain.specs.WordRuns.{Calls, IsRun, Serves, Turn, Turns, Walks, begins, delays, end_call, gives_up, goes_on, goes_on_if, idles, in_flight, looks_on, more, next_of, none, posts_call, refusal_at, refuses, replied, rest_of, sends, take_reading, takes}
 use Rattle.channel_turns.specs.Replies.{Reply, Done, BadCode, TooLong, JournalFull, StillPending, TooSoon, TimedOut}
 use Rattle.channel_headline.specs.After.{After}
-use Rattle.channel_headline.specs.Causes.{HasCause, IsBlocked, IsFull, own_refusal}
+use Rattle.channel_headline.specs.Causes.{HasCause, IsBlocked, IsFull}
 use Rattle.channel_headline.specs.Headline.{pending_count}
 use Rattle.channel_headline.specs.Lines.{CallLine, HasReply, is_post, is_too_soon}
 use Rattle.weave_headline.specs.TraceLog.{TraceLog, drained_by, ended_with, given_up_after, line_of, log_end, log_from, output_by, output_of, rest_after, step_in, with_line}
@@ -229,7 +228,6 @@ module _ (exec : Device) (w : Wiring) (limits : Limits) (start opening : List �
       (record {
         ended = one_longer g.calls (line_of c (Some (soon_reply s r)) g.taken) s.ended h.ended;
         taken = ap (λ (m : ℕ). m + 1) h.taken ∙ sym (length-append s.readings (r ∷ []));
-       
         replies = all_last g.calls (line_of c (Some (soon_reply s r)) g.taken) h.replies tt;
         serves = λ begun. absurd (no begun);
         flies = on h.flies;
@@ -252,7 +250,6 @@ module _ (exec : Device) (w : Wiring) (limits : Limits) (start opening : List �
       record {
         ended = h.ended;
         taken = ap (λ (m : ℕ). m + 1) h.taken ∙ sym (length-append s.readings (r ∷ []));
-       
         replies = h.replies;
         serves = λ begun d at'. ((h.serves b d at').0, λ un. absurd (no un));
         flies = on h.flies;
@@ -304,7 +301,6 @@ module _ (exec : Device) (w : Wiring) (limits : Limits) (start opening : List �
       subst (Holds end_state) (sym noted) (record {
         ended = one_longer g.calls k s.ended h.ended;
         taken = h.taken;
-       
         replies = all_last g.calls k h.replies tt;
         serves = λ begun. absurd (no begun);
         flies = late given (note_of (length rs) 0 c.polls) refl refl refl refl (subst P (sym e) point);
@@ -324,7 +320,6 @@ module _ (exec : Device) (w : Wiring) (limits : Limits) (start opening : List �
       let held : Holds up g = record {
         ended = h.ended;
         taken = h.taken;
-       
         replies = h.replies;
         serves = λ begun d at'. ((h.serves b d at').0, λ v. subst (λ (m : ℕ). length s.records + m < MAX_ITEMS) same ((h.serves b d at').1 v));
         flies = late given n refl refl f u q;
@@ -378,7 +373,6 @@ module _ (exec : Device) (w : Wiring) (limits : Limits) (start opening : List �
       subst (Holds end_state) (sym logged) (record {
         ended = one_longer g.calls k s.ended h.ended;
         taken = ap (λ (m : ℕ). m + 1) h.taken ∙ sym (length-append s.readings (d ∷ []));
-       
         replies = all_last g.calls k h.replies tt;
         serves = λ begun. absurd (no begun);
         flies = quiet refl refl refl (subst P all (subst N number point));
@@ -403,7 +397,6 @@ module _ (exec : Device) (w : Wiring) (limits : Limits) (start opening : List �
       subst (Holds end_state) (sym logged) (record {
         ended = h.ended;
         taken = ap (λ (m : ℕ). m + 1) h.taken ∙ sym (length-append s.readings (d ∷ []));
-       
         replies = h.replies;
         serves = λ begun c at. ((h.serves b c at).0, λ v. let old : length s.records + 1 < MAX_ITEMS = subst (λ (o : Option Sent). length s.records + in_flight o < MAX_ITEMS) a ((h.serves b c at).1 u) in omega (arith, more, old));
         flies = quiet refl refl u (subst N (sym h.taken) point);

@@ -1,2 +1,3 @@
 pub mod TraceLog
 pub mod WordHeadline
+pub mod Worked

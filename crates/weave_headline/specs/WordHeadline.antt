@@ -1,5 +1,5 @@
 -- The headline of a channel whose words both ends step through.
-use Rattle.std.specs.Prelude.{◌≡◌, ◌≤◌, ℕ, ◌+◌, List, [], ◌∷◌, length, take, Option, Some, None}
+use Rattle.std.specs.Prelude.{◌≤◌, ℕ, ◌+◌, List, length, take, Option}
 use Rattle.std.specs.List.{filter}
 use Rattle.pcc_history.specs.Devices.{Device}
 use Rattle.rate_limit.specs.declared.Limits.{Limits}

@@ -2,5 +2,7 @@
 #![tactic(auto)]
 
 mod law;
+mod worked;
 
 pub use law::headline_of_weave;
+pub use worked::{worked_lies, worked_logs};
