@@ -63,8 +63,9 @@ pub record IsWoven (s : Scenario) (t : Table) (text : List ℕ) : Type 0 where
   pub records : List Record
   pub sent : Option Sent
   pub executed : List Exchange
-  pub run : WordRun bank_exec (wiring_with open_line.id t.flags subspace) (head_of open_line.id subspace).limits (0 ∷ replicate (head_of open_line.id subspace).room 0) (replicate (head_of open_line.id subspace).room 0)
-      (map asked_by s.actions) (map side_of letters) trace readings records sent executed
+  pub run : WordRun bank_exec (wiring_with open_line.id t.flags subspace) (head_of open_line.id subspace).limits
+      (0 ∷ replicate (head_of open_line.id subspace).room 0) (replicate (head_of open_line.id subspace).room 0) (map asked_by s.actions)
+      (map side_of letters) trace readings records sent executed
   pub read : AreReadings s readings
   pub legal : Legal bank_exec (head_of open_line.id subspace).reports (0 ∷ replicate (head_of open_line.id subspace).room 0) (exchanges_of records)
   pub whole : IsWhole (replicate (head_of open_line.id subspace).room 0) (map asked_by s.actions) records
