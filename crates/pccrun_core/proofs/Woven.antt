@@ -163,6 +163,7 @@ is_woven s t o u letters w limits state begin end clock0 clock calls sides trace
       read = (ticked s rs clock (omega arith) (subst C clocked readings)).read;
       legal = subst L (λ i. (reports i, (stay.start ∙ start) i)) good.legal;
       whole = subst W (λ i. (wires i, called i)) whole;
+      ahead = good.ahead;
       limits = subst K (stay.limits ∙ lims) (limits_flown end.calls.limits (times_of end.calls.records) end.ask.in_flight end.calls.sent good.limits);
       text_is = is ∙ ap (λ (p : _). trace_text trace ++ journal_text (head_of o.id u) end.calls.records p) (pending_flown end.ask.in_flight end.calls.sent);
     }
