@@ -6,8 +6,8 @@ use Rattle.std.proofs.lemmas.Fmt.{decimal_injective}
 use Rattle.pcc_script.specs.declared.limits.TheConstants.{MAX_MADE_CALLS}
 use Rattle.pccrun_core.specs.declared.command.Command.{Command}
 use Rattle.pccrun_core.specs.declared.command.Command.TheVariants as command
-use Rattle.pccrun_core.specs.Answers.{Answers, AsksFor, AsksToMake, Made, Makes, Refused, Summed, TooLong, Usage}
-use Rattle.pccrun_core.specs.Headlined.{Headlined, MakeHeadline, StepHeadline, WeaveHeadline}
+use Rattle.pccrun_core.specs.Answers.{Answers, AsksToMake, Made, Makes, Refused, Summed, TooLong, Usage}
+use Rattle.pccrun_core.specs.Headlined.{Headlined}
 use Rattle.pccrun_core.proofs.Tops.{makes_alone, same_command}
 use Rattle.script_run.specs.Summaries.{IsSummary}
 

@@ -1,5 +1,5 @@
 -- Why inputs are refused, and that no served input is.
-use Rattle.std.proofs.Common.{◌≡◌, ℕ, true, false, List, sym, subst, Result, Ok, Err}
+use Rattle.std.proofs.Common.{◌≡◌, ℕ, true, false, List, subst, Ok, Err}
 use Rattle.std.specs.Prelude.{Some, None}
 use Rattle.pcc_script.specs.Faults.{IsReadAs}
 use Rattle.pcc_script.specs.Text.{IsScenario, script_text, statements_of}

@@ -1,5 +1,5 @@
 -- A script that `weave` serves opens one subspace, and has calls alone.
-use Rattle.std.proofs.Common.{◌≡◌, ℕ, zero, suc, ◌<◌, ◌==◌, ◌||◌, not, Bool, true, false, if◌then◌else◌, List, [], ◌∷◌, ◌++◌, length, get_or, take, refl, sym, ap, ◌∙◌, subst, arith}
+use Rattle.std.proofs.Common.{◌≡◌, ℕ, ◌<◌, ◌==◌, ◌||◌, not, Bool, true, false, if◌then◌else◌, List, [], ◌∷◌, ◌++◌, length, get_or, take, refl, sym, ap, ◌∙◌, subst, arith}
 use Rattle.std.specs.Prelude.{Option, Some, None, is_none, slice_get}
 use Rattle.std.specs.List.{AllByRecursion, list_all, list_any}
 use Rattle.std.proofs.lemmas.Bool.Decides.{nat_tests}
@@ -11,12 +11,12 @@ use Rattle.pcc_script.specs.declared.scenario.OpenLine.{OpenLine}
 use Rattle.pcc_script.specs.declared.scenario.Scenario.{Scenario}
 use Rattle.pcc_setup.specs.declared.opening.Opened.{Opened}
 use Rattle.pcc_setup.specs.Openings.{head_of, line_fault, opened_by, opened_with}
-use Rattle.pcc_setup.specs.SetUps.{Opens, is_bank}
+use Rattle.pcc_setup.specs.SetUps.{is_bank}
 use Rattle.pcc_setup.specs.declared.refusal.UseFault.TheVariants.{Bank, Many, Pick, Wait}
 use Rattle.pcc_wiring.specs.declared.fault.Asks.TheVariants.{System}
 use Rattle.pcc_wiring.specs.Faults.{fault_of}
 use Rattle.pcc_wiring.specs.Wirings.{wiring_with}
-use Rattle.script_run.specs.Built.{is_built, is_built_line}
+use Rattle.script_run.specs.Built.{is_built_line}
 use Rattle.script_run.proofs.OpenedScripts.{built_lines, there}
 use Rattle.pccrun_core.specs.declared.command.Command.TheVariants as command
 use Rattle.pccrun_core.specs.Answers.{Makes, Serves}

@@ -166,8 +166,8 @@ is_woven s t o u letters w limits state begin end clock0 clock calls sides trace
       read = (ticked s rs clock (omega arith) (subst C clocked readings)).read;
       legal = legal;
       whole = subst W (λ i. (wires i, called i)) whole;
-      limits = subst K (stay.limits ∙ lims) (limits_flown end.calls.limits (times_of end.calls.records) end.ask.in_flight end.calls.sent good.limits);
       ahead = good.ahead;
+      limits = subst K (stay.limits ∙ lims) (limits_flown end.calls.limits (times_of end.calls.records) end.ask.in_flight end.calls.sent good.limits);
       headline = word_headline bank_exec (wiring_with o.id t.flags u) (head_of o.id u).limits (0 ∷ replicate (head_of o.id u).room 0) (replicate (head_of o.id u).room 0) (map asked_by s.actions)
           (map side_of letters) trace rs end.calls.records (flown end.ask.in_flight end.calls.sent) (exchanges_of_commands end.executed) wired_run legal;
       text_is = is ∙ ap (λ (p : _). trace_text trace ++ journal_text (head_of o.id u) end.calls.records p) (pending_flown end.ask.in_flight end.calls.sent);

@@ -1,5 +1,5 @@
 -- The headline of `step`, of `weave` and of `make`, as the top call says it.
-use Rattle.std.specs.Prelude.{◌≡◌, ℕ, List, Option}
+use Rattle.std.specs.Prelude.{ℕ, List, Option}
 use Rattle.std.specs.Io.KnownBytes.{Appends}
 use Rattle.pcc_script.specs.Made.{made_scenario_of}
 use Rattle.pcc_script.specs.declared.scenario.Scenario.{Scenario}

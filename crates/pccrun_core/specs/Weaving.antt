@@ -1,5 +1,5 @@
 -- What `weave` prints: the trace of single word steps that the letters of a script pick, and the journal that comes of it.
-use Rattle.std.specs.Prelude.{◌≡◌, ◌<◌, ◌⊎◌, ℕ, List, [], ◌∷◌, ◌++◌, length, map, replicate, get_or, slice_get, Option, Some}
+use Rattle.std.specs.Prelude.{◌≡◌, ◌⊎◌, ◌<◌, ℕ, List, [], ◌∷◌, ◌++◌, length, map, replicate, get_or, slice_get, Option, Some}
 use Rattle.pcc_causes.specs.Clock.{line_reading}
 use Rattle.pcc_history.specs.Channel.{Exchange}
 use Rattle.pcc_history.specs.Devices.{bank_exec}
@@ -48,9 +48,13 @@ side_of letter.P = side.Platform
 abbrev pub AreReadings : Scenario → List ℕ → Type 0
 AreReadings s readings = (k : ℕ) → k < length readings → get_or readings k 0 ≡ line_reading s.start s.step 0 k
 
+-- the executed commands are those that are recorded, or one more, whose reply isn't taken yet
+abbrev pub IsAhead : List Exchange → List Exchange → Type 0
+IsAhead executed recorded = (executed ≡ recorded) ⊎ ((e : Exchange) × (executed ≡ recorded ++ e ∷ []))
+
 -- The text is a trace and its journal. The trace is a run of single words on the one opened structure, for the calls and the letters of the script,
--- and it leaves these records and this command in flight. They are a legal and whole history and keep the limits. No record ran ahead of the
--- device, which has executed their commands and one more at most. The trace and the journal keep the headline.
+-- and it leaves these records and this command in flight. They are a legal and whole history and keep the limits, and at most one executed
+-- command isn't recorded yet. The trace and the journal keep the headline.
 pub record IsWoven (s : Scenario) (t : Table) (text : List ℕ) : Type 0 where
   pub open_line : OpenLine
   pub opens : s.opens ≡ open_line ∷ []
@@ -63,13 +67,14 @@ pub record IsWoven (s : Scenario) (t : Table) (text : List ℕ) : Type 0 where
   pub records : List Record
   pub sent : Option Sent
   pub executed : List Exchange
-  pub run : WordRun bank_exec (wiring_with open_line.id t.flags subspace) (head_of open_line.id subspace).limits (0 ∷ replicate (head_of open_line.id subspace).room 0) (replicate (head_of open_line.id subspace).room 0)
-      (map asked_by s.actions) (map side_of letters) trace readings records sent executed
+  pub run : WordRun bank_exec (wiring_with open_line.id t.flags subspace) (head_of open_line.id subspace).limits
+      (0 ∷ replicate (head_of open_line.id subspace).room 0) (replicate (head_of open_line.id subspace).room 0) (map asked_by s.actions)
+      (map side_of letters) trace readings records sent executed
   pub read : AreReadings s readings
   pub legal : Legal bank_exec (head_of open_line.id subspace).reports (0 ∷ replicate (head_of open_line.id subspace).room 0) (exchanges_of records)
   pub whole : IsWhole (replicate (head_of open_line.id subspace).room 0) (map asked_by s.actions) records
+  pub ahead : IsAhead executed (exchanges_of records)
   pub limits : WithinLimits (head_of open_line.id subspace).limits (times_of records) (post_of sent)
-  pub ahead : (executed ≡ exchanges_of records) ⊎ ((e : Exchange) × (executed ≡ exchanges_of records ++ e ∷ []))
   pub headline : WordHeadline bank_exec (wiring_with open_line.id t.flags subspace) (head_of open_line.id subspace).limits
       (0 ∷ replicate (head_of open_line.id subspace).room 0) (replicate (head_of open_line.id subspace).room 0) (map asked_by s.actions)
       trace readings records sent
