@@ -120,7 +120,9 @@ fn calls_that_are_refused(rt: HostRuntime) {
     );
     channel.wait(100);
     assert!(rt; channel.call(alloc, 0, 17, &[], 1, 0) == Ok(Outcome::Done { place: 0 }));
-    assert!(rt; channel.records()[0].post == 100 && channel.records()[0].done == 110);
+    let records = channel.records();
+    assert!(rt; records.len() == 1);
+    assert!(rt; records[0].post == 100 && records[0].done == 110);
 }
 
 #[test]

@@ -101,17 +101,8 @@ fn the_earliest_reading_of_a_post(rt: HostRuntime) -> Result<(), Fail> {
         NOTHING,
         b"end 0\n",
     ];
-    let text = joined(
-        alloc,
-        &[
-            b"4",
-            ZEROS,
-            b"5",
-            ZEROS,
-            SLOW_HEAD,
-            &joined(alloc, &records)?,
-        ],
-    )?;
+    let journal = joined(alloc, &records)?;
+    let text = joined(alloc, &[b"4", ZEROS, b"5", ZEROS, SLOW_HEAD, &journal])?;
     assert_eq!(rt; status_of(alloc, "step", &exact, &text)?, Some(0));
     let below = joined(
         alloc,
@@ -131,6 +122,7 @@ fn the_earliest_reading_of_a_post(rt: HostRuntime) -> Result<(), Fail> {
         NOTHING,
         b"end 0\n",
     ];
+    let journal = joined(alloc, &records)?;
     let text = joined(
         alloc,
         &[
@@ -139,7 +131,7 @@ fn the_earliest_reading_of_a_post(rt: HostRuntime) -> Result<(), Fail> {
             b"6 too soon 1509 1510\n7",
             ZEROS,
             SLOW_HEAD,
-            &joined(alloc, &records)?,
+            &journal,
         ],
     )?;
     assert_eq!(rt; status_of(alloc, "step", &below, &text)?, Some(0));
