@@ -1,5 +1,5 @@
 -- Laws of fields.
-use Rattle.std.proofs.Common.{◌≡◌, ℕ, zero, suc, ◌+◌, ◌-◌, ◌*◌, ◌/◌, ◌%◌, ◌^◌, ◌<◌, ◌≤◌, List, slice_index, inl, inr, refl, sym, ap, ◌∙◌, one-add, arith}
+use Rattle.std.proofs.Common.{◌≡◌, ℕ, zero, suc, ◌+◌, ◌-◌, ◌*◌, ◌/◌, ◌%◌, ◌^◌, ◌<◌, ◌≤◌, List, length, slice_index, inl, inr, refl, sym, ap, ◌∙◌, one-add, arith}
 use Rattle.std.proofs.lemmas.Bool.{cases_lt}
 use Rattle.std.proofs.lemmas.List.{ext_get_or}
 use Rattle.std.proofs.lemmas.Nat.{mod-pow-add}
@@ -23,11 +23,11 @@ bits_from-number space at (suc n) number same =
     rw (low, high, e) (omega arith)
 
 -- the same bits are the same number
-bits_from-same : (a b : List ℕ) (at n : ℕ) → ((k : ℕ) → k < n → bit_of a (at + k) ≡ bit_of b (at + k)) → bits_from a at n ≡ bits_from b at n
+pub bits_from-same : (a b : List ℕ) (at n : ℕ) → ((k : ℕ) → k < n → bit_of a (at + k) ≡ bit_of b (at + k)) → bits_from a at n ≡ bits_from b at n
 bits_from-same a b at zero same = refl
 bits_from-same a b at (suc n) same = rw (bits_from-same a b at n (λ k h. same k (omega arith)), same n (omega arith)) refl
 
-one_more : (low bit p : ℕ) → low < p → bit < 2 → low + bit * p < p * 2
+pub one_more : (low bit p : ℕ) → low < p → bit < 2 → low + bit * p < p * 2
 one_more low bit p h small =
     let top : bit * p ≤ 1 * p = mul-le-mul_right p (omega arith) in
     omega arith
@@ -98,9 +98,13 @@ bit_of-byte space place i h =
     let bit : (8 * place + i) % 8 ≡ i = omega arith in
     rw (byte, bit) refl
 
+-- bytes with the same bits are the same
+pub same_bytes : (a b : List ℕ) → IsBytes a → IsBytes b → length a ≡ length b → ((bit : ℕ) → bit_of a bit ≡ bit_of b bit) → a ≡ b
+same_bytes a b all_a all_b len same =
+    ext_get_or 0 a b len (λ place h.
+    same_from_bits_below 8 (slice_index a place) (slice_index b place) (all_a.fits place) (all_b.fits place) (λ i low.
+    sym (bit_of-byte a place i low) ∙ same (8 * place + i) ∙ bit_of-byte b place i low))
+
 -- one space of bytes is another with a number put into a field
 pub one_space : (space : List ℕ) (field : Field) (value : ℕ) (a b : List ℕ) → IsBytes a → IsBytes b → FieldPut space field value a → FieldPut space field value b → a ≡ b
-one_space space field value a b all_a all_b p q =
-    ext_get_or 0 a b (p.len ∙ sym q.len) (λ place h.
-    same_from_bits_below 8 (slice_index a place) (slice_index b place) (all_a.fits place) (all_b.fits place) (λ i low.
-    sym (bit_of-byte a place i low) ∙ same_bits space field value a b p q (8 * place + i) ∙ bit_of-byte b place i low))
+one_space space field value a b all_a all_b p q = same_bytes a b all_a all_b (p.len ∙ sym q.len) (same_bits space field value a b p q)

@@ -2,6 +2,7 @@
 
 ghost use Rattle.std.specs.Prelude.{◌≡◌, [], ◌∷◌};
 ghost use Rattle.pcc_gas.specs.Addresses.{AddressBytes, RegisterBytes};
+ghost use Rattle.pcc_gas.specs.Changes.{change, with_changes};
 ghost use Rattle.pcc_gas.specs.Fields.{AreApart, FieldPut, field_value};
 
 use crate::{Field, Gas, Register};
@@ -67,4 +68,21 @@ pub fn worked_fields()
     ensures touching { AreApart (record { at_bit = 4; width = 8 }) (record { at_bit = 12; width = 1 }) }
     ensures no_bits { AreApart (record { at_bit = 6; width = 0 }) (record { at_bit = 4; width = 8 }) }
     ensures shared { AreApart (record { at_bit = 4; width = 8 }) (record { at_bit = 11; width = 1 }) → ⊥ }
+{}
+
+/// Fields that are changed at once. It does nothing.
+#[tactic(auto, unfolding(crate::specs::Changes::with_changes, crate::specs::Fields::field_value))]
+pub fn worked_changes()
+    ensures none { with_changes [] (1 ∷ 255 ∷ []) ≡ 1 ∷ 255 ∷ [] }
+    ensures one { with_changes (change (record { at_bit = 4; width = 8 }) 0xab ∷ []) (0x0c ∷ 0xd0 ∷ []) ≡ 0xbc ∷ 0xda ∷ [] }
+    ensures two { with_changes (change (record { at_bit = 1; width = 3 }) 5 ∷ change (record { at_bit = 9; width = 7 }) 0 ∷ []) (0 ∷ 255 ∷ [])
+        ≡ 0x0a ∷ 1 ∷ [] }
+
+    // Where two fields share bits, the first change gives them.
+    ensures shared { with_changes (change (record { at_bit = 0; width = 4 }) 0 ∷ change (record { at_bit = 2; width = 4 }) 15 ∷ []) (255 ∷ [])
+        ≡ 0xf0 ∷ [] }
+
+    // A field's own number changes nothing.
+    ensures own { with_changes (change (record { at_bit = 4; width = 8 }) (field_value (0x12 ∷ 0x34 ∷ []) (record { at_bit = 4; width = 8 })) ∷ [])
+        (0x12 ∷ 0x34 ∷ []) ≡ 0x12 ∷ 0x34 ∷ [] }
 {}
