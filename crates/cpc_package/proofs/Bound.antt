@@ -1,8 +1,11 @@
 -- What is known of the entries of a package that can be bound.
-use Rattle.std.proofs.Common.{◌≡◌, inl, inr, ℕ, zero, suc, ◌+◌, ◌*◌, ◌<◌, ◌≤◌, Bool, true, false, cond, eqb, leb, List, [], ◌∷◌, length, get_or, map, take, set, replicate, Option, Some, None, refl, sym, ap, ◌∙◌, subst, arith}
+use Rattle.std.proofs.Common.{◌≡◌, inl, inr, ℕ, zero, suc, ◌+◌, ◌*◌, ◌<◌, ◌≤◌, Bool, true, false, cond, eqb, leb, List, [], ◌∷◌, length, get_or, map, take, set, replicate, Option, Some, None, refl, sym, ap, ◌∙◌, subst, zero-add, arith}
 use Rattle.std.specs.Prelude.{◌&&◌, slice_index}
-use Rattle.std.proofs.lemmas.Bool.{and_parts, cases_lt, eqb-true, leb-true}
-use Rattle.std.proofs.lemmas.List.{get_or-replicate, get_or-set_same, get_or-set_other, get_or_past, length-replicate, length-set, get_or-map}
+use Rattle.std.specs.Prelude.{unwrap_or}
+use Rattle.std.specs.List.{range_with_len}
+use Rattle.std.proofs.lemmas.Bool.{and_parts, cases_lt, eqb-true, le-ltb, leb-true, lt-ltb}
+use Rattle.std.proofs.lemmas.List.{get_or-replicate, get_or-set_same, get_or-set_other, get_or_past, length-map, length-replicate, length-set, get_or-map, ext_get_or}
+use Rattle.std.proofs.lemmas.List.FromFn.{length-range_with_len, get_or-range_with_len}
 use Rattle.aml_pkg.specs.declared.item.Form.TheVariants.{Zero}
 use Rattle.aml_pkg.specs.declared.item.Element.{Element}
 use Rattle.aml_pkg.specs.declared.item.Element.TheVariants as element
@@ -22,9 +25,9 @@ use Rattle.cpc_package.specs.Entries.{entries_of, entry_at, entry_of, is_absent_
 use Rattle.cpc_package.specs.Packages.{AllFrom, IsCpc, IsOfRole}
 use Rattle.cpc_package.specs.Rows.{role_of}
 use Rattle.cpc_package.specs.declared.rows.Role.TheVariants as role
-use Rattle.cpc_package.specs.Bindings.{HasWidth, IsBinding, IsRight, LiesIn, access_test, bind_fault, bounds_fault, end_of, field_of, first_sharing, first_subspace, gas_of, is_absent, is_subspace, overlap, register_test, registers_fault, share_test, source_at, source_of}
+use Rattle.cpc_package.specs.Bindings.{HasWidth, IsBinding, IsRight, LiesIn, access_test, bind_fault, binding_of, bounds_fault, end_of, field_of, first_sharing, first_subspace, gas_of, is_absent, is_subspace, overlap, register_test, registers_fault, share_test, source_at, source_by, source_of}
 use Rattle.cpc_package.proofs.First.{first_none, front_none, or_none}
-use Rattle.cpc_package.proofs.Meeting.{apart_by}
+use Rattle.cpc_package.proofs.Meeting.{apart_by, missing_field}
 
 -- ---- what a register that is present has passed
 
@@ -72,14 +75,16 @@ passes entries len n gas h is =
     let none = (or_none (registers_fault entries len) _ h).0 in
     by_test entries len n gas (ap (register_test entries len n) (sym is) ∙ first_none (λ n e. register_test entries len n (gas_of e)) entries n none (within entries n gas is))
 
-pub inside : (entries : List Entry) (len n : ℕ) (gas : Gas) → bind_fault entries len ≡ None → gas_of (entry_at entries n) ≡ Some gas → end_of (field_of gas) ≤ 8 * len
+pub inside : (entries : List Entry) (len n : ℕ) (gas : Gas) → bind_fault entries len ≡ None → gas_of (entry_at entries n) ≡ Some gas
+    → end_of (field_of gas) ≤ 8 * len
 inside entries len n gas h is = (passes entries len n gas h is).inside
 
 unshared : (b : Bool) (m : ℕ) → cond b (Some m) None ≡ None → b ≡ false
 unshared true m h = absurd cc
 unshared false m h = refl
 
-pub apart : (entries : List Entry) (len m n : ℕ) (g h : Gas) → bind_fault entries len ≡ None → m < n → gas_of (entry_at entries m) ≡ Some g → gas_of (entry_at entries n) ≡ Some h
+pub apart : (entries : List Entry) (len m n : ℕ) (g h : Gas) → bind_fault entries len ≡ None → m < n → gas_of (entry_at entries m) ≡ Some g
+    → gas_of (entry_at entries n) ≡ Some h
     → AreApart (field_of g) (field_of h)
 unfolding first_sharing
 apart entries len m n g h none lt isg ish =
@@ -127,7 +132,8 @@ sources_start entries = record {
 other : (xs : List Source1) (n k : ℕ) (x : Source1) → (k ≡ n → ⊥) → get_or (set xs n x) k Missing ≡ get_or xs k Missing
 other xs n k x h = get_or-set_other xs n k x Missing h
 
-pub sources_more : (entries : List Entry) (n : ℕ) (xs : List Source1) (x : Source1) → 2 ≤ n → n < 23 → x ≡ source_of (entry_at entries n) → Sources entries n xs → Sources entries (n + 1) (set xs n x)
+pub sources_more : (entries : List Entry) (n : ℕ) (xs : List Source1) (x : Source1) → 2 ≤ n → n < 23 → x ≡ source_of (entry_at entries n)
+    → Sources entries n xs → Sources entries (n + 1) (set xs n x)
 sources_more entries n xs x low lt is s =
     let all : length xs ≡ 23 = s.len in
     record {
@@ -142,19 +148,44 @@ sources_more entries n xs x low lt is s =
       later = λ k le. other xs n k x (λ e. omega arith) ∙ s.later k (omega arith);
     }
 
-pub sources_none : (entries : List Entry) (n : ℕ) (xs : List Source1) → Sources entries n xs → (k : ℕ) → k < 2 → get_or xs k Missing ≡ Missing
-sources_none entries n xs s = s.none
+-- the sources by their numbers
+by_number : (entries : List Entry) (k : ℕ) → k < 23 → get_or (map (source_by entries) (range_with_len 0 23)) k Missing ≡ source_by entries k
+by_number entries k lt =
+    get_or-map (source_by entries) (range_with_len 0 23) k 0 Missing (omega (arith, length-range_with_len 0 23))
+    ∙ ap (source_by entries) (get_or-range_with_len 0 23 k 0 lt ∙ zero-add k)
 
-pub sources_each : (entries : List Entry) (count n : ℕ) (xs : List Source1) → count ≡ length entries → count ≤ n → Sources entries n xs → (k : ℕ) → 2 ≤ k → get_or xs k Missing ≡ source_of (entry_at entries k)
-sources_each entries count n xs all le s = λ k low. elim (cases_lt k n) [
-  | inl lt ↦ s.each k low lt
-  | inr past ↦ s.later k past ∙ ap source_of (sym (get_or_past entries k (Absent 0) (omega arith)))
-]
+length_by : (entries : List Entry) → length (map (source_by entries) (range_with_len 0 23)) ≡ 23
+length_by entries = length-map (range_with_len 0 23) (source_by entries) ∙ length-range_with_len 0 23
+
+first_two : (entries : List Entry) (k : ℕ) → k < 2 → source_by entries k ≡ Missing
+first_two entries k lt = rw (lt-ltb k 2 lt) refl
+
+from_two : (entries : List Entry) (k : ℕ) → 2 ≤ k → source_by entries k ≡ source_of (entry_at entries k)
+from_two entries k le = rw (le-ltb k 2 le) refl
+
+pub sources_end : (entries : List Entry) (count n : ℕ) (xs : List Source1) → count ≡ length entries → count ≤ n → Sources entries n xs → xs ≡ (binding_of entries).sources
+unfolding binding_of
+sources_end entries count n xs all le s = ext_get_or Missing xs (map (source_by entries) (range_with_len 0 23)) (s.len ∙ sym (length_by entries)) (λ k lt.
+    let small : k < 23 = omega (arith, s.len) in
+    elim (cases_lt k 2) [
+      | inl low ↦ s.none k low ∙ sym (first_two entries k low) ∙ sym (by_number entries k small)
+      | inr from ↦ elim (cases_lt k n) [
+        | inl before ↦ s.each k from before ∙ sym (from_two entries k from) ∙ sym (by_number entries k small)
+        | inr past ↦
+            s.later k past ∙ ap source_of (sym (get_or_past entries k (Absent 0) (omega arith)))
+            ∙ sym (from_two entries k from) ∙ sym (by_number entries k small)
+      ]
+    ])
+
+pub whole : (entries : List Entry) → length (binding_of entries).sources ≡ 23
+unfolding binding_of
+whole entries = length_by entries
+
+pub by_entry : (entries : List Entry) (n : ℕ) → n < 23 → source_at (binding_of entries) n ≡ source_by entries n
+unfolding binding_of
+by_entry entries n lt = by_number entries n lt
 
 -- ---- a right binding
-
-no_field : {P : Type 0} (f : Field) → Missing ≡ At f → P
-no_field f e = absurd cc
 
 at_field : (e : Entry) (f : Field) → source_of e ≡ At f → (gas : Gas) × (gas_of e ≡ Some gas) × (field_of gas ≡ f)
 at_field (Integer value) f h = absurd cc
@@ -164,9 +195,10 @@ at_field (Register register) f h =
     (register.gas, refl, same)
 
 -- the register of a field
-pub behind : (entries : List Entry) (b : Binding) (n : ℕ) (f : Field) → IsBinding entries b → source_at b n ≡ At f → (gas : Gas) × (gas_of (entry_at entries n) ≡ Some gas) × (field_of gas ≡ f)
+pub behind : (entries : List Entry) (b : Binding) (n : ℕ) (f : Field) → IsBinding entries b → source_at b n ≡ At f
+    → (gas : Gas) × (gas_of (entry_at entries n) ≡ Some gas) × (field_of gas ≡ f)
 behind entries b n f bound at = elim (cases_lt n 2) [
-  | inl low ↦ no_field f (sym (bound.none n low) ∙ at)
+  | inl low ↦ missing_field f (sym (bound.none n low) ∙ at)
   | inr le ↦ at_field (entry_at entries n) f (sym (bound.each n le) ∙ at)
 ]
 
@@ -175,7 +207,8 @@ lies_in entries len b none bound n f at =
     let r = behind entries b n f bound at in
     subst (λ (g : Field). end_of g ≤ 8 * len) r.2 (inside entries len n r.0 none r.1)
 
-widths : (entries : List Entry) (len : ℕ) (b : Binding) → bind_fault entries len ≡ None → IsBinding entries b → (n : ℕ) (f : Field) → source_at b n ≡ At f → HasWidth f
+widths : (entries : List Entry) (len : ℕ) (b : Binding) → bind_fault entries len ≡ None → IsBinding entries b → (n : ℕ) (f : Field)
+    → source_at b n ≡ At f → HasWidth f
 widths entries len b none bound n f at =
     let r = behind entries b n f bound at in
     subst HasWidth r.2 (passes entries len n r.0 none r.1).width
@@ -189,14 +222,16 @@ all_apart entries len b none bound m n f g lt atf atg =
     subst (λ (x : Field). AreApart x g) r.2 (subst (λ (y : Field). AreApart (field_of r.0) y) s.2 far)
 
 -- an element of a package is right in its place
-role_from : (count n : ℕ) (es : List Element) (k : ℕ) (d : Element) (m : ℕ) → AllFrom count n es → k < length es → m ≡ n + k → IsOfRole count (role_of m) (get_or es k d)
+role_from : (count n : ℕ) (es : List Element) (k : ℕ) (d : Element) (m : ℕ) → AllFrom count n es → k < length es → m ≡ n + k
+    → IsOfRole count (role_of m) (get_or es k d)
 role_from count n [] k d m h lt e = absurd (omega arith)
 role_from count n (x ∷ es) zero d m h lt e =
     let same : n ≡ m = omega arith in
     subst (λ (j : ℕ). IsOfRole count (role_of j) x) same h.0
 role_from count n (x ∷ es) (suc k) d m h lt e = role_from count (n + 1) es k d m h.1 (omega arith) (omega arith)
 
-by_absent : (b : Bool) (checksum : ℕ) (r : RegisterAt) → is_absent (cond b (Absent checksum) (Register r)) ≡ false → (gas : Gas) × (gas_of (cond b (Absent checksum) (Register r)) ≡ Some gas)
+by_absent : (b : Bool) (checksum : ℕ) (r : RegisterAt) → is_absent (cond b (Absent checksum) (Register r)) ≡ false
+    → (gas : Gas) × (gas_of (cond b (Absent checksum) (Register r)) ≡ Some gas)
 by_absent true checksum r h = absurd cc
 by_absent false checksum r h = (r.gas, refl)
 
@@ -259,11 +294,30 @@ is_right c len b h none bound =
       apart = all_apart (entries_of c) len b none bound;
     }
 
-pub bound_by : (entries : List Entry) (len : ℕ) (b : Binding) → bind_fault entries len ≡ None
-    → ((n : ℕ) (gas : Gas) → gas_of (entry_at entries n) ≡ Some gas → is_subspace (first_subspace entries) gas.access ≡ true → b.subspace ≡ gas.access)
-    → ((n : ℕ) → n < 2 → source_at b n ≡ Missing) → ((n : ℕ) → 2 ≤ n → source_at b n ≡ source_of (entry_at entries n)) → IsBinding entries b
-bound_by entries len b right subspace none each = record {
-  subspace = λ n gas is. subspace n gas is (passes entries len n gas right is).subspace;
-  none = none;
-  each = each;
-}
+-- ---- the binding that is made
+
+subspace_by : (o : Option ℕ) (gas : Gas) → (o ≡ None → ⊥) → is_subspace o gas.access ≡ true → unwrap_or o 0 ≡ gas.access
+subspace_by None gas some h = absurd (some refl)
+subspace_by (Some first) gas some h = eqb-true first gas.access h
+
+entries_whole : (c : Item) → IsCpc c → length (entries_of c) ≡ 23
+unfolding entries_of
+entries_whole (item.Element e) h = absurd h
+entries_whole (item.Package l es) h = length-map es entry_of ∙ h.0
+
+past_all : (entries : List Entry) (n : ℕ) → length entries ≡ 23 → 23 ≤ n → source_of (entry_at entries n) ≡ Missing
+past_all entries n all past = ap source_of (get_or_past entries n (Absent 0) (omega (arith, all)))
+
+pub is_binding : (c : Item) (len : ℕ) → IsCpc c → bind_fault (entries_of c) len ≡ None → IsBinding (entries_of c) (binding_of (entries_of c))
+unfolding binding_of
+is_binding c len h none =
+    let entries : List Entry = entries_of c in
+    record {
+      subspace = λ n gas is. subspace_by (first_subspace entries) gas (λ e. no_first entries n gas e is) (passes entries len n gas none is).subspace;
+      none = λ n lt. by_entry entries n (omega arith) ∙ first_two entries n lt;
+      each = λ n le. elim (cases_lt n 23) [
+        | inl lt ↦ by_entry entries n lt ∙ from_two entries n le
+        | inr past ↦
+            get_or_past (binding_of entries).sources n Missing (omega (arith, whole entries)) ∙ sym (past_all entries n (entries_whole c h) past)
+      ];
+    }

@@ -45,7 +45,8 @@ OnlyItem bytes i used = (j : Item) (front rest : List ℕ) → AmlBytes front j 
 abbrev pub NoFault : List ℕ → Type 0
 NoFault bytes = (fault : AmlFault) → aml.ItemWrong bytes fault → ⊥
 
-pub package_only : (bytes front rest : List ℕ) (i c : Item) (used : ℕ) → OnlyItem bytes i used → CpcBytes front c → bytes ≡ front ++ rest → (i ≡ c) × (used ≡ length front)
+pub package_only : (bytes front rest : List ℕ) (i c : Item) (used : ℕ) → OnlyItem bytes i used → CpcBytes front c → bytes ≡ front ++ rest
+    → (i ≡ c) × (used ≡ length front)
 package_only bytes front rest i c used only h e = only c front rest h.item e
 
 pub package_exact : (bytes : List ℕ) (i : Item) (used : ℕ) (f : CpcFault) → OnlyItem bytes i used → NoFault bytes → item_fault i ≡ None → CpcWrong bytes f → ⊥
@@ -56,7 +57,8 @@ package_exact bytes i used f only none right (InItem front rest j g h e wrong) =
 
 -- ---- an item was read that is none
 
-pub faulty_only : {P : Type 0} (bytes front rest : List ℕ) (i c : Item) (used : ℕ) (f : CpcFault) → OnlyItem bytes i used → item_fault i ≡ Some f → CpcBytes front c → bytes ≡ front ++ rest → P
+pub faulty_only : {P : Type 0} (bytes front rest : List ℕ) (i c : Item) (used : ℕ) (f : CpcFault) → OnlyItem bytes i used → item_fault i ≡ Some f
+    → CpcBytes front c → bytes ≡ front ++ rest → P
 faulty_only bytes front rest i c used f only wrong h e =
     let same : i ≡ c = (only c front rest h.item e).0 in
     no_fault f (sym (item_right c h.right) ∙ ap item_fault (sym same) ∙ wrong)
@@ -64,7 +66,8 @@ faulty_only bytes front rest i c used f only wrong h e =
 pub faulty_told : (bytes : List ℕ) (i : Item) (used : ℕ) (f : CpcFault) → AmlBytes (take used bytes) i → item_fault i ≡ Some f → CpcWrong bytes f
 faulty_told bytes i used f h e = InItem (take used bytes) (drop used bytes) i f h (sym (take-append-drop used bytes)) (is_wrong i f e)
 
-pub faulty_exact : (bytes : List ℕ) (i : Item) (used : ℕ) (f g : CpcFault) → OnlyItem bytes i used → NoFault bytes → item_fault i ≡ Some f → CpcWrong bytes g → Tells (error_of_fault f) g
+pub faulty_exact : (bytes : List ℕ) (i : Item) (used : ℕ) (f g : CpcFault) → OnlyItem bytes i used → NoFault bytes → item_fault i ≡ Some f
+    → CpcWrong bytes g → Tells (error_of_fault f) g
 faulty_exact bytes i used f g only none wrong (InAml fault h) = absurd (none fault h)
 faulty_exact bytes i used f g only none wrong (InItem front rest j x h e other) =
     let same : i ≡ j = (only j front rest h e).0 in
@@ -84,7 +87,8 @@ unread_aml : (fault : AmlFault) (e : ReadError) → OnFault e (λ f. f ≡ fault
 unread_aml fault read.NoMemory h = tt
 unread_aml fault (read.Fault f) h = ap fault_of_aml h
 
-pub unread_exact : (bytes : List ℕ) (e : ReadError) (f : CpcFault) → ((j : Item) (front rest : List ℕ) → AmlBytes front j → bytes ≡ front ++ rest → e ≡ read.NoMemory)
+pub unread_exact : (bytes : List ℕ) (e : ReadError) (f : CpcFault)
+    → ((j : Item) (front rest : List ℕ) → AmlBytes front j → bytes ≡ front ++ rest → e ≡ read.NoMemory)
     → ((fault : AmlFault) → aml.ItemWrong bytes fault → OnFault e (λ g. g ≡ fault)) → CpcWrong bytes f → Tells (error_of_read e) f
 unread_exact bytes e f only exact (InAml fault h) = unread_aml fault e (exact fault h)
 unread_exact bytes e f only exact (InItem front rest j x h parts other) =
@@ -92,11 +96,13 @@ unread_exact bytes e f only exact (InItem front rest j x h parts other) =
 
 -- ---- a package or a fault, and one of each
 
-some_by : (bytes front rest : List ℕ) (i : Item) (o : Option CpcFault) → ItemOutcome i o → AmlBytes front i → bytes ≡ front ++ rest → HasPackage bytes ⊎ HasFault bytes
+some_by : (bytes front rest : List ℕ) (i : Item) (o : Option CpcFault) → ItemOutcome i o → AmlBytes front i → bytes ≡ front ++ rest
+    → HasPackage bytes ⊎ HasFault bytes
 some_by bytes front rest i _ (IsRight right) h e = inl (i, front, rest, record { item = h; right = right }, e)
 some_by bytes front rest i _ (IsWrong f wrong) h e = inr (f, InItem front rest i f h e wrong)
 
-pub package_or_fault : ((bytes : List ℕ) → IsBytes bytes → aml.HasItem bytes ⊎ aml.HasFault bytes) → (bytes : List ℕ) → IsBytes bytes → HasPackage bytes ⊎ HasFault bytes
+pub package_or_fault : ((bytes : List ℕ) → IsBytes bytes → aml.HasItem bytes ⊎ aml.HasFault bytes) → (bytes : List ℕ) → IsBytes bytes
+    → HasPackage bytes ⊎ HasFault bytes
 package_or_fault some bytes fits = elim (some bytes fits) [
   | inl h ↦ some_by bytes h.1 h.2 h.0 _ (item_outcome h.0) h.3 h.4
   | inr h ↦ inr (fault_of_aml h.0, InAml h.0 h.1)

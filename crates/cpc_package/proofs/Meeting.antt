@@ -118,7 +118,7 @@ apart_other field sources n none before = record {
   ];
 }
 
-missing_field : {P : Type 0} (f : Field) → Missing ≡ At f → P
+pub missing_field : {P : Type 0} (f : Field) → Missing ≡ At f → P
 missing_field f e = absurd cc
 
 pub apart_end : (field : Field) (sources : List Source1) (n : ℕ) → length sources ≤ n → ApartFrom field sources n → AllApart field sources

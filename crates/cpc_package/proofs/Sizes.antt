@@ -40,7 +40,8 @@ pub entries_length : (c : Item) (es : List Element) → es ≡ elements_of c →
 unfolding entries_of
 entries_length c es e = length-map (elements_of c) entry_of ∙ ap length (sym e)
 
-pub entry_read : (c : Item) (es : List Element) (n : ℕ) (d : Element) → es ≡ elements_of c → n < length es → entry_of (get_or es n d) ≡ entry_at (entries_of c) n
+pub entry_read : (c : Item) (es : List Element) (n : ℕ) (d : Element) → es ≡ elements_of c → n < length es
+    → entry_of (get_or es n d) ≡ entry_at (entries_of c) n
 unfolding entries_of
 entry_read c es n d e lt =
     sym (get_or-map entry_of es n d (Absent 0) lt) ∙ ap (λ (xs : List Element). get_or (map entry_of xs) n (Absent 0)) e

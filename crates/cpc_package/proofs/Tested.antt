@@ -1,5 +1,5 @@
 -- The tests of an item say what is wrong first.
-use Rattle.std.proofs.Common.{◌≡◌, inl, inr, ℕ, zero, suc, ◌+◌, ◌%◌, ◌^◌, ◌<◌, ◌≤◌, Bool, true, false, cond, eqb, List, [], ◌∷◌, ◌++◌, length, get_or, drop, take, Option, Some, None, refl, sym, ap, ◌∙◌, subst, arith}
+use Rattle.std.proofs.Common.{◌≡◌, inl, inr, ℕ, suc, ◌+◌, ◌%◌, ◌^◌, ◌<◌, ◌≤◌, Bool, true, false, cond, eqb, List, [], ◌∷◌, ◌++◌, length, get_or, drop, take, Option, Some, None, refl, sym, ap, ◌∙◌, subst, arith}
 use Rattle.std.specs.Prelude.{◌&&◌, ◌||◌, slice_index, sum, bytes_eq}
 use Rattle.std.specs.List.{flat_map}
 use Rattle.std.proofs.lemmas.Bool.{eqb-true, eqb-false, eq-eqb, ne_eqb}
@@ -13,7 +13,8 @@ use Rattle.aml_pkg.specs.declared.item.Element.{Element}
 use Rattle.aml_pkg.specs.declared.item.Element.TheVariants as element
 use Rattle.aml_pkg.specs.declared.item.Item.{Item}
 use Rattle.aml_pkg.specs.declared.item.Item.TheVariants as item
-use Rattle.aml_pkg.specs.Spelling.{element_bytes, len_limit, IsPackage}
+use Rattle.aml_pkg.specs.Spelling.{element_bytes, IsPackage}
+use Rattle.aml_pkg.proofs.Written.{limit_small}
 use Rattle.cpc_package.specs.declared.rows.Role.{Role}
 use Rattle.cpc_package.specs.declared.rows.Role.TheVariants as role
 use Rattle.cpc_package.specs.declared.fault.CpcKind.{CpcKind}
@@ -47,17 +48,10 @@ room_more i es e lt is =
     ap (λ (x : List Element). length (flat_map element_bytes x)) (drop_more es i e lt ∙ ap (λ (x : Element). x ∷ drop (i + 1) es) (sym is))
     ∙ ap length (flat_map-cons element_bytes e (drop (i + 1) es)) ∙ length-append (element_bytes e) (flat_map element_bytes (drop (i + 1) es))
 
-limit_by : (f v : ℕ) → f ≤ 3 → v < len_limit f → v < 2 ^ 31
-limit_by zero v few h = omega arith
-limit_by (suc zero) v few h = omega arith
-limit_by (suc (suc zero)) v few h = omega arith
-limit_by (suc (suc (suc zero))) v few h = omega arith
-limit_by (suc (suc (suc (suc f)))) v few h = absurd (omega arith)
-
 -- no place in a package passes 32 bits
 pub package_room : (l : Len) (es : List Element) → IsPackage l es → 3 + l.follow + length (flat_map element_bytes es) < 2 ^ 32
 package_room l es h =
-    let small : l.value < 2 ^ 31 = limit_by l.follow l.value h.counts.is.few h.counts.is.fits in
+    let small : l.value < 2 ^ 31 = limit_small l h.counts.is in
     let whole : l.value ≡ 1 + l.follow + suc (length (flat_map element_bytes es)) = h.counts.whole in
     omega arith
 
@@ -121,7 +115,8 @@ pub data RegisterOutcome (b : Buffer) : Option CpcKind → Type 0 where
   Right : IsRegister b → RegisterOutcome b None
   Wrong : (k : CpcKind) → RegisterWrong b k → RegisterOutcome b (Some k)
 
-by_tests : (b : Buffer) (s d t a : Bool) → Decided (IsSized b) s → Decided (take 3 b.bytes ≡ descriptor) d → Decided (slice_index b.bytes 15 ≡ 0x79) t → Decided (Agrees b.bytes) a
+by_tests : (b : Buffer) (s d t a : Bool) → Decided (IsSized b) s → Decided (take 3 b.bytes ≡ descriptor) d
+    → Decided (slice_index b.bytes 15 ≡ 0x79) t → Decided (Agrees b.bytes) a
     → RegisterOutcome b (cond s (cond d (cond t (cond a None (Some BadChecksum)) (Some BadEndTag)) (Some BadDescriptor)) (Some NotRegister))
 by_tests b _ _ _ _ (Breaks s) d t a = Wrong NotRegister (InSize s)
 by_tests b _ _ _ _ (Holds s) (Breaks d) t a = Wrong BadDescriptor (InDescriptor s d)
@@ -165,7 +160,8 @@ by_count : (count : ℕ) (i : Int) (t : Bool) → Decided (i.value ≡ count) t 
 by_count count i _ (Holds h) = EntryRight h
 by_count count i _ (Breaks h) = EntryFaulty WrongCount (OtherCount i h)
 
-by_revision : (count : ℕ) (i : Int) (t : Bool) → Decided (i.value ≡ revision_of count) t → EntryOutcome count role.Revision (element.Int i) (cond t None (Some WrongRevision))
+by_revision : (count : ℕ) (i : Int) (t : Bool) → Decided (i.value ≡ revision_of count) t
+    → EntryOutcome count role.Revision (element.Int i) (cond t None (Some WrongRevision))
 by_revision count i _ (Holds h) = EntryRight h
 by_revision count i _ (Breaks h) = EntryFaulty WrongRevision (OtherRevision i h)
 
@@ -231,7 +227,8 @@ pub data Outcome (count n at : ℕ) (es : List Element) : Option CpcFault → Ty
 plus_none : (n : ℕ) → n ≡ n + 0
 plus_none n = omega arith
 
-here : (count n at : ℕ) (e : Element) (es : List Element) (k : CpcKind) → EntryWrong count (role_of n) e k → Where count n at (e ∷ es) (record { entry = n; at = at; kind = k })
+here : (count n at : ℕ) (e : Element) (es : List Element) (k : CpcKind) → EntryWrong count (role_of n) e k
+    → Where count n at (e ∷ es) (record { entry = n; at = at; kind = k })
 here count n at e es k h = record {
   front = [];
   e = e;
@@ -246,10 +243,12 @@ here count n at e es k h = record {
 next_number : (n m : ℕ) → (n + 1) + m ≡ n + suc m
 next_number n m = omega arith
 
-next_place : (at : ℕ) (e : Element) (front : List Element) → (at + length (element_bytes e)) + length (flat_map element_bytes front) ≡ at + length (flat_map element_bytes (e ∷ front))
+next_place : (at : ℕ) (e : Element) (front : List Element)
+    → (at + length (element_bytes e)) + length (flat_map element_bytes front) ≡ at + length (flat_map element_bytes (e ∷ front))
 next_place at e front = let k = ap length (flat_map-cons element_bytes e front) ∙ length-append (element_bytes e) (flat_map element_bytes front) in omega arith
 
-later : (count n at : ℕ) (e : Element) (es : List Element) (f : CpcFault) → IsOfRole count (role_of n) e → Where count (n + 1) (at + length (element_bytes e)) es f → Where count n at (e ∷ es) f
+later : (count n at : ℕ) (e : Element) (es : List Element) (f : CpcFault) → IsOfRole count (role_of n) e
+    → Where count (n + 1) (at + length (element_bytes e)) es f → Where count n at (e ∷ es) f
 later count n at e es f h w = record {
   front = e ∷ w.front;
   e = w.e;
@@ -262,7 +261,8 @@ later count n at e es f h w = record {
       ∙ ap (λ (m : ℕ). record { entry = n + suc (length w.front); at = m; kind = w.k }) (next_place at e w.front);
 }
 
-step : (count n at : ℕ) (e : Element) (es : List Element) (o : Option CpcFault) → IsOfRole count (role_of n) e → Outcome count (n + 1) (at + length (element_bytes e)) es o → Outcome count n at (e ∷ es) o
+step : (count n at : ℕ) (e : Element) (es : List Element) (o : Option CpcFault) → IsOfRole count (role_of n) e
+    → Outcome count (n + 1) (at + length (element_bytes e)) es o → Outcome count n at (e ∷ es) o
 step count n at e es o h (AllRight r) = AllRight (h, r)
 step count n at e es o h (Faulty f w) = Faulty f (later count n at e es f h w)
 
@@ -276,7 +276,8 @@ entries_outcome count n at [] = AllRight tt
 entries_outcome count n at (e ∷ es) = by_entry count n at e es _ _ (entry_outcome count (role_of n) e) (entries_outcome count (n + 1) (at + length (element_bytes e)) es)
 
 -- and back
-entries_at : (count n at : ℕ) (front : List Element) (e : Element) (rest : List Element) (k : CpcKind) → AllFrom count n front → EntryWrong count (role_of (n + length front)) e k
+entries_at : (count n at : ℕ) (front : List Element) (e : Element) (rest : List Element) (k : CpcKind) → AllFrom count n front
+    → EntryWrong count (role_of (n + length front)) e k
     → entries_fault count n at (front ++ e ∷ rest) ≡ Some (record { entry = n + length front; at = at + length (flat_map element_bytes front); kind = k })
 entries_at count n at [] e rest k h w =
     ap (λ (o : Option CpcKind). found_at o n at (entries_fault count (n + 1) (at + length (element_bytes e)) rest)) (ap (λ (m : ℕ). entry_kind count (role_of m) e) (plus_none n) ∙ entry_fails count (role_of (n + 0)) e k w)
@@ -310,7 +311,8 @@ pub data ItemOutcome (c : Item) : Option CpcFault → Type 0 where
   IsRight : IsCpc c → ItemOutcome c None
   IsWrong : (f : CpcFault) → PackageWrong c f → ItemOutcome c (Some f)
 
-by_entries : (l : Len) (es : List Element) (o : Option CpcFault) → IsCount (length es) → Outcome (length es) 0 (3 + l.follow) es o → ItemOutcome (item.Package l es) o
+by_entries : (l : Len) (es : List Element) (o : Option CpcFault) → IsCount (length es) → Outcome (length es) 0 (3 + l.follow) es o
+    → ItemOutcome (item.Package l es) o
 by_entries l es o count (AllRight h) = IsRight (count, h)
 by_entries l es o count (Faulty f w) =
     let is : f ≡ record { entry = length w.front; at = 3 + l.follow + length (flat_map element_bytes w.front); kind = w.k } =

@@ -1,7 +1,8 @@
 -- Which entries of a package are fields of a communication space, and the first reason why they can't be bound to one (ACPI 6.5, 8.4.6
 -- and 14.1).
-use Rattle.std.specs.Prelude.{◌≡◌, ◌<◌, ◌≤◌, ◌+◌, ◌*◌, ◌==◌, ◌&&◌, nat_le, nat_lt, if◌then◌else◌, Bool, true, false, ℕ, List, [], ◌∷◌, take, slice_index_or, Option, Some, None}
-use Rattle.pcc_gas.specs.Fields.{AreApart, InField}
+use Rattle.std.specs.Prelude.{◌≡◌, ◌<◌, ◌≤◌, ◌+◌, ◌*◌, ◌==◌, ◌&&◌, nat_le, nat_lt, if◌then◌else◌, Bool, true, false, ℕ, List, [], ◌∷◌, All, AllPairs, map, take, slice_index_or, unwrap_or, Option, Some, None}
+use Rattle.std.specs.List.{range_with_len}
+use Rattle.pcc_gas.specs.Fields.{AreApart, InField, field_value}
 use Rattle.pcc_gas.specs.declared.address.Gas.{Gas}
 use Rattle.pcc_gas.specs.declared.field.Field.{Field}
 use Rattle.cpc_package.specs.declared.entry.Entry.{Entry}
@@ -11,6 +12,7 @@ use Rattle.cpc_package.specs.declared.binding.Source1.TheVariants.{Missing, Numb
 use Rattle.cpc_package.specs.declared.binding.Binding.{Binding}
 use Rattle.cpc_package.specs.declared.binding.BindFault.{BindFault}
 use Rattle.cpc_package.specs.declared.binding.BindFault.TheVariants.{NotPcc, TwoSubspaces, BadWidth, FieldOutside, FieldsOverlap, NoDesired, NoBound, BadScale}
+use Rattle.cpc_package.specs.declared.rows.TheConstants.{ENTRIES}
 use Rattle.cpc_package.specs.Entries.{entry_at}
 
 -- the address of a register that is present
@@ -49,7 +51,7 @@ abbrev pub is_subspace : Option ℕ → ℕ → Bool
 is_subspace None access = true
 is_subspace (Some first) access = first == access
 
--- some bit is in both fields: behind the start of each, and before the end of each
+-- some bit is in both fields: after the start of each, and before the end of each
 abbrev pub share_bit : Field → Field → Bool
 share_bit f g = nat_lt f.at_bit (end_of f) && nat_lt g.at_bit (end_of g) && nat_lt f.at_bit (end_of g) && nat_lt g.at_bit (end_of f)
 
@@ -98,7 +100,8 @@ abbrev pub scale_fault : Option ℕ → Option ℕ → Option ℕ → Option Bin
 scale_fault None nominal highest = None
 scale_fault (Some lowest) None highest = None
 scale_fault (Some lowest) (Some nominal) None = None
-scale_fault (Some lowest) (Some nominal) (Some highest) = if nat_le lowest nominal && nat_le nominal highest then None else Some (BadScale lowest nominal highest)
+scale_fault (Some lowest) (Some nominal) (Some highest) =
+    if nat_le lowest nominal && nat_le nominal highest then None else Some (BadScale lowest nominal highest)
 
 -- the desired performance and the bounds, entries 7, 5 and 2, and the nominal performance, entry 3
 abbrev pub bounds_fault : Entry → Entry → Entry → Entry → Option BindFault
@@ -108,7 +111,8 @@ bounds_fault desired lowest nominal highest =
 
 -- the first reason why the entries of a package can't be bound to a space of len bytes
 unfoldable pub bind_fault : List Entry → ℕ → Option BindFault
-bind_fault entries len = or_else (registers_fault entries len) (bounds_fault (entry_at entries 7) (entry_at entries 5) (entry_at entries 3) (entry_at entries 2))
+bind_fault entries len =
+    or_else (registers_fault entries len) (bounds_fault (entry_at entries 7) (entry_at entries 5) (entry_at entries 3) (entry_at entries 2))
 
 -- ---- what a binding is
 
@@ -117,6 +121,20 @@ abbrev pub source_of : Entry → Source1
 source_of (Integer value) = Number value
 source_of (Register register) = At (field_of register.gas)
 source_of (Absent checksum) = Missing
+
+-- what a binding has for entry number n: nothing for the number of entries and the revision
+abbrev pub source_by : List Entry → ℕ → Source1
+source_by entries n = if nat_lt n 2 then Missing else source_of (entry_at entries n)
+
+-- the binding of a package's entries, in the subspace of the first register
+unfoldable pub binding_of : List Entry → Binding
+binding_of entries = record { subspace = unwrap_or (first_subspace entries) 0; sources = map (source_by entries) (range_with_len 0 ENTRIES) }
+
+-- the number that a source has in a space
+abbrev pub number_in : Source1 → List ℕ → Option ℕ
+number_in Missing space = None
+number_in (Number value) space = Some value
+number_in (At field) space = Some (field_value space field)
 
 -- what a binding has for an entry, by its number
 abbrev pub source_at : Binding → ℕ → Source1
@@ -146,6 +164,12 @@ pub record IsRight (binding : Binding) : Type 0 where
 abbrev pub LiesIn : ℕ → Binding → Type 0
 LiesIn len binding = (n : ℕ) (field : Field) → source_at binding n ≡ At field → end_of field ≤ 8 * len
 
+-- a source that is a field of a space of len bytes, or no field
+abbrev pub CanRead : ℕ → Source1 → Type 0
+CanRead len Missing = Unit {0}
+CanRead len (Number value) = Unit {0}
+CanRead len (At field) = HasWidth field × (end_of field ≤ 8 * len)
+
 -- two bindings have a bit of one subspace in common
 pub record ShareBit (a b : Binding) : Type 0 where
   pub subspace : a.subspace ≡ b.subspace
@@ -169,3 +193,10 @@ pub record Meets (field : Field) (sources : List Source1) : Type 0 where
   pub other : Field
   pub at : slice_index_or sources n Missing ≡ At other
   pub shared : AreApart field other → ⊥
+
+-- the processors of a communication space of len bytes: right bindings to it, all of one subspace, and no bit belongs to two of them
+pub record AreProcessors (len : ℕ) (cpus : List Binding) : Type 0 where
+  pub right : All IsRight cpus
+  pub inside : All (LiesIn len) cpus
+  pub subspace : AllPairs (λ a b. a.subspace ≡ b.subspace) cpus
+  pub apart : AllPairs (λ a b. ShareBit a b → ⊥) cpus

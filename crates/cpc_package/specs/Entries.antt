@@ -18,7 +18,7 @@ address_part bytes = take 12 (drop 3 bytes)
 unfoldable pub register_in : List ℕ → Register
 register_in bytes = record { gas = address_in (address_part bytes); checksum = slice_index bytes 16 }
 
--- twelve zero bytes stand for no register (8.4.6.1)
+-- twelve zero bytes mean that there is no register (8.4.6.1)
 unfoldable pub is_absent_in : List ℕ → Bool
 is_absent_in bytes = list_all (λ x. x == 0) (address_part bytes)
 
@@ -37,6 +37,6 @@ elements_of (item.Package len elements) = elements
 unfoldable pub entries_of : Item → List Entry
 entries_of cpc = map entry_of (elements_of cpc)
 
--- an entry by its number; behind the last one there is none
+-- an entry by its number; after the last one there is none
 abbrev pub entry_at : List Entry → ℕ → Entry
 entry_at entries n = slice_index_or entries n (entry.Absent 0)

@@ -26,7 +26,8 @@ form_text form.Qword = codes "qword"
 
 -- number and name, and the value with its form
 abbrev pub integer_line : ℕ → List ℕ → Int → List Spelled
-integer_line n name int = Decimal n ∷ Words (codes " ") ∷ Words name ∷ Words (codes " integer ") ∷ Decimal int.value ∷ Words (codes " ") ∷ Words (form_text int.form)
+integer_line n name int =
+    Decimal n ∷ Words (codes " ") ∷ Words name ∷ Words (codes " integer ") ∷ Decimal int.value ∷ Words (codes " ") ∷ Words (form_text int.form)
     ∷ Words (codes "\n") ∷ []
 
 -- number and name, and the address: space, width, offset, access and address

@@ -31,13 +31,13 @@ use Rattle.cpc_package.specs.Entries.{register_in}
 abbrev pub IsCount : ℕ → Type 0
 IsCount n = n ≡ ENTRIES
 
--- the revision of a package with so many
+-- the revision of a package of count entries
 abbrev pub revision_of : ℕ → ℕ
 revision_of count = 3
 
 -- ---- what is right
 
--- a buffer that tells a register's seventeen bytes, and has as many
+-- a buffer of a register's seventeen bytes, by its size and by its bytes
 pub record IsSized (buffer : Buffer) : Type 0 where
   pub size : buffer.size.value ≡ 17
   pub len : length buffer.bytes ≡ 17
@@ -52,7 +52,7 @@ pub record IsRegister (buffer : Buffer) : Type 0 where
   pub size : buffer.size.value ≡ 17
   pub spelled : RegisterBytes buffer.bytes (register_in buffer.bytes)
 
--- an element that is right in its place, in a package with so many entries
+-- an element that is right in its place, in a package of count entries
 abbrev pub IsOfRole : ℕ → Role → Element → Type 0
 IsOfRole count role.Count (element.Int int) = int.value ≡ count
 IsOfRole count role.Count (element.Buffer buffer) = ⊥
@@ -87,12 +87,13 @@ descriptor = 0x82 ∷ 0x0c ∷ 0x00 ∷ []
 abbrev pub Agrees : List ℕ → Type 0
 Agrees bytes = (slice_index bytes 16 ≡ 0) ⊎ (sum bytes % 256 ≡ 0)
 
--- a buffer that is no register: what is wrong in it behind what is right
+-- a buffer that is no register: what is wrong in it after what is right
 pub data RegisterWrong (buffer : Buffer) : CpcKind → Type 0 where
   InSize : (IsSized buffer → ⊥) → RegisterWrong buffer NotRegister
   InDescriptor : IsSized buffer → (take 3 buffer.bytes ≡ descriptor → ⊥) → RegisterWrong buffer BadDescriptor
   InEndTag : IsSized buffer → take 3 buffer.bytes ≡ descriptor → (slice_index buffer.bytes 15 ≡ 0x79 → ⊥) → RegisterWrong buffer BadEndTag
-  InChecksum : IsSized buffer → take 3 buffer.bytes ≡ descriptor → slice_index buffer.bytes 15 ≡ 0x79 → (Agrees buffer.bytes → ⊥) → RegisterWrong buffer BadChecksum
+  InChecksum : IsSized buffer → take 3 buffer.bytes ≡ descriptor → slice_index buffer.bytes 15 ≡ 0x79 → (Agrees buffer.bytes → ⊥)
+      → RegisterWrong buffer BadChecksum
 
 -- an element that is wrong in its place
 pub data EntryWrong (count : ℕ) : Role → Element → CpcKind → Type 0 where
@@ -104,7 +105,7 @@ pub data EntryWrong (count : ℕ) : Role → Element → CpcKind → Type 0 wher
   InRegister : (buffer : Buffer) (kind : CpcKind) → RegisterWrong buffer kind → EntryWrong count role.Register (element.Buffer buffer) kind
   InEither : (buffer : Buffer) (kind : CpcKind) → RegisterWrong buffer kind → EntryWrong count role.Either (element.Buffer buffer) kind
 
--- an item that is no package of this kind: it is none, it has another number of entries, or an entry behind right ones is wrong
+-- an item that is no package of this kind: it is none, it has another number of entries, or an entry after right ones is wrong
 pub data PackageWrong : Item → CpcFault → Type 0 where
   NoPackage : (e : Element) → PackageWrong (item.Element e) (record { entry = 0; at = 0; kind = NotPackage })
   OtherEntries : (len : Len) (elements : List Element) → (IsCount (length elements) → ⊥)
@@ -138,7 +139,7 @@ HasPackage bytes = (cpc : Item) × (front : List ℕ) × (rest : List ℕ) × Cp
 abbrev pub HasFault : List ℕ → Type 0
 HasFault bytes = (fault : CpcFault) × CpcWrong bytes fault
 
--- ---- what an error tells
+-- ---- what an error reports
 
 abbrev pub error_of_fault : CpcFault → CpcError
 error_of_fault fault = errors.Fault fault.entry fault.at fault.kind
@@ -147,12 +148,12 @@ abbrev pub error_of_read : ReadError → CpcError
 error_of_read read.NoMemory = errors.NoMemory
 error_of_read (read.Fault fault) = error_of_fault (fault_of_aml fault)
 
--- the fault is told, unless memory ran out
+-- the fault is reported, unless memory ran out
 abbrev pub Tells : CpcError → CpcFault → Type 0
 Tells errors.NoMemory fault = Unit {0}
 Tells (errors.Fault entry at kind) fault = record { entry = entry; at = at; kind = kind } ≡ fault
 
--- what is told is wrong in the bytes
+-- what is reported is wrong in the bytes
 abbrev pub IsTold : List ℕ → CpcError → Type 0
 IsTold bytes errors.NoMemory = Unit {0}
 IsTold bytes (errors.Fault entry at kind) = CpcWrong bytes (record { entry = entry; at = at; kind = kind })

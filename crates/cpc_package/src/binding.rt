@@ -1,16 +1,19 @@
 //! Which entries of a package are fields of a communication space.
-ghost use Rattle.std.specs.Prelude.{◌≡◌, ◌<◌, ◌≤◌, ◌*◌, ◌^◌, ◌↔◌, ℕ, length, take, slice_index_or, true, Some, None, IfOk, MatchResult};
+ghost use Rattle.std.specs.Prelude.{◌≡◌, ◌<◌, ◌≤◌, ◌*◌, ◌^◌, ◌↔◌, List, ℕ, length, take, true, Some, None, IfOk, MatchResult};
+ghost use Rattle.aml_pkg.specs.declared.item.Item.{Item};
 ghost use Rattle.pcc_gas.specs.declared.address.Gas.{Gas};
-ghost use Rattle.cpc_package.specs.declared.binding.Source1.TheVariants.{Missing};
+ghost use Rattle.cpc_package.specs.declared.entry.Entry.{Entry};
 ghost use Rattle.pcc_gas.specs.Fields.{AreApart};
 ghost use Rattle.pcc_gas.specs.declared.field.Field.{Field};
 ghost use Rattle.cpc_package.specs.Entries.{entries_of, entry_at};
 ghost use Rattle.cpc_package.specs.Packages.{IsCpc};
 ghost use Rattle.cpc_package.specs.Bindings.{
+  CanRead,
   IsBinding,
   IsRight,
   LiesIn,
   bind_fault,
+  binding_of,
   bounds_fault,
   end_of,
   field_of,
@@ -18,12 +21,14 @@ ghost use Rattle.cpc_package.specs.Bindings.{
   first_subspace,
   gas_of,
   is_absent,
-  is_subspace,
+  number_in,
   number_of,
   register_test,
   registers_fault,
   scale_fault,
   share_bit,
+  source_at,
+  source_by,
   source_of,
 };
 ghost use Rattle.cpc_package.specs.declared.rows.TheConstants.{ENTRIES};
@@ -31,7 +36,7 @@ ghost use Rattle.cpc_package.specs.declared.rows.TheConstants.{ENTRIES};
 use crate::entry::Entry;
 use crate::package::Cpc;
 use crate::rows::ENTRIES;
-use pcc_gas::{Field, Gas};
+use pcc_gas::{Field, Gas, field_get};
 use pcc_io::Items;
 
 /// The space of communication channels (ACPI 6.5, 5.2.3.2).
@@ -74,7 +79,7 @@ pub enum BindFault {
     BadWidth {
         entry: u8,
     },
-    /// The register ends behind the communication space.
+    /// The register ends past the end of the communication space.
     FieldOutside {
         entry: u8,
     },
@@ -114,7 +119,7 @@ fn start_of(gas: Gas) -> u128
     8 * u128::from(gas.address) + u128::from(gas.offset)
 }
 
-/// The bit behind a register.
+/// The first bit after a register.
 fn end_of(gas: Gas) -> u128
     ensures { result ≡ end_of (field_of gas) }
 {
@@ -161,7 +166,7 @@ fn first_sharing(cpc: &Cpc, n: u8, gas: Gas) -> Option<u8>
     None
 }
 
-/// The first test of a register that fails, in a space of so many bytes, where the first one lies in a subspace.
+/// The first test of a register that fails, in a space of space_len bytes, where the first one lies in a subspace.
 fn register_fault(
     cpc: &Cpc,
     subspace: Option<u8>,
@@ -267,18 +272,6 @@ fn bind_fault(cpc: &Cpc, space_len: u32) -> Option<BindFault>
     bounds_fault(cpc.entry(7), cpc.entry(5), cpc.entry(3), cpc.entry(2))
 }
 
-/// The subspace of the registers, which is that of the first.
-#[tactic(auto, using(crate::proofs::Bound::is_first, crate::proofs::Bound::no_first))]
-fn subspace_of(cpc: &Cpc) -> u8
-    ensures { (n : ℕ) (gas : Gas) → gas_of (entry_at (entries_of cpc.now) n) ≡ Some gas
-        → is_subspace (first_subspace (entries_of cpc.now)) gas.access ≡ true → result ≡ gas.access }
-{
-    match first_subspace(cpc) {
-        Some(subspace) => subspace,
-        None => 0,
-    }
-}
-
 /// What an entry gives whose field lies in a space.
 fn source_of(entry: Entry, space_len: u32) -> Source1
     requires small { space_len < 2 ^ 29 }
@@ -296,12 +289,11 @@ fn source_of(entry: Entry, space_len: u32) -> Source1
 }
 
 /// What the entries of a package give that can be bound.
-#[tactic(auto, using(crate::proofs::Bound::sources_start, crate::proofs::Bound::sources_more, crate::proofs::Bound::sources_none, crate::proofs::Bound::sources_each, crate::proofs::Bound::inside))]
+#[tactic(auto, using(crate::proofs::Bound::sources_start, crate::proofs::Bound::sources_more, crate::proofs::Bound::inside))]
 fn sources_of(cpc: &Cpc, space_len: u32) -> [Source1; ENTRIES]
     requires small { space_len < 2 ^ 29 }
     requires right { bind_fault (entries_of cpc.now) space_len ≡ None }
-    ensures none { (n : ℕ) → n < 2 → slice_index_or result n Missing ≡ Missing }
-    ensures each { (n : ℕ) → 2 ≤ n → slice_index_or result n Missing ≡ source_of (entry_at (entries_of cpc.now) n) }
+    ensures { result ≡ (binding_of (entries_of cpc.now)).sources }
 {
     let mut sources = [Source1::Missing; ENTRIES];
     for n in 2..cpc.entries() {
@@ -310,14 +302,16 @@ fn sources_of(cpc: &Cpc, space_len: u32) -> [Source1; ENTRIES]
     sources
 }
 
-/// The package in a communication space of so many bytes (ACPI 6.5, 8.4.6): a register lies at its address, in bytes from the start of
-/// the space, and its offset in bits. The condition is a space below 2^29 bytes, so that its bits are numbers of 32 bits.
+/// The package in a communication space of space_len bytes (ACPI 6.5, 8.4.6): a register lies at its address, in bytes from the start
+/// of the space, and its offset in bits. The condition is a space below 2^29 bytes, so that its bits are numbers of 32 bits.
+#[tactic(auto, unfolding(crate::specs::Bindings::binding_of))]
 pub fn bind(cpc: &Cpc, space_len: u32) -> Result<Binding, BindFault>
     requires { space_len < 2 ^ 29 }
-    // A fault is the first one, and there is a binding where there is none.
+    // A fault is the first one, and there is a binding when there is none.
     ensures exact { MatchResult result
         (λ _. bind_fault (entries_of cpc.now) space_len ≡ None)
         (λ fault. bind_fault (entries_of cpc.now) space_len ≡ Some fault) }
+    ensures value { IfOk result (λ binding. binding ≡ binding_of (entries_of cpc.now)) }
     ensures bound { IfOk result (λ binding. IsBinding (entries_of cpc.now) binding) }
 
     // The fields of a binding have 1 to 64 bits, are apart in pairs and lie in the space.
@@ -328,12 +322,33 @@ pub fn bind(cpc: &Cpc, space_len: u32) -> Result<Binding, BindFault>
         return Err(fault);
     }
     Ok(Binding {
-        subspace: subspace_of(cpc),
+        subspace: first_subspace(cpc).unwrap_or(0),
         sources: sources_of(cpc, space_len),
     })
 }
 
-/// Two fields share a bit, as the tests of a package see it, exactly where they aren't apart. It does nothing.
+/// The number that a source has in a space: the integer, or the number in the field.
+pub fn number_in(source: Source1, space: &[u8]) -> Option<u64>
+    requires { CanRead (length space.now) source }
+    ensures { result ≡ number_in source space.now }
+{
+    match source {
+        Source1::Missing => None,
+        Source1::Number(value) => Some(value),
+        Source1::At(field) => Some(field_get(space, field)),
+    }
+}
+
+/// The binding of entries with no fault has what the entries give, is right and lies in the space. It does nothing.
+pub fn binding_laws()
+    ensures bound { (cpc : Item) (len : ℕ) → IsCpc cpc → bind_fault (entries_of cpc) len ≡ None → IsBinding (entries_of cpc) (binding_of (entries_of cpc)) }
+    ensures right { (cpc : Item) (len : ℕ) → IsCpc cpc → bind_fault (entries_of cpc) len ≡ None → IsRight (binding_of (entries_of cpc)) }
+    ensures inside { (cpc : Item) (len : ℕ) → IsCpc cpc → bind_fault (entries_of cpc) len ≡ None → LiesIn len (binding_of (entries_of cpc)) }
+    ensures whole { (entries : List Entry) → length (binding_of entries).sources ≡ ENTRIES }
+    ensures each { (entries : List Entry) (n : ℕ) → n < ENTRIES → source_at (binding_of entries) n ≡ source_by entries n }
+{}
+
+/// Two fields share a bit, as the tests of a package see it, exactly when they aren't apart. It does nothing.
 pub fn share_law()
     ensures { (f g : Field) → (share_bit f g ≡ true) ↔ (AreApart f g → ⊥) }
 {}

@@ -18,7 +18,7 @@ pub enum CpcKind {
     BadLength,
     /// The byte begins no integer, buffer or package.
     UnknownOp,
-    /// A package stands in the package.
+    /// An element of the package is a package.
     TooDeep,
     /// The item is an integer or a buffer.
     NotPackage,

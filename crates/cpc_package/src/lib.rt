@@ -1,5 +1,5 @@
 //! Packages of performance control (`_CPC`, ACPI 6.5, 8.4.6.1): their bytes both ways, their text, and which fields of a communication
-//! space their registers are. A controller of performance and its callers stand on it.
+//! space their registers are. A controller of performance and its callers use it.
 #![tactic(auto)]
 
 mod apart;
@@ -14,7 +14,7 @@ mod text;
 mod worked;
 
 pub use apart::cpus_apart;
-pub use binding::{BindFault, Binding, Cpus, Source1, bind, share_law};
+pub use binding::{BindFault, Binding, Cpus, Source1, bind, binding_laws, number_in, share_law};
 pub use entry::Entry;
 pub use fault::{CpcError, CpcFault, CpcKind};
 pub use package::{Cpc, cpc_from, cpc_to, package_laws};

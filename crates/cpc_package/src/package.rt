@@ -69,7 +69,7 @@ impl Cpc {
     }
 }
 
-/// The package with which the bytes begin (ACPI 6.5, 8.4.6.1), and how many bytes it has. The bytes behind it are not looked at.
+/// The package with which the bytes begin (ACPI 6.5, 8.4.6.1), and how many bytes it has. The bytes after it are not looked at.
 pub fn cpc_from(alloc: Global, bytes: &[u8]) -> Result<(Cpc, usize), CpcError>
     requires { length bytes.now < 2 ^ 32 }
     // A package is one that the first bytes spell.
@@ -77,7 +77,7 @@ pub fn cpc_from(alloc: Global, bytes: &[u8]) -> Result<(Cpc, usize), CpcError>
     // What the bytes begin with is read, unless memory runs out.
     ensures only { (cpc : Item) (front rest : List ℕ) → CpcBytes front cpc → bytes.now ≡ front ++ rest
         → MatchResult result (λ x. (x.0 ≡ cpc) × (x.1 ≡ length front)) (λ e. e ≡ OutOfMemory) }
-    // What is told is wrong, and what is wrong is told, unless memory runs out.
+    // What is reported is wrong, and what is wrong is reported, unless memory runs out.
     ensures wrong { IfErr result (λ e. IsTold bytes.now e) }
     ensures exact { (fault : CpcFault) → CpcWrong bytes.now fault → MatchResult result (λ _. ⊥) (λ e. Tells e fault) }
 {

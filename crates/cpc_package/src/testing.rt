@@ -59,7 +59,7 @@ fn wrong_unless(right: bool, kind: CpcKind) -> Option<CpcKind>
     if right { None } else { Some(kind) }
 }
 
-/// The first test of an entry that fails, in a package with so many entries.
+/// The first test of an entry that fails, in a package of count entries.
 fn entry_kind(count: usize, role: Role, element: &Element) -> Option<CpcKind>
     ensures { result ≡ entry_kind count role element.now }
 {

@@ -43,8 +43,8 @@ fn read(alloc: Global, bytes: &[u8]) -> Result<(Cpc, usize), CpcError> {
     cpc_from(alloc, few)
 }
 
-// The entry, the place and the kind that are told.
-fn told(alloc: Global, bytes: &[u8]) -> Option<(u8, u32, CpcKind)> {
+// The entry, the place and the kind that are reported.
+fn reported(alloc: Global, bytes: &[u8]) -> Option<(u8, u32, CpcKind)> {
     match read(alloc, bytes) {
         Err(CpcError::Fault { entry, at, kind }) => Some((entry, at, kind)),
         _ => None,
@@ -102,9 +102,9 @@ fn a_package_has_a_line_for_each_entry(rt: HostRuntime) -> Result<(), Fail> {
 }
 
 #[test]
-fn the_first_test_that_fails_is_told(rt: HostRuntime) -> Result<(), Fail> {
+fn the_first_test_that_fails_is_reported(rt: HostRuntime) -> Result<(), Fail> {
     let alloc = rt.alloc();
-    // The changes to the package, and what is told.
+    // The changes to the package, and what is reported.
     let cases: [(&[(usize, u8)], u8, u32, CpcKind); 10] = [
         (&[(1, 0x47)], 0, 279, CpcKind::Short),
         (&[(3, 22)], 22, 276, CpcKind::BadLength),
@@ -119,24 +119,27 @@ fn the_first_test_that_fails_is_told(rt: HostRuntime) -> Result<(), Fail> {
     ];
     for (changes, entry, at, kind) in cases {
         let bytes = changed(alloc, changes)?;
-        assert_eq!(rt; told(alloc, &bytes), Some((entry, at, kind)));
+        assert_eq!(rt; reported(alloc, &bytes), Some((entry, at, kind)));
     }
     // An integer in the place of a register, an item that is no package, and a package of one entry.
     let bytes = with_entry(alloc, 38, 59, b"\x0a\x05", 0x43)?;
     let bytes = with_high(alloc, &bytes, 0x10)?;
-    assert_eq!(rt; told(alloc, &bytes), Some((7, 38, CpcKind::NotRegister)));
     assert_eq!(rt;
-        told(alloc, b"\x0a\x17\x00"),
+        reported(alloc, &bytes),
+        Some((7, 38, CpcKind::NotRegister))
+    );
+    assert_eq!(rt;
+        reported(alloc, b"\x0a\x17\x00"),
         Some((0, 0, CpcKind::NotPackage))
     );
     assert_eq!(rt;
-        told(alloc, b"\x12\x43\x00\x00"),
+        reported(alloc, b"\x12\x43\x00\x00"),
         Some((0, 3, CpcKind::EntryCount))
     );
     Ok(())
 }
 
-// The bytes with another byte behind the first one of the length.
+// The bytes with another byte after the first one of the length.
 fn with_high(alloc: Global, bytes: &[u8], high: u8) -> Result<Vec<u8>, AllocError> {
     let mut bytes = Vec::from_slice(alloc, bytes)?;
     if let Some(byte) = bytes.get_mut(2) {
@@ -163,14 +166,14 @@ fn bound(
 }
 
 #[test]
-fn the_first_reason_not_to_bind_is_told(rt: HostRuntime) -> Result<(), Fail> {
+fn the_first_reason_not_to_bind_is_reported(rt: HostRuntime) -> Result<(), Fail> {
     let alloc = rt.alloc();
     let scale = BindFault::BadScale {
         lowest: 4,
         nominal: 3,
         highest: 300,
     };
-    // The changes to the package, the bytes of the space, and what is told.
+    // The changes to the package, the bytes of the space, and what is reported.
     let cases: [(&[(usize, u8)], u32, BindFault); 8] = [
         (&[], 31, BindFault::FieldOutside { entry: 14 }),
         (&[(91, 6)], 32, BindFault::FieldsOverlap { a: 8, b: 9 }),

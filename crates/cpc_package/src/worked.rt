@@ -39,7 +39,7 @@ pub const SIX_FIELDS_PACKAGE: [u8; 279] =
     \x11\x14\x0a\x11\x82\x0c\0\0\0\0\0\0\0\0\0\0\0\0\0\x79\0\
     \x0a\x64\x0b\x90\x01\x0b\xd0\x07";
 
-/// What it says, and which elements may stand in its entries. It does nothing.
+/// What it says, and which elements its entries may be. It does nothing.
 pub fn worked_packages()
     ensures package { CpcBytes SIX_FIELDS_PACKAGE six_fields }
 

@@ -9,7 +9,7 @@ use Rattle.pcc_bytes.specs.Bytes.{IsBytes}
 use Rattle.pcc_gas.specs.declared.change.Change.{Change}
 use Rattle.pcc_gas.specs.declared.field.Field.{Field}
 use Rattle.pcc_gas.specs.Fields.{FieldPut, InField, bit_of, field_value}
-use Rattle.pcc_gas.specs.Changes.{FitIn, IsApartFrom, IsOutside, TakeFrom, bytes_by, change, changed_bit, is_in, number_by, with_changes}
+use Rattle.pcc_gas.specs.Changes.{AreApartFrom, FitIn, IsApartFrom, IsOutside, TakeFrom, bytes_by, change, changed_bit, is_in, number_by, with_changes}
 use Rattle.pcc_gas.proofs.Fields.{bit_at-field_value, bits_from-number, bits_from-same, one_more, same_bytes}
 
 -- ---- numbers and bytes by their bits
@@ -212,6 +212,59 @@ changes-next changes space after field value all fits apart put =
     elim (cases_lt bit (8 * length space)) [
       | inl h ↦ inside bit h ∙ sym (changes-bit more space bit h)
       | inr past ↦ bit_of-past after bit (omega (arith, len)) ∙ sym (bit_of-past space bit past) ∙ sym (past_bit more space bit past)
+    ])
+
+-- ---- changes after changes
+
+-- a bit outside of the first changes, and one outside of the later ones
+skip_bit : (first later : List Change) (space : List ℕ) (bit : ℕ) → IsOutside bit first → changed_bit (first ++ later) space bit ≡ changed_bit later space bit
+skip_bit [] later space bit out = refl
+skip_bit (c ∷ cs) later space bit out = later_bit c (cs ++ later) space bit out.0 ∙ skip_bit cs later space bit out.1
+
+front_bit : (first later : List Change) (space : List ℕ) (bit : ℕ) → IsOutside bit later → changed_bit (first ++ later) space bit ≡ changed_bit first space bit
+front_bit [] later space bit out = outside_bit later space bit out
+front_bit (c ∷ cs) later space bit out = same_choice (is_in c.field bit) (bit_at c.value (bit - c.field.at_bit)) _ _ (front_bit cs later space bit out)
+
+-- a bit that later changes give: none of the first ones has it, and the space doesn't matter
+pub record Given (first later : List Change) (bit : ℕ) : Type 0 where
+  pub out : IsOutside bit first
+  pub same : (a b : List ℕ) → changed_bit later a bit ≡ changed_bit later b bit
+
+given_or_not : (first later : List Change) (bit : ℕ) → AreApartFrom first later → IsOutside bit later ⊎ Given first later bit
+given_or_not first [] bit apart = inl tt
+given_or_not first (d ∷ ds) bit apart = elim (split (is_in d.field bit)) [
+  | inl is ↦
+      let here : InField d.field bit = in_field d.field bit is in
+      inr (record { out = out_of d.field first bit apart.0 here; same = λ a b. first_bit d ds a bit here ∙ sym (first_bit d ds b bit here) })
+  | inr none ↦
+      let out : InField d.field bit → ⊥ = λ here. absurd (true_false (is_in d.field bit) (is_in-true d.field bit here) none) in
+      elim (given_or_not first ds bit apart.1) [
+        | inl others ↦ inl (out, others)
+        | inr given ↦ inr (record { out = given.out; same = λ a b. later_bit d ds a bit out ∙ given.same a b ∙ sym (later_bit d ds b bit out) })
+      ]
+]
+
+more_bit : (first later : List Change) (space : List ℕ) (bit : ℕ) → AreApartFrom first later → bit < 8 * length space
+    → changed_bit later (with_changes first space) bit ≡ changed_bit (first ++ later) space bit
+more_bit first later space bit apart inside = elim (given_or_not first later bit apart) [
+  | inl out ↦
+      outside_bit later (with_changes first space) bit out ∙ changes-bit first space bit inside ∙ sym (front_bit first later space bit out)
+  | inr given ↦ given.same (with_changes first space) space ∙ sym (skip_bit first later space bit given.out)
+]
+
+pub changes-more : (first later : List Change) (space : List ℕ) → AreApartFrom first later
+    → with_changes later (with_changes first space) ≡ with_changes (first ++ later) space
+changes-more first later space apart =
+    let between : List ℕ = with_changes first space in
+    let len : length between ≡ length space = changes-length first space in
+    same_bytes (with_changes later between) (with_changes (first ++ later) space) (changes-bytes later between) (changes-bytes (first ++ later) space)
+    (changes-length later between ∙ len ∙ sym (changes-length (first ++ later) space)) (λ bit.
+    elim (cases_lt bit (8 * length space)) [
+      | inl h ↦
+          changes-bit later between bit (omega (arith, len)) ∙ more_bit first later space bit apart h
+          ∙ sym (changes-bit (first ++ later) space bit h)
+      | inr past ↦
+          past_bit later between bit (omega (arith, len)) ∙ past_bit first space bit past ∙ sym (past_bit (first ++ later) space bit past)
     ])
 
 -- ---- numbers that are taken from another space

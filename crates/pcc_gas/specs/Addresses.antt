@@ -25,7 +25,7 @@ pub record AddressBytes (bytes : List ℕ) (gas : Gas) : Type 0 where
   pub len : length bytes ≡ 12
   pub parts : address_in bytes ≡ gas
 
--- Seventeen bytes are the descriptor of a register and the end tag behind it, whose checksum is not given, as 0, or makes
+-- Seventeen bytes are the descriptor of a register and the end tag after it, whose checksum is not given, as 0, or makes
 -- the sum of all of them 0.
 pub record RegisterBytes (bytes : List ℕ) (register : Register) : Type 0 where
   pub len : length bytes ≡ 17

@@ -41,6 +41,10 @@ pub record FitIn (len : ℕ) (c : Change) : Type 0 where
 abbrev pub IsApartFrom : Field → List Change → Type 0
 IsApartFrom field changes = AllByRecursion (λ c. AreApart field c.field) changes
 
+-- no field of later changes has a bit of the fields of the first ones
+abbrev pub AreApartFrom : List Change → List Change → Type 0
+AreApartFrom first later = AllByRecursion (λ c. IsApartFrom c.field first) later
+
 -- a bit is in none of the fields of changes
 abbrev pub IsOutside : ℕ → List Change → Type 0
 IsOutside bit changes = AllByRecursion (λ c. InField c.field bit → ⊥) changes

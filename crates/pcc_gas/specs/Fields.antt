@@ -3,7 +3,7 @@ use Rattle.std.specs.Prelude.{◌≡◌, ◌<◌, ◌≤◌, ℕ, zero, suc, ◌
 use Rattle.std.specs.Int.{bit_at}
 use Rattle.pcc_gas.specs.declared.field.Field.{Field}
 
--- a bit of a space, 0 or 1: of each byte the lowest bit comes first
+-- a bit of a space, 0 or 1: the lowest bit of each byte is its first
 abbrev pub bit_of : List ℕ → ℕ → ℕ
 bit_of space bit = bit_at (slice_index space (bit / 8)) (bit % 8)
 
@@ -31,7 +31,7 @@ pub record FieldPut (space : List ℕ) (field : Field) (value : ℕ) (after : Li
   pub put : field_value after field ≡ value
   pub others : (bit : ℕ) → (InField field bit → ⊥) → bit_of after bit ≡ bit_of space bit
 
--- after: the space with the bits of a number in so many bytes from a place on
+-- after: the space with the bits of a number in count bytes from a place on
 pub record Overwritten (space after : List ℕ) (first count number : ℕ) : Type 0 where
   pub len : length after ≡ length space
   pub before : (bit : ℕ) → bit < 8 * first → bit_of after bit ≡ bit_of space bit

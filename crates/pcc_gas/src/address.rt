@@ -22,7 +22,7 @@ pub struct Gas {
 }
 
 /// A register of a `_CPC` package: the descriptor that holds its address (ACPI 6.5, 6.4.3.7), and the checksum
-/// of the end tag behind it (6.4.2.9).
+/// of the end tag after it (6.4.2.9).
 #[derive(Clone, Copy, Debug, PartialEq, Eq)]
 pub struct Register {
     /// Where the register lies.

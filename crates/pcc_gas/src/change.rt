@@ -1,7 +1,7 @@
 //! Fields of a space that are changed at once.
 ghost use Rattle.std.specs.Prelude.{◌≡◌, ◌<◌, ◌≤◌, ◌+◌, ◌*◌, ◌^◌, [], ◌∷◌, ◌++◌, List, ℕ, length};
 ghost use Rattle.pcc_bytes.specs.Bytes.{IsBytes};
-ghost use Rattle.pcc_gas.specs.Changes.{FitIn, IsApartFrom, IsOutside, TakeFrom, change, with_changes};
+ghost use Rattle.pcc_gas.specs.Changes.{AreApartFrom, FitIn, IsApartFrom, IsOutside, TakeFrom, change, with_changes};
 ghost use Rattle.pcc_gas.specs.Fields.{FieldPut, bit_of, field_value};
 
 use crate::Field;
@@ -36,6 +36,10 @@ pub fn field_laws()
     ensures next { (changes : List Change) (space after : List ℕ) (field : Field) (value : ℕ) → IsBytes after → value < 2 ^ field.width
         → IsApartFrom field changes → FieldPut (with_changes changes space) field value after
         → after ≡ with_changes (changes ++ change field value ∷ []) space }
+
+    // Changes after changes of fields apart from theirs are all of them at once.
+    ensures more { (first later : List Change) (space : List ℕ) → AreApartFrom first later
+        → with_changes later (with_changes first space) ≡ with_changes (first ++ later) space }
 
     // A field's own number changes nothing, and numbers that are all taken from another space give that space if it is otherwise the same.
     ensures own { (space : List ℕ) (field : Field) → IsBytes space → with_changes (change field (field_value space field) ∷ []) space ≡ space }

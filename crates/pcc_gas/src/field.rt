@@ -1,8 +1,9 @@
 //! Fields of bits in a space of bytes, as a register in a communication space is one.
 
-ghost use Rattle.std.specs.Prelude.{IsTrue, ◌≡◌, ◌<◌, ◌≤◌, ◌+◌, ◌-◌, ◌*◌, ◌%◌, ◌^◌, ◌↔◌, List, ℕ, length};
+ghost use Rattle.std.specs.Prelude.{IsTrue, ◌≡◌, ◌<◌, ◌≤◌, ◌+◌, ◌-◌, ◌*◌, ◌%◌, ◌^◌, ◌↔◌, [], ◌∷◌, List, ℕ, length};
 ghost use Rattle.std.specs.Int.{bit_at};
 ghost use Rattle.pcc_bytes.specs.Bytes.{IsBytes};
+ghost use Rattle.pcc_gas.specs.Changes.{change, with_changes};
 ghost use Rattle.pcc_gas.specs.Fields.{AreApart, FieldPut, Overwritten, bit_of, field_value};
 
 use byteorder::{ByteOrder, LittleEndian};
@@ -36,6 +37,7 @@ pub fn field_put(space: &mut [u8], field: Field, value: u64)
     requires inside { field.at_bit + field.width ≤ 8 * length space.old }
     requires fits { value < 2 ^ field.width }
     ensures put { FieldPut space.old field value space.new }
+    ensures changed { space.new ≡ with_changes (change field value ∷ []) space.old }
 
     // A field that is apart keeps its number, and no other bytes are the space with the number put.
     ensures apart { (other : Field) → AreApart field other → field_value space.new other ≡ field_value space.old other }
@@ -55,7 +57,7 @@ pub fn fields_apart(a: Field, b: Field) -> bool
     end_of(a).min(end_of(b)) <= u64::from(start)
 }
 
-/// The bit behind a field.
+/// The first bit after a field.
 fn end_of(field: Field) -> u64
     ensures { result ≡ field.at_bit + field.width }
 {
@@ -132,7 +134,7 @@ fn with_bits(bits: u128, shift: u32, width: u8, value: u64) -> u128
     (bits & !(ones(width) << shift)) | (u128::from(value) << shift)
 }
 
-/// A number whose lowest bits are ones, so many.
+/// A number whose lowest bits are ones.
 fn ones(width: u8) -> u128
     requires { width ≤ 64 }
     ensures { result ≡ 2 ^ width - 1 }

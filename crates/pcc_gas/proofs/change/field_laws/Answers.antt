@@ -1,5 +1,5 @@
 use Rattle.pcc_gas.proofs.Fields.{field_value-lt}
-use Rattle.pcc_gas.proofs.Changes.{changes-apart, changes-bytes, changes-length, changes-next, changes-none, changes-one, changes-outside, changes-own, changes-taken, same_field}
+use Rattle.pcc_gas.proofs.Changes.{changes-apart, changes-bytes, changes-length, changes-more, changes-next, changes-none, changes-one, changes-outside, changes-own, changes-taken, same_field}
 use Rattle.pcc_gas.proofs.change.field_laws.Goals as goal
 
 pub returns-clause-below : goal.returns-clause-below
@@ -28,6 +28,9 @@ returns-clause-one c = changes-one
 
 pub returns-clause-next : goal.returns-clause-next
 returns-clause-next c = changes-next
+
+pub returns-clause-more : goal.returns-clause-more
+returns-clause-more c = changes-more
 
 pub returns-clause-own : goal.returns-clause-own
 returns-clause-own c = changes-own

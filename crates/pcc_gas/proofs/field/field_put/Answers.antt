@@ -1,3 +1,6 @@
+use Rattle.std.proofs.Common.{[], ◌∷◌, length}
+use Rattle.pcc_gas.specs.Changes.{FitIn, change, with_changes}
+use Rattle.pcc_gas.proofs.Changes.{changes-bytes, changes-one}
 use Rattle.pcc_gas.proofs.Fields.{field_value-apart, one_space}
 use Rattle.pcc_gas.proofs.Windows.{field_put-around}
 use Rattle.pcc_gas.proofs.field.field_put.Goals as goal
@@ -11,6 +14,15 @@ returns-clause-put c =
     c.put_bytes.ensures
     (record { put = c.with_bits-bytes.ensures.put; below = c.with_bits-bytes.ensures.below; above = c.with_bits-bytes.ensures.above })
     c.requires.fits
+
+pub returns-clause-changed : goal.returns-clause-changed
+returns-clause-changed c =
+    let space = c.args.space.now in
+    let field = c.args.field in
+    let value = c.args.value in
+    let fit : FitIn (length space) (change field value) = record { inside = c.requires.inside; fits = c.requires.fits } in
+    one_space space field value c.put_bytes.new.space (with_changes (change field value ∷ []) space) (record { fits = λ k. (c.type_inv.space k).fits })
+    (changes-bytes (change field value ∷ []) space) (returns-clause-put c) (changes-one space field value fit)
 
 pub returns-clause-apart : goal.returns-clause-apart
 returns-clause-apart c = λ other apart.
