@@ -26,3 +26,4 @@ pub mod Ends
 pub mod Refusals
 pub mod AskFeeds
 pub mod AnswerFeeds
+pub mod BlockMoves

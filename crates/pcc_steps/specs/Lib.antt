@@ -10,3 +10,4 @@ pub mod Reached
 pub mod WorkedRuns
 pub mod Walk
 pub mod Carrying
+pub mod Moves
