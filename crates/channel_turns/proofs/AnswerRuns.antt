@@ -1,5 +1,5 @@
 -- The answering machine's word steps, one after the other, with the device's turn.
-use Rattle.std.proofs.Common.{◌≡◌, ◌≢◌, ℕ, ◌+◌, ◌-◌, ◌*◌, ◌/◌, ◌%◌, ◌^◌, ◌<◌, ◌≤◌, Bool, true, false, eqb, List, [], ◌∷◌, ◌++◌, length, drop, refl, sym, ap, ◌∙◌, subst, arith, length-append, length-drop}
+use Rattle.std.proofs.Common.{◌≡◌, ◌≢◌, ℕ, zero, suc, ◌+◌, ◌-◌, ◌*◌, ◌/◌, ◌%◌, ◌^◌, ◌<◌, ◌≤◌, Bool, true, false, eqb, List, [], ◌∷◌, ◌++◌, length, drop, refl, sym, ap, ◌∙◌, subst, arith, length-append, length-drop}
 use Rattle.std.specs.Prelude.{Option, Some, None}
 use Rattle.std.proofs.lemmas.List.{append-nil}
 use Rattle.pcc_history.specs.Devices.{Device}
@@ -19,6 +19,7 @@ use Rattle.pcc_steps.specs.Runs.{Run, ends, loads, stores, swaps, executes, With
 use Rattle.pcc_steps.specs.Walk.{answer_left, answer_after, Gives}
 use Rattle.pcc_steps.specs.Asking.{has_more}
 use Rattle.pcc_steps.specs.Answering.{Answer, AnswerOk, IsAnswerStepping, answer_begun, answer_next, answer_fed, answer_told, answer_fed_at, answer_told_at, after_ack, after_take, after_error, after_reply, after_close, after_done, done_stage, update_stage, asks_notify, take_on, take_told, load_on, reply_on, ran_with, answer_code}
+use Rattle.pcc_steps.specs.Moves.{AnswerMoves}
 use Rattle.pcc_steps.specs.Agree.{act, found, Finds, Core, Asker, Answerer, Agree, Pose, free, writing, cleared, waiting, reading, replying, Fits, pose, turn_at, settle, settle_at, answerer_fed}
 use Rattle.pcc_steps.specs.Laws.{AnswerBeginAgrees, AnswerStepAgrees}
 use Rattle.pcc_steps.proofs.AnswerWalks.{answers_by_table, answer_steps_by_table, executes_by_table}
@@ -28,7 +29,7 @@ use Rattle.pcc_steps.proofs.Wired.{answer_wired}
 use Rattle.pcc_steps.proofs.WordSteps.{long_act, finds_found}
 use Rattle.pcc_steps.proofs.AnswerFeeds.{counted, framed, is_rest, is_run, rest_is, run_is, not_rest, not_run, ends_run, fed_rests, unsettled, settled_wired}
 use Rattle.pcc_steps.proofs.Lists.{one_more}
-use Rattle.channel_turns.specs.WordRuns.{AnswerStep, AnswerKeeps, HasExecuted, HistoryIs}
+use Rattle.channel_turns.specs.WordRuns.{AnswerStep, AnswerStride, AnswerKeeps, HasExecuted, HistoryIs}
 use Rattle.pcc_steps.proofs.Lengths.{one_less}
 
 -- ---- stages
@@ -298,6 +299,21 @@ replying_more cleared j x y c f = absurd (cc (f.0))
 replying_more waiting j x y c f = one_more x.done y.done _ f.row.done
 replying_more (reading i) j x y c f = absurd (cc (f.0))
 
+pub moves_step : (n : ℕ) (ws ws' : List ℕ) (a b : Answer) → AnswerMoves n ws a ws' b → IsAnswerStepping a → IsAnswerStepping b
+moves_step zero ws ws' a b m runs = subst (λ (x : Answer). IsAnswerStepping x) (sym m.1) runs
+moves_step (suc n) ws ws' a b m runs = let v : ℕ = found (answer_next a) ws in let c : Answer = answer_fed a v in
+    let on : is_rest c.stage ≡ false = fed_rests a.stage a v (not_rest a.stage runs.0) (not_run a.stage runs.1) ∙ ap ends_run m.3 in
+    moves_step n (act (answer_next a) ws) ws' c b m.6 (λ q. not_false (is_rest c.stage) (ap is_rest q) on, m.5)
+
+pub moves_long : (n : ℕ) (ws ws' : List ℕ) (a b : Answer) → AnswerMoves n ws a ws' b → length ws ≡ 8 + block_of a.wiring → length ws' ≡ 8 + block_of b.wiring
+moves_long zero ws ws' a b m long = subst (λ (z : List ℕ × Answer). length z.0 ≡ 8 + block_of z.1.wiring) (λ i. (sym m.0 i, sym m.1 i)) long
+moves_long (suc n) ws ws' a b m long = let v : ℕ = found (answer_next a) ws in let on : List ℕ = act (answer_next a) ws in
+    moves_long n on ws' (answer_fed a v) b m.6 (long_act (answer_next a) ws ∙ long ∙ ap (λ (w : Wiring). 8 + block_of w) (sym (answer_wired a.stage a v)))
+
+pub moves_wired : (n : ℕ) (ws ws' : List ℕ) (a b : Answer) → AnswerMoves n ws a ws' b → b.wiring ≡ a.wiring
+moves_wired zero ws ws' a b m = ap (λ (x : Answer). x.wiring) m.1
+moves_wired (suc n) ws ws' a b m = let v : ℕ = found (answer_next a) ws in moves_wired n (act (answer_next a) ws) ws' (answer_fed a v) b m.6 ∙ answer_wired a.stage a v
+
 module _ (exec : Device) where
   has_more_by : (st : AnswerStage) (start ws : List ℕ) (x : Asker) (y : Answerer) → y.m.stage ≡ st → is_past st ≡ true → Agree exec start ws x y → HasExecuted st (length y.done) (length x.done) → length y.done ≡ length x.done + 1
   has_more_by AnswerRest start ws x y e p g h = absurd (cc p)
@@ -450,7 +466,7 @@ module _ (exec : Device) where
       pub behind_line : b'.stage ≢ TakeLine
       pub within : AnswerOk b' → Within (most - i) (answer_left b')
 
-    pub going_start : (ws : List ℕ) (b : Answer) (d : List ℕ) (most : ℕ) → IsAnswerStepping b → b.stage ≢ TakeLine → (AnswerOk b → Within most (answer_left b)) → AnswerGoing ws b d most 0 ws b d
+    going_start : (ws : List ℕ) (b : Answer) (d : List ℕ) (most : ℕ) → IsAnswerStepping b → b.stage ≢ TakeLine → (AnswerOk b → Within most (answer_left b)) → AnswerGoing ws b d most 0 ws b d
     going_start ws b d most runs line w = record {
       keeps = λ start x done is same g e. (done, g, e);
       long = refl;
@@ -467,7 +483,7 @@ module _ (exec : Device) where
         (λ q. (λ r. not_false (is_rest m.stage) (ap is_rest r) (fed_rests b.stage b v (not_rest b.stage runs.0) (not_run b.stage runs.1) ∙ ap ends_run e), q, λ r. not_false (is_line m.stage) (ap is_line r) (behind_at b.stage b v (not_rest b.stage runs.0) (not_run b.stage runs.1))))
         (λ j. (λ q. cc, λ q. cc, λ q. cc))
 
-    pub going_more : AnswerStepAgrees exec is_state room_of → (ws : List ℕ) (b : Answer) (d : List ℕ) (most i : ℕ) (ws1 ws2 : List ℕ) (b1 b2 : Answer) (d1 d2 : List ℕ) → AnswerGoing ws b d most i ws1 b1 d1 → AnswerStep exec ws1 b1 d1 ws2 b2 d2 None → AnswerGoing ws b d most (i + 1) ws2 b2 d2
+    going_more : AnswerStepAgrees exec is_state room_of → (ws : List ℕ) (b : Answer) (d : List ℕ) (most i : ℕ) (ws1 ws2 : List ℕ) (b1 b2 : Answer) (d1 d2 : List ℕ) → AnswerGoing ws b d most i ws1 b1 d1 → AnswerStep exec ws1 b1 d1 ws2 b2 d2 None → AnswerGoing ws b d most (i + 1) ws2 b2 d2
     going_more law ws b d most i ws1 ws2 b1 b2 d1 d2 h s = let v : ℕ = found (answer_next b1) ws1 in let y : Answerer = behind b1 d1 v in let on = goes_on b1 d1 v h.runs (sym s.told_is) in record {
       keeps = more_keeps is_state room_of ws ws1 ws2 b b1 b2 d d1 d2 None (λ q. cc) h.keeps (step_keeps is_state room_of law ws1 b1 d1 ws2 b2 d2 None h.runs s);
       long = ap (λ (l : List ℕ). length l) s.words ∙ long_act (answer_next b1) ws1 ∙ h.long;
@@ -484,20 +500,70 @@ module _ (exec : Device) where
     rests_at b d v o runs e = let m : Answer = answer_fed b v in let r : m.stage ≡ AnswerRest = rest_is m.stage (fed_rests b.stage b v (not_rest b.stage runs.0) (not_run b.stage runs.1) ∙ ap ends_run e) in
         ap (λ (y : Answerer). y.m.stage) (unsettled exec m.stage (record { m = m; device = d; done = [] }) (ap is_run r)) ∙ r
 
-    pub step_rests : (ws : List ℕ) (b : Answer) (d : List ℕ) (ws' : List ℕ) (b' : Answer) (d' : List ℕ) (o : AnswerOutcome) → IsAnswerStepping b → AnswerStep exec ws b d ws' b' d' (Some o) → b'.stage ≡ AnswerRest
+    step_rests : (ws : List ℕ) (b : Answer) (d : List ℕ) (ws' : List ℕ) (b' : Answer) (d' : List ℕ) (o : AnswerOutcome) → IsAnswerStepping b → AnswerStep exec ws b d ws' b' d' (Some o) → b'.stage ≡ AnswerRest
     step_rests ws b d ws' b' d' o runs s = ap (λ (a : Answer). a.stage) s.machine ∙ rests_at b d (found (answer_next b) ws) o runs (sym s.told_is)
 
-    pub step_serves : (ws : List ℕ) (b : Answer) (d : List ℕ) (ws' : List ℕ) (b' : Answer) (d' : List ℕ) (o : AnswerOutcome) → b.stage ≢ TakeLine → AnswerStep exec ws b d ws' b' d' (Some o) → o ≡ Served
+    step_serves : (ws : List ℕ) (b : Answer) (d : List ℕ) (ws' : List ℕ) (b' : Answer) (d' : List ℕ) (o : AnswerOutcome) → b.stage ≢ TakeLine → AnswerStep exec ws b d ws' b' d' (Some o) → o ≡ Served
     step_serves ws b d ws' b' d' Idle n s = absurd (n ((idle_told b (found (answer_next b) ws)).0 (sym s.told_is)).0)
     step_serves ws b d ws' b' d' Served n s = refl
 
-    pub going_ends : AnswerStepAgrees exec is_state room_of → (ws : List ℕ) (b : Answer) (d : List ℕ) (most i : ℕ) (ws1 ws2 : List ℕ) (b1 b2 : Answer) (d1 d2 : List ℕ) (o : AnswerOutcome) → AnswerGoing ws b d most i ws1 b1 d1 → AnswerStep exec ws1 b1 d1 ws2 b2 d2 (Some o) → AnswerKeeps exec is_state room_of ws b d ws2 b2 d2 (Some o)
+    going_ends : AnswerStepAgrees exec is_state room_of → (ws : List ℕ) (b : Answer) (d : List ℕ) (most i : ℕ) (ws1 ws2 : List ℕ) (b1 b2 : Answer) (d1 d2 : List ℕ) (o : AnswerOutcome) → AnswerGoing ws b d most i ws1 b1 d1 → AnswerStep exec ws1 b1 d1 ws2 b2 d2 (Some o) → AnswerKeeps exec is_state room_of ws b d ws2 b2 d2 (Some o)
     going_ends law ws b d most i ws1 ws2 b1 b2 d1 d2 o h s = let e : o ≡ Served = step_serves ws1 b1 d1 ws2 b2 d2 o h.behind_line s in
         more_keeps is_state room_of ws ws1 ws2 b b1 b2 d d1 d2 (Some o) (served_only o e) h.keeps (step_keeps is_state room_of law ws1 b1 d1 ws2 b2 d2 (Some o) h.runs s)
 
     -- it isn't longer
-    pub going_stops : (ws : List ℕ) (b : Answer) (d : List ℕ) (most i : ℕ) (ws' : List ℕ) (b' : Answer) (d' : List ℕ) → AnswerGoing ws b d most i ws' b' d' → AnswerOk b' → most ≤ i → ⊥
+    going_stops : (ws : List ℕ) (b : Answer) (d : List ℕ) (most i : ℕ) (ws' : List ℕ) (b' : Answer) (d' : List ℕ) → AnswerGoing ws b d most i ws' b' d' → AnswerOk b' → most ≤ i → ⊥
     going_stops ws b d most i ws' b' d' h ok le = let p : 0 < most - i = least (most - i) b' ok h.runs (h.within ok) in omega (arith, p, le)
+
+    -- ---- a run whose block is moved at once
+
+    -- a step that the device doesn't follow
+    step_of : (ws : List ℕ) (b : Answer) (d : List ℕ) → let v = found (answer_next b) ws in AnswerOk b → v < 2 ^ 64 → answer_told b v ≡ None → AnswerOk (answer_fed b v) → (answer_fed b v).stage ≢ RunDevice
+        → AnswerStep exec ws b d (act (answer_next b) ws) (answer_fed b v) d None
+    step_of ws b d ok small told fed plain = let v : ℕ = found (answer_next b) ws in let m : Answer = answer_fed b v in
+        let e : settle exec (record { m = m; device = d; done = [] }) ≡ record { m = m; device = d; done = [] } = unsettled exec m.stage (record { m = m; device = d; done = [] }) (not_run m.stage plain) in
+        record { right = ok; fed = fed; small = small; words = refl; machine = ap (λ (y : Answerer). y.m) (sym e); device = ap (λ (y : Answerer). y.device) (sym e); told_is = sym told }
+
+    -- so many steps more
+    going_moves : AnswerStepAgrees exec is_state room_of → (n : ℕ) (ws : List ℕ) (b : Answer) (d : List ℕ) (most i : ℕ) (ws1 ws2 : List ℕ) (b1 b2 : Answer) (d1 : List ℕ) → AnswerGoing ws b d most i ws1 b1 d1 → AnswerMoves n ws1 b1 ws2 b2 → AnswerGoing ws b d most (i + n) ws2 b2 d1
+    going_moves law zero ws b d most i ws1 ws2 b1 b2 d1 h m = let e : i ≡ i + zero = omega arith in
+        subst (λ (z : ℕ × List ℕ × Answer). AnswerGoing ws b d most z.0 z.1 z.2 d1) (λ j. (e j, sym m.0 j, sym m.1 j)) h
+    going_moves law (suc n) ws b d most i ws1 ws2 b1 b2 d1 h m = let v : ℕ = found (answer_next b1) ws1 in let on : List ℕ = act (answer_next b1) ws1 in let e : i + 1 + n ≡ i + suc n = omega arith in
+        subst (λ (k : ℕ). AnswerGoing ws b d most k ws2 b2 d1) e
+        (going_moves law n ws b d most (i + 1) on ws2 (answer_fed b1 v) b2 d1 (going_more law ws b d most i ws1 on b1 (answer_fed b1 v) d1 d1 h (step_of ws1 b1 d1 m.0 m.2 m.3 m.4 m.5)) m.6)
+
+    -- after i turns of the loop so many steps are taken
+    pub record AnswerWent (ws : List ℕ) (b : Answer) (d : List ℕ) (most i : ℕ) (ws' : List ℕ) (b' : Answer) (d' : List ℕ) : Type 0 where
+      pub taken : ℕ
+      pub least_taken : i ≤ taken
+      pub going : AnswerGoing ws b d most taken ws' b' d'
+
+    pub went_start : (ws : List ℕ) (b : Answer) (d : List ℕ) (most : ℕ) → IsAnswerStepping b → b.stage ≢ TakeLine → (AnswerOk b → Within most (answer_left b)) → AnswerWent ws b d most 0 ws b d
+    went_start ws b d most runs line w = record { taken = 0; least_taken = omega arith; going = going_start ws b d most runs line w }
+
+    -- the state after the words that are moved at once
+    after_moves : AnswerStepAgrees exec is_state room_of → (ws : List ℕ) (b : Answer) (d : List ℕ) (most i : ℕ) (ws1 ws2 : List ℕ) (b1 b2 : Answer) (d1 d2 : List ℕ) (told : Option AnswerOutcome) (h : AnswerWent ws b d most i ws1 b1 d1) (s : AnswerStride exec ws1 b1 d1 ws2 b2 d2 told)
+        → AnswerGoing ws b d most (h.taken + s.count) s.words s.answer d1
+    after_moves law ws b d most i ws1 ws2 b1 b2 d1 d2 told h s = going_moves law s.count ws b d most h.taken ws1 s.words b1 s.answer d1 h.going s.moves
+
+    pub went_more : AnswerStepAgrees exec is_state room_of → (ws : List ℕ) (b : Answer) (d : List ℕ) (most i : ℕ) (ws1 ws2 : List ℕ) (b1 b2 : Answer) (d1 d2 : List ℕ) → AnswerWent ws b d most i ws1 b1 d1 → AnswerStride exec ws1 b1 d1 ws2 b2 d2 None → AnswerWent ws b d most (i + 1) ws2 b2 d2
+    went_more law ws b d most i ws1 ws2 b1 b2 d1 d2 h s = record {
+      taken = h.taken + s.count + 1;
+      least_taken = let l = h.least_taken in omega (arith, l);
+      going = going_more law ws b d most (h.taken + s.count) s.words ws2 s.answer b2 d1 d2 (after_moves law ws b d most i ws1 ws2 b1 b2 d1 d2 None h s) s.step;
+    }
+
+    pub went_rests : AnswerStepAgrees exec is_state room_of → (ws : List ℕ) (b : Answer) (d : List ℕ) (most i : ℕ) (ws1 ws2 : List ℕ) (b1 b2 : Answer) (d1 d2 : List ℕ) (o : AnswerOutcome) → AnswerWent ws b d most i ws1 b1 d1 → AnswerStride exec ws1 b1 d1 ws2 b2 d2 (Some o) → b2.stage ≡ AnswerRest
+    went_rests law ws b d most i ws1 ws2 b1 b2 d1 d2 o h s = step_rests s.words s.answer d1 ws2 b2 d2 o (after_moves law ws b d most i ws1 ws2 b1 b2 d1 d2 (Some o) h s).runs s.step
+
+    pub went_serves : AnswerStepAgrees exec is_state room_of → (ws : List ℕ) (b : Answer) (d : List ℕ) (most i : ℕ) (ws1 ws2 : List ℕ) (b1 b2 : Answer) (d1 d2 : List ℕ) (o : AnswerOutcome) → AnswerWent ws b d most i ws1 b1 d1 → AnswerStride exec ws1 b1 d1 ws2 b2 d2 (Some o) → o ≡ Served
+    went_serves law ws b d most i ws1 ws2 b1 b2 d1 d2 o h s = step_serves s.words s.answer d1 ws2 b2 d2 o (after_moves law ws b d most i ws1 ws2 b1 b2 d1 d2 (Some o) h s).behind_line s.step
+
+    pub went_ends : AnswerStepAgrees exec is_state room_of → (ws : List ℕ) (b : Answer) (d : List ℕ) (most i : ℕ) (ws1 ws2 : List ℕ) (b1 b2 : Answer) (d1 d2 : List ℕ) (o : AnswerOutcome) → AnswerWent ws b d most i ws1 b1 d1 → AnswerStride exec ws1 b1 d1 ws2 b2 d2 (Some o) → AnswerKeeps exec is_state room_of ws b d ws2 b2 d2 (Some o)
+    went_ends law ws b d most i ws1 ws2 b1 b2 d1 d2 o h s = going_ends law ws b d most (h.taken + s.count) s.words ws2 s.answer b2 d1 d2 o (after_moves law ws b d most i ws1 ws2 b1 b2 d1 d2 (Some o) h s) s.step
+
+    pub went_stops : (ws : List ℕ) (b : Answer) (d : List ℕ) (most i : ℕ) (ws' : List ℕ) (b' : Answer) (d' : List ℕ) → AnswerWent ws b d most i ws' b' d' → AnswerOk b' → most ≤ i → ⊥
+    went_stops ws b d most i ws' b' d' h ok le = going_stops ws b d most h.taken ws' b' d' h.going ok (let l = h.least_taken in omega (arith, l, le))
 
     -- ---- whole runs
 

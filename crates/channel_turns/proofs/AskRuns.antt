@@ -1,5 +1,5 @@
 -- The asking machine's word steps, one after the other.
-use Rattle.std.proofs.Common.{◌≡◌, ◌≢◌, ℕ, ◌+◌, ◌-◌, ◌^◌, ◌<◌, ◌≤◌, Bool, true, false, cond, ltb, eqb, List, length, refl, sym, ap, ◌∙◌, subst, arith}
+use Rattle.std.proofs.Common.{◌≡◌, ◌≢◌, ℕ, zero, suc, ◌+◌, ◌-◌, ◌^◌, ◌<◌, ◌≤◌, Bool, true, false, cond, ltb, eqb, List, length, refl, sym, ap, ◌∙◌, subst, arith}
 use Rattle.std.specs.Prelude.{Option, Some, None, get_or}
 use Rattle.pcc_history.specs.Channel.{Exchange}
 use Rattle.pcc_steps.specs.declared.wiring.Wiring.{Wiring}
@@ -14,18 +14,20 @@ use Rattle.pcc_steps.specs.Wires.{style_of, block_of, sees_done, tells_error, ac
 use Rattle.pcc_steps.specs.Runs.{Run, ends, loads, stores, swaps, executes, Within}
 use Rattle.pcc_steps.specs.Walk.{ask_left, ask_after, Takes}
 use Rattle.pcc_steps.specs.Asking.{Ask, AskOk, Flies, PostsLeft, ask_stepped, look_told, IsAskRunning, ask_begun, ask_looking, ask_next, ask_fed, ask_told, ask_fed_at, has_more, after_block, after_update, after_mark, after_bell, after_look, store_on, look_on, read_on, block_on, line_on, lowered_on}
+use Rattle.pcc_steps.specs.Moves.{AskMoves}
 use Rattle.pcc_steps.specs.Agree.{act, found, Finds, Agree, done_after, clears_after}
 use Rattle.pcc_steps.proofs.Agreement.{ask_step_agrees}
 use Rattle.pcc_steps.proofs.AskWalks.{asks_by_table, looks_by_table, posts_by_table}
 use Rattle.pcc_steps.proofs.Bounds.{looks_within, posts_within}
 use Rattle.pcc_steps.proofs.Nexts.{clear_told}
+use Rattle.pcc_steps.proofs.Wired.{ask_wired}
 use Rattle.pcc_steps.proofs.WordSteps.{long_act, finds_found}
 use Rattle.pcc_steps.proofs.AskFeeds.{Fed, Spaced, Sure, done_same, rest_is, not_rest}
 use Rattle.pcc_steps.proofs.AskFeeds as feeds
 use Rattle.pcc_steps.proofs.Ends.{ask_steps_count, rose_most}
 use Rattle.pcc_steps.proofs.Lengths.{one_less}
 use Rattle.pcc_steps.specs.Carrying.{is_rest, carried_at, ends_run, looks_after, flies_after}
-use Rattle.channel_turns.specs.WordRuns.{AskStep, AskSteps, look_most, IsFor, KeepsSpace, Stops}
+use Rattle.channel_turns.specs.WordRuns.{AskStep, AskStride, AskSteps, look_most, IsFor, KeepsSpace, Stops}
 
 -- ---- one step
 
@@ -213,10 +215,10 @@ pub record AskGoing (ws : List ℕ) (a : Ask) (most : ℕ) (i : ℕ) (ws' : List
   pub behind : b.stage ≢ LookWord
   pub within : AskOk b → Within (most - i) (ask_left b)
 
-pub going_start : (ws : List ℕ) (a : Ask) (most : ℕ) → a.stage ≢ AskRest → a.stage ≢ LookWord → (AskOk a → Within most (ask_left a)) → AskGoing ws a most 0 ws a
+going_start : (ws : List ℕ) (a : Ask) (most : ℕ) → a.stage ≢ AskRest → a.stage ≢ LookWord → (AskOk a → Within most (ask_left a)) → AskGoing ws a most 0 ws a
 going_start ws a most runs behind w = record { steps = none_yet ws a runs; count = omega arith; behind = behind; within = λ ok. let e : most ≡ most - 0 = omega arith in subst (λ (n : ℕ). Within n (ask_left a)) e (w ok) }
 
-pub going_more : (ws : List ℕ) (a : Ask) (most i : ℕ) (ws1 ws2 : List ℕ) (b c : Ask) → AskGoing ws a most i ws1 b → AskStep ws1 b ws2 c None → AskGoing ws a most (i + 1) ws2 c
+going_more : (ws : List ℕ) (a : Ask) (most i : ℕ) (ws1 ws2 : List ℕ) (b c : Ask) → AskGoing ws a most i ws1 b → AskStep ws1 b ws2 c None → AskGoing ws a most (i + 1) ws2 c
 going_more ws a most i ws1 ws2 b c h s = let v : ℕ = found (ask_next b) ws1 in let runs : b.stage ≢ AskRest = h.steps.stops in record {
   steps = more ws ws1 ws2 a b c None h.steps (step_goes ws1 b ws2 c None runs s);
   count = let n = h.count in let m = step_counts ws1 b ws2 c None s in omega (arith, n, m);
@@ -225,18 +227,70 @@ going_more ws a most i ws1 ws2 b c h s = let v : ℕ = found (ask_next b) ws1 in
 }
 
 -- the last step of a run
-pub going_ends : (ws : List ℕ) (a : Ask) (most i : ℕ) (ws1 ws2 : List ℕ) (b c : Ask) (o : AskOutcome) → AskGoing ws a most i ws1 b → AskStep ws1 b ws2 c (Some o) → AskSteps ws a ws2 c (Some o)
+going_ends : (ws : List ℕ) (a : Ask) (most i : ℕ) (ws1 ws2 : List ℕ) (b c : Ask) (o : AskOutcome) → AskGoing ws a most i ws1 b → AskStep ws1 b ws2 c (Some o) → AskSteps ws a ws2 c (Some o)
 going_ends ws a most i ws1 ws2 b c o h s = more ws ws1 ws2 a b c (Some o) h.steps (step_goes ws1 b ws2 c (Some o) h.steps.stops s)
 
-pub going_counts : (ws : List ℕ) (a : Ask) (most i : ℕ) (ws1 ws2 : List ℕ) (b c : Ask) (o : AskOutcome) → i < most → AskGoing ws a most i ws1 b → AskStep ws1 b ws2 c (Some o) → c.steps ≤ a.steps + most
+going_counts : (ws : List ℕ) (a : Ask) (most i : ℕ) (ws1 ws2 : List ℕ) (b c : Ask) (o : AskOutcome) → i < most → AskGoing ws a most i ws1 b → AskStep ws1 b ws2 c (Some o) → c.steps ≤ a.steps + most
 going_counts ws a most i ws1 ws2 b c o lt h s = let n = h.count in let m = step_counts ws1 b ws2 c (Some o) s in omega (arith, lt, n, m)
 
-pub going_sees : (ws : List ℕ) (a : Ask) (most i : ℕ) (ws1 ws2 : List ℕ) (b c : Ask) (o : AskOutcome) → AskGoing ws a most i ws1 b → AskStep ws1 b ws2 c (Some o) → o ≢ Clear
+going_sees : (ws : List ℕ) (a : Ask) (most i : ℕ) (ws1 ws2 : List ℕ) (b c : Ask) (o : AskOutcome) → AskGoing ws a most i ws1 b → AskStep ws1 b ws2 c (Some o) → o ≢ Clear
 going_sees ws a most i ws1 ws2 b c o h s e = h.behind ((clear_told b (found (ask_next b) ws1)).0 (sym s.told_is ∙ ap Some e)).0
 
 -- it isn't longer
-pub going_stops : (ws : List ℕ) (a : Ask) (most i : ℕ) (ws' : List ℕ) (b : Ask) → AskGoing ws a most i ws' b → AskOk b → most ≤ i → ⊥
+going_stops : (ws : List ℕ) (a : Ask) (most i : ℕ) (ws' : List ℕ) (b : Ask) → AskGoing ws a most i ws' b → AskOk b → most ≤ i → ⊥
 going_stops ws a most i ws' b h ok le = let p : 0 < most - i = least (most - i) b ok h.steps.stops (h.within ok) in omega (arith, p, le)
+
+-- ---- a run whose block is moved at once
+
+step_of : (ws : List ℕ) (a : Ask) → AskOk a → found (ask_next a) ws < 2 ^ 64 → ask_told a (found (ask_next a) ws) ≡ None → AskStep ws a (act (ask_next a) ws) (ask_fed a (found (ask_next a) ws)) None
+step_of ws a ok small told = record { right = ok; small = small; words = refl; machine = refl; told_is = sym told }
+
+-- so many steps more
+going_moves : (n : ℕ) (ws : List ℕ) (a : Ask) (most i : ℕ) (ws1 ws2 : List ℕ) (b c : Ask) → AskGoing ws a most i ws1 b → AskMoves n ws1 b ws2 c → AskGoing ws a most (i + n) ws2 c
+going_moves zero ws a most i ws1 ws2 b c h m = let e : i ≡ i + zero = omega arith in
+    subst (λ (z : ℕ × List ℕ × Ask). AskGoing ws a most z.0 z.1 z.2) (λ j. (e j, sym m.0 j, sym m.1 j)) h
+going_moves (suc n) ws a most i ws1 ws2 b c h m = let v : ℕ = found (ask_next b) ws1 in let on : List ℕ = act (ask_next b) ws1 in let e : i + 1 + n ≡ i + suc n = omega arith in
+    subst (λ (k : ℕ). AskGoing ws a most k ws2 c) e
+    (going_moves n ws a most (i + 1) on ws2 (ask_fed b v) c (going_more ws a most i ws1 on b (ask_fed b v) h (step_of ws1 b m.0 m.2 m.3)) m.4)
+
+pub moves_run : (n : ℕ) (ws ws' : List ℕ) (a b : Ask) → AskMoves n ws a ws' b → a.stage ≢ AskRest → b.stage ≢ AskRest
+moves_run zero ws ws' a b m runs = subst (λ (x : Ask). x.stage ≢ AskRest) (sym m.1) runs
+moves_run (suc n) ws ws' a b m runs = let v : ℕ = found (ask_next a) ws in let on : List ℕ = act (ask_next a) ws in
+    moves_run n on ws' (ask_fed a v) b m.4 (step_goes ws a on (ask_fed a v) None runs (step_of ws a m.0 m.2 m.3)).stops
+
+pub moves_long : (n : ℕ) (ws ws' : List ℕ) (a b : Ask) → AskMoves n ws a ws' b → length ws ≡ 8 + block_of a.wiring → length ws' ≡ 8 + block_of b.wiring
+moves_long zero ws ws' a b m long = subst (λ (z : List ℕ × Ask). length z.0 ≡ 8 + block_of z.1.wiring) (λ i. (sym m.0 i, sym m.1 i)) long
+moves_long (suc n) ws ws' a b m long = let v : ℕ = found (ask_next a) ws in let on : List ℕ = act (ask_next a) ws in
+    moves_long n on ws' (ask_fed a v) b m.4 (long_act (ask_next a) ws ∙ long ∙ ap (λ (w : Wiring). 8 + block_of w) (sym (ask_wired a.stage a v)))
+
+-- after i turns of the loop so many steps are taken
+pub record AskWent (ws : List ℕ) (a : Ask) (most i : ℕ) (ws' : List ℕ) (b : Ask) : Type 0 where
+  pub taken : ℕ
+  pub least : i ≤ taken
+  pub going : AskGoing ws a most taken ws' b
+
+pub went_start : (ws : List ℕ) (a : Ask) (most : ℕ) → a.stage ≢ AskRest → a.stage ≢ LookWord → (AskOk a → Within most (ask_left a)) → AskWent ws a most 0 ws a
+went_start ws a most runs behind w = record { taken = 0; least = omega arith; going = going_start ws a most runs behind w }
+
+pub went_more : (ws : List ℕ) (a : Ask) (most i : ℕ) (ws1 ws2 : List ℕ) (b c : Ask) → AskWent ws a most i ws1 b → AskStride ws1 b ws2 c None → AskWent ws a most (i + 1) ws2 c
+went_more ws a most i ws1 ws2 b c h s = record {
+  taken = h.taken + s.count + 1;
+  least = let l = h.least in omega (arith, l);
+  going = going_more ws a most (h.taken + s.count) s.words ws2 s.ask c (going_moves s.count ws a most h.taken ws1 s.words b s.ask h.going s.moves) s.step;
+}
+
+pub went_ends : (ws : List ℕ) (a : Ask) (most i : ℕ) (ws1 ws2 : List ℕ) (b c : Ask) (o : AskOutcome) → AskWent ws a most i ws1 b → AskStride ws1 b ws2 c (Some o) → AskSteps ws a ws2 c (Some o)
+went_ends ws a most i ws1 ws2 b c o h s = going_ends ws a most (h.taken + s.count) s.words ws2 s.ask c o (going_moves s.count ws a most h.taken ws1 s.words b s.ask h.going s.moves) s.step
+
+pub went_counts : (ws : List ℕ) (a : Ask) (most i : ℕ) (ws1 ws2 : List ℕ) (b c : Ask) (o : AskOutcome) → AskWent ws a most i ws1 b → AskStride ws1 b ws2 c (Some o) → c.steps ≤ a.steps + most
+went_counts ws a most i ws1 ws2 b c o h s = let t : ℕ = h.taken + s.count in let g = going_moves s.count ws a most h.taken ws1 s.words b s.ask h.going s.moves in
+    let p : 0 < most - t = least (most - t) s.ask s.step.right g.steps.stops (g.within s.step.right) in going_counts ws a most t s.words ws2 s.ask c o (omega (arith, p)) g s.step
+
+pub went_sees : (ws : List ℕ) (a : Ask) (most i : ℕ) (ws1 ws2 : List ℕ) (b c : Ask) (o : AskOutcome) → AskWent ws a most i ws1 b → AskStride ws1 b ws2 c (Some o) → o ≢ Clear
+went_sees ws a most i ws1 ws2 b c o h s = going_sees ws a most (h.taken + s.count) s.words ws2 s.ask c o (going_moves s.count ws a most h.taken ws1 s.words b s.ask h.going s.moves) s.step
+
+pub went_stops : (ws : List ℕ) (a : Ask) (most i : ℕ) (ws' : List ℕ) (b : Ask) → AskWent ws a most i ws' b → AskOk b → most ≤ i → ⊥
+went_stops ws a most i ws' b h ok le = going_stops ws a most h.taken ws' b h.going ok (let l = h.least in omega (arith, l, le))
 
 -- ---- whole runs
 

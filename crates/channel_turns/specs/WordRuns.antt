@@ -12,6 +12,7 @@ use Rattle.pcc_steps.specs.declared.answer.AnswerOutcome.TheVariants.{Idle, Serv
 use Rattle.pcc_steps.specs.Asking.{Ask, AskOk, ask_next, ask_fed, ask_told}
 use Rattle.pcc_steps.specs.Answering.{Answer, AnswerOk, answer_next, answer_fed, answer_told}
 use Rattle.pcc_steps.specs.Carrying.{looks_after, flies_after}
+use Rattle.pcc_steps.specs.Moves.{AskMoves, AnswerMoves}
 use Rattle.pcc_steps.specs.Agree.{act, found, Asker, Answerer, Agree, clears_after, done_after, settle}
 
 -- ---- the asking end
@@ -23,6 +24,14 @@ pub record AskStep (ws : List ℕ) (a : Ask) (ws' : List ℕ) (b : Ask) (told : 
   pub words : ws' ≡ act (ask_next a) ws
   pub machine : b ≡ ask_fed a (found (ask_next a) ws)
   pub told_is : told ≡ ask_told a (found (ask_next a) ws)
+
+-- the words of the block before its last one at once, and then one word step
+pub record AskStride (ws : List ℕ) (a : Ask) (ws' : List ℕ) (b : Ask) (told : Option AskOutcome) : Type 0 where
+  pub count : ℕ
+  pub words : List ℕ
+  pub ask : Ask
+  pub moves : AskMoves count ws a words ask
+  pub step : AskStep words ask ws' b told
 
 -- a run that looks is for a command in flight
 abbrev pub IsFor : Option AskOutcome → Bool → Type 0
@@ -76,6 +85,14 @@ module _ (exec : Device) where
     pub machine : b' ≡ (settle exec (record { m = answer_fed b (found (answer_next b) ws); device = d; done = [] })).m
     pub device : d' ≡ (settle exec (record { m = answer_fed b (found (answer_next b) ws); device = d; done = [] })).device
     pub told_is : told ≡ answer_told b (found (answer_next b) ws)
+
+  -- the words of the block before its last one at once, and then one word step
+  pub record AnswerStride (ws : List ℕ) (b : Answer) (d : List ℕ) (ws' : List ℕ) (b' : Answer) (d' : List ℕ) (told : Option AnswerOutcome) : Type 0 where
+    pub count : ℕ
+    pub words : List ℕ
+    pub answer : Answer
+    pub moves : AnswerMoves count ws b words answer
+    pub step : AnswerStep words answer d ws' b' d' told
 
 -- a run that is closing has executed a command, which is not drained
 abbrev pub HasExecuted : AnswerStage → ℕ → ℕ → Type 0
