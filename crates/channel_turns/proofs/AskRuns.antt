@@ -51,7 +51,8 @@ stops None b e = λ q. not_false (is_rest b.stage) (ap is_rest q) e
 stops (Some o) b e = rest_is b.stage e
 
 -- by the value that it finds
-stepped : (ws : List ℕ) (a : Ask) (v : ℕ) → a.stage ≢ AskRest → Flies a.stage a.in_flight → v ≡ found (ask_next a) ws → v < 2 ^ 64 → AskSteps ws a (act (ask_next a) ws) (ask_fed a v) (ask_told a v)
+stepped : (ws : List ℕ) (a : Ask) (v : ℕ) → a.stage ≢ AskRest → Flies a.stage a.in_flight → v ≡ found (ask_next a) ws → v < 2 ^ 64
+    → AskSteps ws a (act (ask_next a) ws) (ask_fed a v) (ask_told a v)
 stepped ws a v runs flies e small = let told : Option AskOutcome = ask_told a v in let z : Ask = ask_fed_at a.stage a v in let b : Ask = ask_fed a v in
     let f : Fed a.stage a b told = feeds.stepped a.stage a z told b.steps (feeds.fed a.stage a v (not_rest a.stage runs) flies) in record {
       keeps = λ exec start x y is g.
@@ -69,7 +70,8 @@ stepped ws a v runs flies e small = let told : Option AskOutcome = ask_told a v 
       is_for = is_for told (carried_at a.stage a.in_flight) a.in_flight f.sure;
     }
 
-pub step_goes : (ws : List ℕ) (a : Ask) (ws' : List ℕ) (b : Ask) (told : Option AskOutcome) → a.stage ≢ AskRest → AskStep ws a ws' b told → AskSteps ws a ws' b told
+pub step_goes : (ws : List ℕ) (a : Ask) (ws' : List ℕ) (b : Ask) (told : Option AskOutcome) → a.stage ≢ AskRest → AskStep ws a ws' b told
+    → AskSteps ws a ws' b told
 step_goes ws a ws' b told runs h = let v : ℕ = found (ask_next a) ws in
     subst (λ (z : List ℕ × (Ask × Option AskOutcome)). AskSteps ws a z.0 z.1.0 z.1.1) (λ i. (sym h.words i, (sym h.machine i, sym h.told_is i))) (stepped ws a v runs h.right.flies refl h.small)
 
@@ -218,7 +220,8 @@ pub record AskGoing (ws : List ℕ) (a : Ask) (most : ℕ) (i : ℕ) (ws' : List
 going_start : (ws : List ℕ) (a : Ask) (most : ℕ) → a.stage ≢ AskRest → a.stage ≢ LookWord → (AskOk a → Within most (ask_left a)) → AskGoing ws a most 0 ws a
 going_start ws a most runs behind w = record { steps = none_yet ws a runs; count = omega arith; behind = behind; within = λ ok. let e : most ≡ most - 0 = omega arith in subst (λ (n : ℕ). Within n (ask_left a)) e (w ok) }
 
-going_more : (ws : List ℕ) (a : Ask) (most i : ℕ) (ws1 ws2 : List ℕ) (b c : Ask) → AskGoing ws a most i ws1 b → AskStep ws1 b ws2 c None → AskGoing ws a most (i + 1) ws2 c
+going_more : (ws : List ℕ) (a : Ask) (most i : ℕ) (ws1 ws2 : List ℕ) (b c : Ask) → AskGoing ws a most i ws1 b → AskStep ws1 b ws2 c None
+    → AskGoing ws a most (i + 1) ws2 c
 going_more ws a most i ws1 ws2 b c h s = let v : ℕ = found (ask_next b) ws1 in let runs : b.stage ≢ AskRest = h.steps.stops in record {
   steps = more ws ws1 ws2 a b c None h.steps (step_goes ws1 b ws2 c None runs s);
   count = let n = h.count in let m = step_counts ws1 b ws2 c None s in omega (arith, n, m);
@@ -227,13 +230,16 @@ going_more ws a most i ws1 ws2 b c h s = let v : ℕ = found (ask_next b) ws1 in
 }
 
 -- the last step of a run
-going_ends : (ws : List ℕ) (a : Ask) (most i : ℕ) (ws1 ws2 : List ℕ) (b c : Ask) (o : AskOutcome) → AskGoing ws a most i ws1 b → AskStep ws1 b ws2 c (Some o) → AskSteps ws a ws2 c (Some o)
+going_ends : (ws : List ℕ) (a : Ask) (most i : ℕ) (ws1 ws2 : List ℕ) (b c : Ask) (o : AskOutcome) → AskGoing ws a most i ws1 b → AskStep ws1 b ws2 c (Some o)
+    → AskSteps ws a ws2 c (Some o)
 going_ends ws a most i ws1 ws2 b c o h s = more ws ws1 ws2 a b c (Some o) h.steps (step_goes ws1 b ws2 c (Some o) h.steps.stops s)
 
-going_counts : (ws : List ℕ) (a : Ask) (most i : ℕ) (ws1 ws2 : List ℕ) (b c : Ask) (o : AskOutcome) → i < most → AskGoing ws a most i ws1 b → AskStep ws1 b ws2 c (Some o) → c.steps ≤ a.steps + most
+going_counts : (ws : List ℕ) (a : Ask) (most i : ℕ) (ws1 ws2 : List ℕ) (b c : Ask) (o : AskOutcome) → i < most → AskGoing ws a most i ws1 b
+    → AskStep ws1 b ws2 c (Some o) → c.steps ≤ a.steps + most
 going_counts ws a most i ws1 ws2 b c o lt h s = let n = h.count in let m = step_counts ws1 b ws2 c (Some o) s in omega (arith, lt, n, m)
 
-going_sees : (ws : List ℕ) (a : Ask) (most i : ℕ) (ws1 ws2 : List ℕ) (b c : Ask) (o : AskOutcome) → AskGoing ws a most i ws1 b → AskStep ws1 b ws2 c (Some o) → o ≢ Clear
+going_sees : (ws : List ℕ) (a : Ask) (most i : ℕ) (ws1 ws2 : List ℕ) (b c : Ask) (o : AskOutcome) → AskGoing ws a most i ws1 b → AskStep ws1 b ws2 c (Some o)
+    → o ≢ Clear
 going_sees ws a most i ws1 ws2 b c o h s e = h.behind ((clear_told b (found (ask_next b) ws1)).0 (sym s.told_is ∙ ap Some e)).0
 
 -- it isn't longer
@@ -242,11 +248,13 @@ going_stops ws a most i ws' b h ok le = let p : 0 < most - i = least (most - i) 
 
 -- ---- a run whose block is moved at once
 
-step_of : (ws : List ℕ) (a : Ask) → AskOk a → found (ask_next a) ws < 2 ^ 64 → ask_told a (found (ask_next a) ws) ≡ None → AskStep ws a (act (ask_next a) ws) (ask_fed a (found (ask_next a) ws)) None
+step_of : (ws : List ℕ) (a : Ask) → AskOk a → found (ask_next a) ws < 2 ^ 64 → ask_told a (found (ask_next a) ws) ≡ None
+    → AskStep ws a (act (ask_next a) ws) (ask_fed a (found (ask_next a) ws)) None
 step_of ws a ok small told = record { right = ok; small = small; words = refl; machine = refl; told_is = sym told }
 
 -- so many steps more
-going_moves : (n : ℕ) (ws : List ℕ) (a : Ask) (most i : ℕ) (ws1 ws2 : List ℕ) (b c : Ask) → AskGoing ws a most i ws1 b → AskMoves n ws1 b ws2 c → AskGoing ws a most (i + n) ws2 c
+going_moves : (n : ℕ) (ws : List ℕ) (a : Ask) (most i : ℕ) (ws1 ws2 : List ℕ) (b c : Ask) → AskGoing ws a most i ws1 b → AskMoves n ws1 b ws2 c
+    → AskGoing ws a most (i + n) ws2 c
 going_moves zero ws a most i ws1 ws2 b c h m = let e : i ≡ i + zero = omega arith in
     subst (λ (z : ℕ × List ℕ × Ask). AskGoing ws a most z.0 z.1 z.2) (λ j. (e j, sym m.0 j, sym m.1 j)) h
 going_moves (suc n) ws a most i ws1 ws2 b c h m = let v : ℕ = found (ask_next b) ws1 in let on : List ℕ = act (ask_next b) ws1 in let e : i + 1 + n ≡ i + suc n = omega arith in
@@ -272,21 +280,25 @@ pub record AskWent (ws : List ℕ) (a : Ask) (most i : ℕ) (ws' : List ℕ) (b 
 pub went_start : (ws : List ℕ) (a : Ask) (most : ℕ) → a.stage ≢ AskRest → a.stage ≢ LookWord → (AskOk a → Within most (ask_left a)) → AskWent ws a most 0 ws a
 went_start ws a most runs behind w = record { taken = 0; least = omega arith; going = going_start ws a most runs behind w }
 
-pub went_more : (ws : List ℕ) (a : Ask) (most i : ℕ) (ws1 ws2 : List ℕ) (b c : Ask) → AskWent ws a most i ws1 b → AskStride ws1 b ws2 c None → AskWent ws a most (i + 1) ws2 c
+pub went_more : (ws : List ℕ) (a : Ask) (most i : ℕ) (ws1 ws2 : List ℕ) (b c : Ask) → AskWent ws a most i ws1 b → AskStride ws1 b ws2 c None
+    → AskWent ws a most (i + 1) ws2 c
 went_more ws a most i ws1 ws2 b c h s = record {
   taken = h.taken + s.count + 1;
   least = let l = h.least in omega (arith, l);
   going = going_more ws a most (h.taken + s.count) s.words ws2 s.ask c (going_moves s.count ws a most h.taken ws1 s.words b s.ask h.going s.moves) s.step;
 }
 
-pub went_ends : (ws : List ℕ) (a : Ask) (most i : ℕ) (ws1 ws2 : List ℕ) (b c : Ask) (o : AskOutcome) → AskWent ws a most i ws1 b → AskStride ws1 b ws2 c (Some o) → AskSteps ws a ws2 c (Some o)
+pub went_ends : (ws : List ℕ) (a : Ask) (most i : ℕ) (ws1 ws2 : List ℕ) (b c : Ask) (o : AskOutcome) → AskWent ws a most i ws1 b
+    → AskStride ws1 b ws2 c (Some o) → AskSteps ws a ws2 c (Some o)
 went_ends ws a most i ws1 ws2 b c o h s = going_ends ws a most (h.taken + s.count) s.words ws2 s.ask c o (going_moves s.count ws a most h.taken ws1 s.words b s.ask h.going s.moves) s.step
 
-pub went_counts : (ws : List ℕ) (a : Ask) (most i : ℕ) (ws1 ws2 : List ℕ) (b c : Ask) (o : AskOutcome) → AskWent ws a most i ws1 b → AskStride ws1 b ws2 c (Some o) → c.steps ≤ a.steps + most
+pub went_counts : (ws : List ℕ) (a : Ask) (most i : ℕ) (ws1 ws2 : List ℕ) (b c : Ask) (o : AskOutcome) → AskWent ws a most i ws1 b
+    → AskStride ws1 b ws2 c (Some o) → c.steps ≤ a.steps + most
 went_counts ws a most i ws1 ws2 b c o h s = let t : ℕ = h.taken + s.count in let g = going_moves s.count ws a most h.taken ws1 s.words b s.ask h.going s.moves in
     let p : 0 < most - t = least (most - t) s.ask s.step.right g.steps.stops (g.within s.step.right) in going_counts ws a most t s.words ws2 s.ask c o (omega (arith, p)) g s.step
 
-pub went_sees : (ws : List ℕ) (a : Ask) (most i : ℕ) (ws1 ws2 : List ℕ) (b c : Ask) (o : AskOutcome) → AskWent ws a most i ws1 b → AskStride ws1 b ws2 c (Some o) → o ≢ Clear
+pub went_sees : (ws : List ℕ) (a : Ask) (most i : ℕ) (ws1 ws2 : List ℕ) (b c : Ask) (o : AskOutcome) → AskWent ws a most i ws1 b
+    → AskStride ws1 b ws2 c (Some o) → o ≢ Clear
 went_sees ws a most i ws1 ws2 b c o h s = going_sees ws a most (h.taken + s.count) s.words ws2 s.ask c o (going_moves s.count ws a most h.taken ws1 s.words b s.ask h.going s.moves) s.step
 
 pub went_stops : (ws : List ℕ) (a : Ask) (most i : ℕ) (ws' : List ℕ) (b : Ask) → AskWent ws a most i ws' b → AskOk b → most ≤ i → ⊥
@@ -300,7 +312,8 @@ post_within a b code bytes n e k ok = let x : Ask = ask_begun a code bytes in
     (subst (Within (block_of a.wiring + 7)) (sym (posts_by_table a code bytes)) (posts_within a.wiring code x.sent ((subst AskOk e ok).sized.sent)))
 
 -- the load of completion, with which a look begins
-pub first_steps : (a b c : Ask) (ws : List ℕ) (v : ℕ) (o : Option AskOutcome) → b ≡ ask_looking a → a.in_flight ≡ true → v ≡ get_or ws 0 0 → v < 2 ^ 64 → c ≡ ask_fed b v → o ≡ ask_told b v → AskSteps ws (ask_looking a) ws c o
+pub first_steps : (a b c : Ask) (ws : List ℕ) (v : ℕ) (o : Option AskOutcome) → b ≡ ask_looking a → a.in_flight ≡ true → v ≡ get_or ws 0 0 → v < 2 ^ 64
+    → c ≡ ask_fed b v → o ≡ ask_told b v → AskSteps ws (ask_looking a) ws c o
 first_steps a b c ws v o e flies found_is small ec eo = let x : Ask = ask_looking a in
     subst (λ (z : Ask × Option AskOutcome). AskSteps ws x ws z.0 z.1) (λ i. (sym (ec ∙ ap (λ (y : Ask). ask_fed y v) e) i, sym (eo ∙ ap (λ (y : Ask). ask_told y v) e) i)) (stepped ws x v (λ q. cc) flies found_is small)
 
@@ -313,12 +326,14 @@ posts_of true posts h = h
 posts_of false posts h = h
 
 -- a look that goes on was right before
-seen_right : (a : Ask) (v : ℕ) → sees_done a.wiring v ≡ true → a.in_flight ≡ true → a.looks < a.budget → AskOk (ask_fed (ask_looking a) v) → AskOk (ask_looking a)
+seen_right : (a : Ask) (v : ℕ) → sees_done a.wiring v ≡ true → a.in_flight ≡ true → a.looks < a.budget → AskOk (ask_fed (ask_looking a) v)
+    → AskOk (ask_looking a)
 seen_right a v seen flies left h = let x : Ask = ask_looking a in
     let ok : AskOk (ask_stepped (look_on true v x)) = subst (λ (b : Bool). AskOk (ask_stepped (look_on b v x))) seen h in
     record { wired = ok.wired; sized = ok.sized; place = tt; flies = flies; looks = left; posts = posts_of (tells_error a.wiring) a.posts ok.posts; kept = ok.kept; mask = ok.mask; id = ok.id; code = ok.code }
 
-pub look_within : (a b c : Ask) (ws : List ℕ) (v n : ℕ) (o : Option AskOutcome) → b ≡ ask_looking a → a.in_flight ≡ true → a.looks < a.budget → v ≡ get_or ws 0 0 → v < 2 ^ 64 → c ≡ ask_fed b v → o ≡ ask_told b v → o ≡ None → n ≡ block_of c.wiring → AskOk c → Within (n + 5) (ask_left c)
+pub look_within : (a b c : Ask) (ws : List ℕ) (v n : ℕ) (o : Option AskOutcome) → b ≡ ask_looking a → a.in_flight ≡ true → a.looks < a.budget
+    → v ≡ get_or ws 0 0 → v < 2 ^ 64 → c ≡ ask_fed b v → o ≡ ask_told b v → o ≡ None → n ≡ block_of c.wiring → AskOk c → Within (n + 5) (ask_left c)
 look_within a b c ws v n o e flies left found_is small ec eo none k ok = let x : Ask = ask_looking a in let m : ℕ = block_of a.wiring in
     let same : c.wiring ≡ a.wiring = (first_steps a b c ws v o e flies found_is small ec eo).wiring in
     let fed : c ≡ ask_fed x v = ec ∙ ap (λ (y : Ask). ask_fed y v) e in
@@ -327,10 +342,12 @@ look_within a b c ws v n o e flies left found_is small ec eo none k ok = let x :
     let i : m + 6 - 1 ≡ n + 5 = let q : n ≡ m = k ∙ ap block_of same in omega (arith, q) in
     subst (λ (z : ℕ × Ask). Within z.0 (ask_left z.1)) (λ j. (i j, sym fed j)) (rest_of (m + 6) x v right (λ q. cc) told (subst (Within (m + 6)) (sym (looks_by_table a)) (looks_within a.wiring)))
 
-pub look_steps : (a c d : Ask) (ws ws' : List ℕ) (o : AskOutcome) → AskSteps ws (ask_looking a) ws c None → AskSteps ws c ws' d (Some o) → AskSteps ws (ask_looking a) ws' d (Some o)
+pub look_steps : (a c d : Ask) (ws ws' : List ℕ) (o : AskOutcome) → AskSteps ws (ask_looking a) ws c None → AskSteps ws c ws' d (Some o)
+    → AskSteps ws (ask_looking a) ws' d (Some o)
 look_steps a c d ws ws' o h k = more ws ws ws' (ask_looking a) c d (Some o) h k
 
-pub look_long : (a c : Ask) (ws : List ℕ) (o : Option AskOutcome) → AskSteps ws (ask_looking a) ws c o → length ws ≡ 8 + block_of a.wiring → length ws ≡ 8 + block_of c.wiring
+pub look_long : (a c : Ask) (ws : List ℕ) (o : Option AskOutcome) → AskSteps ws (ask_looking a) ws c o → length ws ≡ 8 + block_of a.wiring
+    → length ws ≡ 8 + block_of c.wiring
 look_long a c ws o h long = long ∙ ap (λ (w : Wiring). 8 + block_of w) (sym h.wiring)
 
 -- ---- how many steps a look takes
@@ -339,7 +356,8 @@ pub first_counts : (a b c : Ask) (v : ℕ) → b ≡ ask_looking a → c ≡ ask
 first_counts a b c v e k = let x : Ask = ask_looking a in let n = count_more x v in
     let s : c.steps ≡ (ask_fed x v).steps = ap (λ (y : Ask). y.steps) (k ∙ ap (λ (y : Ask). ask_fed y v) e) in omega (arith, n, s)
 
-pub look_counts : (a c d : Ask) (n : ℕ) (o : AskOutcome) → o ≢ Clear → c.steps ≤ a.steps + 1 → n ≡ block_of c.wiring → c.wiring ≡ a.wiring → d.steps ≤ c.steps + (n + 5) → d.steps ≤ a.steps + look_most (block_of a.wiring) o
+pub look_counts : (a c d : Ask) (n : ℕ) (o : AskOutcome) → o ≢ Clear → c.steps ≤ a.steps + 1 → n ≡ block_of c.wiring → c.wiring ≡ a.wiring
+    → d.steps ≤ c.steps + (n + 5) → d.steps ≤ a.steps + look_most (block_of a.wiring) o
 look_counts a c d n Clear sees first e same rest = absurd (sees refl)
 look_counts a c d n Posted sees first e same rest = let m : n ≡ block_of a.wiring = e ∙ ap block_of same in omega (arith, first, rest, m)
 look_counts a c d n (Drained x) sees first e same rest = let m : n ≡ block_of a.wiring = e ∙ ap block_of same in omega (arith, first, rest, m)

@@ -5,6 +5,7 @@ ghost use Rattle.pcc_steps.specs.declared.ask.AskStage.TheVariants.{AskRest, Loo
 ghost use Rattle.pcc_steps.specs.declared.ask.AskOutcome.TheVariants.{Posted, Clear};
 ghost use Rattle.pcc_steps.specs.declared.answer.AnswerStage.TheVariants.{AnswerRest, TakeLine};
 ghost use Rattle.pcc_steps.specs.declared.answer.AnswerOutcome.TheVariants.{Idle, Served};
+ghost use Rattle.pcc_steps.specs.Kinds.{IsHeaded};
 ghost use Rattle.pcc_steps.specs.Wires.{block_of, sees_done};
 ghost use Rattle.pcc_steps.specs.Asking.{AskOk, IsAskRunning, ask_begun, ask_looking};
 ghost use Rattle.pcc_steps.specs.Answering.{AnswerOk, IsAnswerStepping};
@@ -75,7 +76,7 @@ pub(crate) fn post_run(words: &mut [u64], ask: &mut AskState, code: u32, bytes: 
     requires free { ask.old.in_flight ≡ false }
     requires fits { length bytes.now ≤ ask.old.wiring.room }
     requires posts { ask.old.posts < 4096 }
-    requires code { ask.old.wiring.kind ≤ 2 → code < 256 }
+    requires code { IsHeaded ask.old.wiring.kind → code < 256 }
     requires long { length words.old ≡ 8 + block_of ask.old.wiring }
     ensures steps { AskSteps words.old (ask_begun ask.old code bytes.now) words.new ask.new (Some Posted) }
     ensures count { ask.new.steps ≤ ask.old.steps + (block_of ask.old.wiring + 7) }
@@ -172,7 +173,8 @@ fn finish_answer<E: Executor>(
     requires long { length words.old ≡ 8 + block_of answer.old.wiring }
     requires room { E.room_of (E.state device.old) ≡ answer.old.wiring.room }
     requires within { AnswerOk answer.old → Within most (answer_left answer.old) }
-    ensures keeps { AnswerKeeps E.exec_of E.is_state E.room_of words.old answer.old (E.state device.old) words.new answer.new (E.state device.new) (Some result) }
+    ensures keeps { AnswerKeeps E.exec_of E.is_state E.room_of words.old answer.old (E.state device.old) words.new answer.new (E.state device.new)
+        (Some result) }
     ensures served { result ≡ Served }
     ensures rests { answer.new.stage ≡ AnswerRest }
     ensures long { length words.new ≡ length words.old }
@@ -199,7 +201,8 @@ pub(crate) fn answer_run<E: Executor>(
     requires rests { answer.old.stage ≡ AnswerRest }
     requires long { length words.old ≡ 8 + block_of answer.old.wiring }
     requires room { E.room_of (E.state device.old) ≡ answer.old.wiring.room }
-    ensures keeps { AnswerKeeps E.exec_of E.is_state E.room_of words.old answer.old (E.state device.old) words.new answer.new (E.state device.new) (Some result) }
+    ensures keeps { AnswerKeeps E.exec_of E.is_state E.room_of words.old answer.old (E.state device.old) words.new answer.new (E.state device.new)
+        (Some result) }
     ensures rests { answer.new.stage ≡ AnswerRest }
     ensures long { length words.new ≡ length words.old }
     ensures line { LineWas result words.old }

@@ -125,7 +125,8 @@ reply_rests : (b : Bool) (j : ℕ) (a : Answer) → is_rest (reply_on b j a).sta
 reply_rests true j a = refl
 reply_rests false j a = reply_goes (tells_error a.wiring) (style_of a.wiring)
 
-pub fed_rests : (st : AnswerStage) (a : Answer) (v : ℕ) → is_rest st ≡ false → is_run st ≡ false → is_rest (answer_fed_at st a v).stage ≡ ends_run (answer_told_at st a v)
+pub fed_rests : (st : AnswerStage) (a : Answer) (v : ℕ) → is_rest st ≡ false → is_run st ≡ false
+    → is_rest (answer_fed_at st a v).stage ≡ ends_run (answer_told_at st a v)
 fed_rests AnswerRest a v e f = absurd (cc e)
 fed_rests TakeLine a v e f = takes_rests (eqb v 0) a
 fed_rests TakeAckLoad a v e f = refl
@@ -148,7 +149,8 @@ fed_rests CloseLine a v e f = refl
 
 module _ (exec : Device) where
   -- what was executed before stays
-  pub framed : (st : AnswerStage) (m : Answer) (d : List ℕ) (done : List Exchange) → settle_at exec st (record { m = m; device = d; done = done }) ≡ (let y = settle_at exec st (record { m = m; device = d; done = [] }) in record y { done = done ++ y.done })
+  pub framed : (st : AnswerStage) (m : Answer) (d : List ℕ) (done : List Exchange)
+      → settle_at exec st (record { m = m; device = d; done = done }) ≡ (let y = settle_at exec st (record { m = m; device = d; done = [] }) in record y { done = done ++ y.done })
   framed RunDevice m d done = refl
   framed AnswerRest m d done = ap (λ (l : List Exchange). record { m = m; device = d; done = l }) (sym (append-nil done))
   framed TakeLine m d done = ap (λ (l : List Exchange). record { m = m; device = d; done = l }) (sym (append-nil done))

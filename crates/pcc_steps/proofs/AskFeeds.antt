@@ -169,10 +169,12 @@ looked : (b : Bool) (a : Ask) (v : ℕ) → a.in_flight ≡ true → Fed LookWor
 looked true a v f = record { wiring = refl; code = refl; input = refl; budget = refl; looks = refl; flies = refl; carried = carried_look (tells_error a.wiring) a.in_flight; rests = goes_look (tells_error a.wiring); sure = tt; space = refl }
 looked false a v f = record { wiring = refl; code = refl; input = refl; budget = refl; looks = refl; flies = refl; carried = refl; rests = refl; sure = (f, f); space = refl }
 
-drain : (st : AskStage) (a b : Ask) → carried_at st a.in_flight ≡ true → a.in_flight ≡ true → b.wiring ≡ a.wiring → b.code ≡ a.code → b.input ≡ a.input → b.budget ≡ a.budget → b.looks ≡ a.looks → b.error ≡ a.error → Fed st a (drained b) (Some (Drained a.error))
+drain : (st : AskStage) (a b : Ask) → carried_at st a.in_flight ≡ true → a.in_flight ≡ true → b.wiring ≡ a.wiring → b.code ≡ a.code → b.input ≡ a.input
+    → b.budget ≡ a.budget → b.looks ≡ a.looks → b.error ≡ a.error → Fed st a (drained b) (Some (Drained a.error))
 drain st a b c f w k i u l e = record { wiring = w; code = k; input = i; budget = u; looks = l; flies = refl; carried = refl; rests = refl; sure = (c, f); space = refl }
 
-read_end : (n : Bool) (j : ℕ) (a b : Ask) → a.in_flight ≡ true → b.in_flight ≡ a.in_flight → b.wiring ≡ a.wiring → b.code ≡ a.code → b.input ≡ a.input → b.budget ≡ a.budget → b.looks ≡ a.looks → b.error ≡ a.error → b.space ≡ a.space → Fed (LookBlock j) a (block_on n b) (end_told n a.error)
+read_end : (n : Bool) (j : ℕ) (a b : Ask) → a.in_flight ≡ true → b.in_flight ≡ a.in_flight → b.wiring ≡ a.wiring → b.code ≡ a.code → b.input ≡ a.input
+    → b.budget ≡ a.budget → b.looks ≡ a.looks → b.error ≡ a.error → b.space ≡ a.space → Fed (LookBlock j) a (block_on n b) (end_told n a.error)
 read_end true j a b f g w k i u l e o = record { wiring = w; code = k; input = i; budget = u; looks = l; flies = g; carried = g; rests = refl; sure = tt; space = o }
 read_end false j a b f g w k i u l e o = drain (LookBlock j) a b f f w k i u l e
 

@@ -15,13 +15,15 @@ use Rattle.pcc_steps.proofs.Ends.{count_rises}
 
 -- ---- loops
 
-pub stored_more : (last j : ℕ) (block ws : List ℕ) → j < last → with_stored (last - j) j block ws ≡ with_stored (last - (j + 1)) (j + 1) block (set ws (8 + j) (get_or block j 0))
+pub stored_more : (last j : ℕ) (block ws : List ℕ) → j < last
+    → with_stored (last - j) j block ws ≡ with_stored (last - (j + 1)) (j + 1) block (set ws (8 + j) (get_or block j 0))
 stored_more last j block ws h = let e : last - j ≡ suc (last - (j + 1)) = omega arith in ap (λ (n : ℕ). with_stored n j block ws) e
 
 pub stored_done : (last j : ℕ) (block ws : List ℕ) → last ≤ j → with_stored (last - j) j block ws ≡ ws
 stored_done last j block ws h = let e : last - j ≡ zero = omega arith in ap (λ (n : ℕ). with_stored n j block ws) e
 
-pub loaded_more : (last j : ℕ) (ws block : List ℕ) → j < last → with_loaded (last - j) j ws block ≡ with_loaded (last - (j + 1)) (j + 1) ws (set block j (get_or ws (8 + j) 0))
+pub loaded_more : (last j : ℕ) (ws block : List ℕ) → j < last
+    → with_loaded (last - j) j ws block ≡ with_loaded (last - (j + 1)) (j + 1) ws (set block j (get_or ws (8 + j) 0))
 loaded_more last j ws block h = let e : last - j ≡ suc (last - (j + 1)) = omega arith in ap (λ (n : ℕ). with_loaded n j ws block) e
 
 pub loaded_done : (last j : ℕ) (ws block : List ℕ) → last ≤ j → with_loaded (last - j) j ws block ≡ block
@@ -43,7 +45,8 @@ pub risen_full : (n steps : ℕ) → steps ≤ 2 ^ 64 - 1 → 2 ^ 64 - 1 ≤ ste
 risen_full zero steps most h = omega (arith, most, h)
 risen_full (suc n) steps most h = by (cases_lt steps (2 ^ 64 - 1)) (λ s le lt. risen_full n s le lt)
   where
-    by : (steps < 2 ^ 64 - 1) ⊎ (2 ^ 64 - 1 ≤ steps) → ((s : ℕ) → s ≤ 2 ^ 64 - 1 → 2 ^ 64 - 1 ≤ s + n → risen n s ≡ 2 ^ 64 - 1) → risen n (rose steps) ≡ 2 ^ 64 - 1
+    by : (steps < 2 ^ 64 - 1) ⊎ (2 ^ 64 - 1 ≤ steps) → ((s : ℕ) → s ≤ 2 ^ 64 - 1 → 2 ^ 64 - 1 ≤ s + n → risen n s ≡ 2 ^ 64 - 1)
+        → risen n (rose steps) ≡ 2 ^ 64 - 1
     by (inl below) on = ap (risen n) ((count_rises steps).0 below) ∙ on (steps + 1) (omega (arith, below)) (omega (arith, h))
     by (inr above) on = ap (risen n) ((count_rises steps).1 above) ∙ on steps most (omega (arith, above))
 
@@ -65,7 +68,8 @@ stores (suc n) j steps ws a ok h = let b : Ask = record a { stage = PostBlock j;
     (post_ok j j steps a ok (omega (arith, h)), λ q. cc, omega arith, refl,
     subst (λ (z : Ask × ℕ). AskMoves n out z.0 (with_stored n (j + 1) a.sent out) (record a { stage = PostBlock z.1; steps = risen n (rose steps) })) (λ i. (fed i, at i)) rest)
 
-look_ok : (j k steps : ℕ) (block : List ℕ) (a : Ask) → AskOk (record a { stage = LookBlock j }) → k < block_of a.wiring → length block ≡ block_of a.wiring → AskOk (record a { stage = LookBlock k; loaded = block; steps = steps })
+look_ok : (j k steps : ℕ) (block : List ℕ) (a : Ask) → AskOk (record a { stage = LookBlock j }) → k < block_of a.wiring → length block ≡ block_of a.wiring
+    → AskOk (record a { stage = LookBlock k; loaded = block; steps = steps })
 look_ok j k steps block a ok h long = record {
   wired = ok.wired;
   sized = record { sent = ok.sized.sent; shown = ok.sized.shown; loaded = long; input = ok.sized.input; space = ok.sized.space };
@@ -79,7 +83,8 @@ look_ok j k steps block a ok h long = record {
   code = ok.code;
 }
 
-loads : (n j steps : ℕ) (ws block : List ℕ) (a : Ask) → ((p : ℕ) → get_or ws p 0 < 2 ^ 64) → AskOk (record a { stage = LookBlock j }) → length block ≡ block_of a.wiring → j + n < block_of a.wiring
+loads : (n j steps : ℕ) (ws block : List ℕ) (a : Ask) → ((p : ℕ) → get_or ws p 0 < 2 ^ 64) → AskOk (record a { stage = LookBlock j })
+    → length block ≡ block_of a.wiring → j + n < block_of a.wiring
     → AskMoves n ws (record a { stage = LookBlock j; loaded = block; steps = steps }) ws (record a { stage = LookBlock (j + n); loaded = with_loaded n j ws block; steps = risen n steps })
 loads zero j steps ws block a small ok long h = (refl, let e : j + zero ≡ j = omega arith in ap (λ (k : ℕ). record a { stage = LookBlock k; loaded = block; steps = steps }) e)
 loads (suc n) j steps ws block a small ok long h = let b : Ask = record a { stage = LookBlock j; loaded = block; steps = steps } in let v : ℕ = get_or ws (8 + j) 0 in let on : List ℕ = set block j v in
@@ -111,10 +116,12 @@ looks_move j ws a small ok e = let n : ℕ = before_last j a.wiring in
 
 -- ---- the answering end
 
-take_ok : (j k steps : ℕ) (block : List ℕ) (b : Answer) → AnswerOk (record b { stage = TakeBlock j }) → k < block_of b.wiring → length block ≡ block_of b.wiring → AnswerOk (record b { stage = TakeBlock k; loaded = block; steps = steps })
+take_ok : (j k steps : ℕ) (block : List ℕ) (b : Answer) → AnswerOk (record b { stage = TakeBlock j }) → k < block_of b.wiring → length block ≡ block_of b.wiring
+    → AnswerOk (record b { stage = TakeBlock k; loaded = block; steps = steps })
 take_ok j k steps block b ok h long = record { wired = ok.wired; sized = record { loaded = long; out = ok.sized.out; space = ok.sized.space }; place = h; kept = ok.kept; header = ok.header }
 
-takes : (n j steps : ℕ) (ws block : List ℕ) (b : Answer) → ((p : ℕ) → get_or ws p 0 < 2 ^ 64) → AnswerOk (record b { stage = TakeBlock j }) → length block ≡ block_of b.wiring → j + n < block_of b.wiring
+takes : (n j steps : ℕ) (ws block : List ℕ) (b : Answer) → ((p : ℕ) → get_or ws p 0 < 2 ^ 64) → AnswerOk (record b { stage = TakeBlock j })
+    → length block ≡ block_of b.wiring → j + n < block_of b.wiring
     → AnswerMoves n ws (record b { stage = TakeBlock j; loaded = block; steps = steps }) ws (record b { stage = TakeBlock (j + n); loaded = with_loaded n j ws block; steps = risen n steps })
 takes zero j steps ws block b small ok long h = (refl, let e : j + zero ≡ j = omega arith in ap (λ (k : ℕ). record b { stage = TakeBlock k; loaded = block; steps = steps }) e)
 takes (suc n) j steps ws block b small ok long h = let c : Answer = record b { stage = TakeBlock j; loaded = block; steps = steps } in let v : ℕ = get_or ws (8 + j) 0 in let on : List ℕ = set block j v in
@@ -126,7 +133,8 @@ takes (suc n) j steps ws block b small ok long h = let c : Answer = record b { s
     subst AnswerOk fed (take_ok j (j + 1) (rose steps) on b ok (omega (arith, h)) same), subst (λ (z : Answer). z.stage ≢ RunDevice) fed (λ q. cc),
     subst (λ (z : Answer × ℕ). AnswerMoves n ws z.0 ws (record b { stage = TakeBlock z.1; loaded = with_loaded n (j + 1) ws on; steps = risen n (rose steps) })) (λ i. (fed i, at i)) rest)
 
-reply_ok : (j k steps : ℕ) (b : Answer) → AnswerOk (record b { stage = ReplyBlock j }) → j ≤ k → k < block_of b.wiring → AnswerOk (record b { stage = ReplyBlock k; steps = steps })
+reply_ok : (j k steps : ℕ) (b : Answer) → AnswerOk (record b { stage = ReplyBlock j }) → j ≤ k → k < block_of b.wiring
+    → AnswerOk (record b { stage = ReplyBlock k; steps = steps })
 reply_ok j k steps b ok from h = record { wired = ok.wired; sized = ok.sized; place = (let p = ok.place.0 in omega (arith, p, from), h); kept = ok.kept; header = ok.header }
 
 replies : (n j steps : ℕ) (ws : List ℕ) (b : Answer) → AnswerOk (record b { stage = ReplyBlock j }) → j + n < block_of b.wiring
@@ -162,7 +170,8 @@ replies_move j ws b ok e = let n : ℕ = before_last j b.wiring in
 last_less : (j last : ℕ) (w : Wiring) → last ≡ block_of w - 1 → last - j ≡ before_last j w
 last_less j last w e = ap (λ (n : ℕ). n - j) e
 
-pub post_moved : (j last steps : ℕ) (ws ws' : List ℕ) (a b : Ask) → AskOk a → a.stage ≡ PostBlock j → last ≡ block_of a.wiring - 1 → ws' ≡ with_stored (last - j) j a.sent ws → steps ≡ risen (last - j) a.steps
+pub post_moved : (j last steps : ℕ) (ws ws' : List ℕ) (a b : Ask) → AskOk a → a.stage ≡ PostBlock j → last ≡ block_of a.wiring - 1
+    → ws' ≡ with_stored (last - j) j a.sent ws → steps ≡ risen (last - j) a.steps
     → b ≡ record a { stage = PostBlock last; steps = steps } → AskMoves (before_last j a.wiring) ws a ws' b
 post_moved j last steps ws ws' a b ok st e ew es eb = let n : ℕ = before_last j a.wiring in let k : last - j ≡ n = last_less j last a.wiring e in
     let w : ws' ≡ with_stored n j a.sent ws = ew ∙ ap (λ (m : ℕ). with_stored m j a.sent ws) k in
@@ -170,7 +179,8 @@ post_moved j last steps ws ws' a b ok st e ew es eb = let n : ℕ = before_last 
     let x : b ≡ record a { stage = PostBlock (block_of a.wiring - 1); steps = risen n a.steps } = eb ∙ (λ i. record a { stage = PostBlock (e i); steps = s i }) in
     subst (λ (z : List ℕ × Ask). AskMoves n ws a z.0 z.1) (λ i. (sym w i, sym x i)) (posts_move j ws a ok st)
 
-pub look_moved : (j last steps : ℕ) (ws block : List ℕ) (a b : Ask) → ((p : ℕ) → get_or ws p 0 < 2 ^ 64) → AskOk a → a.stage ≡ LookBlock j → last ≡ block_of a.wiring - 1 → block ≡ with_loaded (last - j) j ws a.loaded → steps ≡ risen (last - j) a.steps
+pub look_moved : (j last steps : ℕ) (ws block : List ℕ) (a b : Ask) → ((p : ℕ) → get_or ws p 0 < 2 ^ 64) → AskOk a → a.stage ≡ LookBlock j
+    → last ≡ block_of a.wiring - 1 → block ≡ with_loaded (last - j) j ws a.loaded → steps ≡ risen (last - j) a.steps
     → b ≡ record a { stage = LookBlock last; loaded = block; steps = steps } → AskMoves (before_last j a.wiring) ws a ws b
 look_moved j last steps ws block a b small ok st e el es eb = let n : ℕ = before_last j a.wiring in let k : last - j ≡ n = last_less j last a.wiring e in
     let l : block ≡ with_loaded n j ws a.loaded = el ∙ ap (λ (m : ℕ). with_loaded m j ws a.loaded) k in
@@ -178,7 +188,8 @@ look_moved j last steps ws block a b small ok st e el es eb = let n : ℕ = befo
     let x : b ≡ record a { stage = LookBlock (block_of a.wiring - 1); loaded = with_loaded n j ws a.loaded; steps = risen n a.steps } = eb ∙ (λ i. record a { stage = LookBlock (e i); loaded = l i; steps = s i }) in
     subst (λ (z : Ask). AskMoves n ws a ws z) (sym x) (looks_move j ws a small ok st)
 
-pub take_moved : (j last steps : ℕ) (ws block : List ℕ) (a b : Answer) → ((p : ℕ) → get_or ws p 0 < 2 ^ 64) → AnswerOk a → a.stage ≡ TakeBlock j → last ≡ block_of a.wiring - 1 → block ≡ with_loaded (last - j) j ws a.loaded → steps ≡ risen (last - j) a.steps
+pub take_moved : (j last steps : ℕ) (ws block : List ℕ) (a b : Answer) → ((p : ℕ) → get_or ws p 0 < 2 ^ 64) → AnswerOk a → a.stage ≡ TakeBlock j
+    → last ≡ block_of a.wiring - 1 → block ≡ with_loaded (last - j) j ws a.loaded → steps ≡ risen (last - j) a.steps
     → b ≡ record a { stage = TakeBlock last; loaded = block; steps = steps } → AnswerMoves (before_last j a.wiring) ws a ws b
 take_moved j last steps ws block a b small ok st e el es eb = let n : ℕ = before_last j a.wiring in let k : last - j ≡ n = last_less j last a.wiring e in
     let l : block ≡ with_loaded n j ws a.loaded = el ∙ ap (λ (m : ℕ). with_loaded m j ws a.loaded) k in
@@ -186,7 +197,8 @@ take_moved j last steps ws block a b small ok st e el es eb = let n : ℕ = befo
     let x : b ≡ record a { stage = TakeBlock (block_of a.wiring - 1); loaded = with_loaded n j ws a.loaded; steps = risen n a.steps } = eb ∙ (λ i. record a { stage = TakeBlock (e i); loaded = l i; steps = s i }) in
     subst (λ (z : Answer). AnswerMoves n ws a ws z) (sym x) (takes_move j ws a small ok st)
 
-pub reply_moved : (j last steps : ℕ) (ws ws' : List ℕ) (a b : Answer) → AnswerOk a → a.stage ≡ ReplyBlock j → last ≡ block_of a.wiring - 1 → ws' ≡ with_stored (last - j) j a.out ws → steps ≡ risen (last - j) a.steps
+pub reply_moved : (j last steps : ℕ) (ws ws' : List ℕ) (a b : Answer) → AnswerOk a → a.stage ≡ ReplyBlock j → last ≡ block_of a.wiring - 1
+    → ws' ≡ with_stored (last - j) j a.out ws → steps ≡ risen (last - j) a.steps
     → b ≡ record a { stage = ReplyBlock last; steps = steps } → AnswerMoves (before_last j a.wiring) ws a ws' b
 reply_moved j last steps ws ws' a b ok st e ew es eb = let n : ℕ = before_last j a.wiring in let k : last - j ≡ n = last_less j last a.wiring e in
     let w : ws' ≡ with_stored n j a.out ws = ew ∙ ap (λ (m : ℕ). with_stored m j a.out ws) k in

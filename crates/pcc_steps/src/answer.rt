@@ -14,7 +14,7 @@ ghost use Rattle.pcc_steps.specs.Answering.{Answer, AnswerOk, IsNewAnswer, IsAns
 ghost use Rattle.pcc_exec.specs.Execution.{is_bad};
 ghost use Rattle.pcc_steps.specs.Lending.{LendsSpace};
 
-use crate::block::{load_words, store_words};
+use crate::block::{fill, load_words, store_words};
 use crate::counts::{rose, rose_by};
 use crate::registers::{tells_error, update_place};
 use crate::wiring::{Action, Style, Wiring, place};
@@ -23,7 +23,6 @@ use pcc_gas::masked;
 use pcc_io::NoMemory;
 use shmem_header::{
     EXTENDED_NOTIFY_BIT, NOTIFY_BIT, bytes_into, code_in, command_in, is_set, with_status,
-    words_into,
 };
 use std::alloc::Global;
 use std::marker::Model;
@@ -161,7 +160,7 @@ pub fn answer_start(answer: &mut AnswerState)
     answer.stage = AnswerStage::TakeLine;
 }
 
-/// The next word step, `Execute` where the device is to run, `Rest` exactly where no run is under way.
+/// The next word step, `Execute` where the device is to run, `Rest` exactly when no run is under way.
 #[tactic(auto, using(crate::proofs::Nexts::answer_rests, crate::proofs::Nexts::answer_executes, crate::proofs::Nexts::answer_within))]
 #[inline(always)]
 pub fn answer_next(answer: &AnswerState) -> Action
@@ -210,8 +209,8 @@ pub fn answer_next(answer: &AnswerState) -> Action
     }
 }
 
-/// Takes what the step found: the value of a load or a swap, any number for a store. Answers how the run ended, exactly
-/// where it ended with this step.
+/// Takes what the step found: the value of a load or a swap, any number for a store. Returns the outcome of the run, exactly
+/// when this step ended it.
 #[tactic(auto, using(crate::proofs::Nexts::idle_told))]
 #[inline(always)]
 pub fn answer_feed(answer: &mut AnswerState, value: u64) -> Option<AnswerOutcome>
@@ -423,8 +422,7 @@ fn reply_words(loaded: &[u64], heads: usize, space: &[u8], out: &mut [u64])
     requires whole { length space.now % 8 ≡ 0 }
     ensures { out.new ≡ take heads loaded.now ++ words_of space.now }
 {
-    out.copy_from_slice(loaded);
-    words_into(space, &mut out[heads..]);
+    fill(&loaded[..heads], space, out);
 }
 
 fn is_bad(status: ExecStatus) -> bool

@@ -170,7 +170,7 @@ impl AskState {
         })
     }
 
-    /// The space that came back last, at first the opening space.
+    /// The space of the last reply, at first the opening space.
     pub fn space(&self) -> &[u8]
         ensures { result.now ≡ self.now.space }
     {
@@ -220,7 +220,7 @@ impl AskState {
     }
 }
 
-/// The next word step: `Rest` exactly where no run is under way.
+/// The next word step: `Rest` exactly when no run is under way.
 #[tactic(auto, using(crate::proofs::Nexts::ask_rests, crate::proofs::Nexts::ask_within))]
 #[inline(always)]
 pub fn ask_next(ask: &AskState) -> Action
@@ -302,8 +302,8 @@ pub fn ask_look(ask: &mut AskState)
     ask.stage = AskStage::LookWord;
 }
 
-/// Takes what the step found: the value of a load or a swap, any number for a store. Answers how the run ended, exactly
-/// where it ended with this step.
+/// Takes what the step found: the value of a load or a swap, any number for a store. Returns the outcome of the run, exactly
+/// when this step ended it.
 #[tactic(auto, using(crate::proofs::Nexts::clear_told))]
 #[inline(always)]
 pub fn ask_feed(ask: &mut AskState, value: u64) -> Option<AskOutcome>
@@ -477,7 +477,7 @@ fn feed_reply(ask: &mut AskState, value: u64) -> Option<AskOutcome>
     None
 }
 
-// The reply becomes the space that came back last.
+// The reply becomes the space that is shown.
 fn drain(ask: &mut AskState) -> AskOutcome
     requires looks { ask.old.looks ≤ ask.old.budget }
     requires posts { ask.old.posts ≤ 4096 }

@@ -14,12 +14,20 @@ pub(crate) fn lay(space: &[u8], bytes: &[u8], input: &mut [u8])
     requires fits { length bytes.now ≤ length space.now }
     ensures { input.new ≡ over space.now bytes.now }
 {
-    input.copy_from_slice(space);
-    input[..bytes.len()].copy_from_slice(bytes);
+    join(bytes, space.split_at(bytes.len()).1, input);
+}
+
+// One after the other.
+fn join(front: &[u8], back: &[u8], whole: &mut [u8])
+    requires { length whole.old ≡ length front.now + length back.now }
+    ensures { whole.new ≡ front.now ++ back.now }
+{
+    whole[..front.len()].copy_from_slice(front);
+    whole[front.len()..].copy_from_slice(back);
 }
 
 // A block begins with its header words.
-fn fill(header: &[u64], space: &[u8], block: &mut [u64])
+pub(crate) fn fill(header: &[u64], space: &[u8], block: &mut [u64])
     requires long { length block.old ≡ length header.now + length space.now / 8 }
     requires whole { length space.now % 8 ≡ 0 }
     ensures { block.new ≡ header.now ++ words_of space.now }

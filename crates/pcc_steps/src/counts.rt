@@ -1,4 +1,4 @@
-//! The count of word steps of a machine, which stands still at 2^64 - 1.
+//! The count of word steps of a machine, at most 2^64 - 1.
 ghost use Rattle.std.specs.Prelude.{◌≡◌};
 ghost use Rattle.pcc_steps.specs.Asking.{rose};
 ghost use Rattle.pcc_steps.specs.Moves.{risen};

@@ -1,4 +1,4 @@
-//! What the registers of a subspace say, and where they stand, by the type of the subspace.
+//! What the registers of a subspace say, and their places, by the type of the subspace.
 ghost use Rattle.std.specs.Prelude.{◌≡◌};
 ghost use Rattle.pcc_steps.specs.Wires.{acknowledges, header_error, meets, sees_done, style_of, tells_error, update_place};
 
