@@ -34,7 +34,7 @@ impl<E: Executor> Model for TurnChannel<E> {
 
     ghost view = { λ c. open_channel c.ends };
 
-    ghost invariant = { λ c. IsLate c.ends.state.sent };
+    ghost invariant = { λ c. IsLate c.ends.state.history.sent c.ends.state.executed };
 }
 
 impl<E: Executor> TurnChannel<E> {
@@ -91,7 +91,7 @@ impl<E: Executor> TurnChannel<E> {
 
     /// Makes a call of a caller: a command of this code, whose input is the space with the bytes laid over its front, with so many polls from 1
     /// to 1,000,000, held for so many turns of the answering end. It is answered as a line of a run. A command is executed in its call
-    /// exactly where its hold is below its polls; what is left of the hold stands for the next call.
+    /// exactly when its hold is below its polls; the rest of the hold is left for the next call.
     pub fn call(
         &mut self,
         alloc: Global,
@@ -131,17 +131,17 @@ fn post<E: Executor>(
     polls: u32,
     hold: u32,
 ) -> Result<Outcome, NoMemory>
-    requires free { ends.old.state.sent ≡ None }
+    requires free { ends.old.state.history.sent ≡ None }
     requires kind { ready.kind ≡ ends.old.state.head.kind }
     requires room { ready.room ≡ ends.old.state.head.room }
-    requires spare { 0 < ends.old.state.spare }
-    requires few { length ends.old.state.records + ends.old.state.spare ≤ 4096 }
+    requires spare { 0 < ends.old.state.history.spare }
+    requires few { length ends.old.state.history.records + ends.old.state.history.spare ≤ 4096 }
     requires polls { 0 < polls }
     requires budget { ends.old.state.budget ≡ polls }
     requires early { ends.old.state.taken + 2 < 2 ^ 64 }
     ensures answered { IfOk result (IsPosted E.exec_of ends.old.state (record { caller = caller; code = ready.code; bytes = ready.bytes; polls = polls; hold = hold }) ends.new.state) }
     ensures worked { IfOk result (HasPosted (record { caller = caller; code = ready.code; bytes = ready.bytes; polls = polls; hold = hold }) ends.old ends.new) }
-    ensures late { IsLate ends.new.state.sent }
+    ensures late { IsLate ends.new.state.history.sent ends.new.state.executed }
     ensures err { OnErr result ⊥ }
 {
     match ends.post(caller, ready) {
@@ -163,8 +163,8 @@ fn post<E: Executor>(
 
 // A turn and a look, until the command in flight is drained or so many looks are made. The place of its record, where it is drained.
 fn await_reply<E: Executor>(ends: &mut PlainEnds<E>, polls: u32) -> Option<u32>
-    requires rings { rings ends.old.state.sent ≡ true }
-    requires few { length ends.old.state.records < 4096 }
+    requires rings { rings ends.old.state ≡ true }
+    requires few { length ends.old.state.history.records < 4096 }
     requires looks { ends.old.state.looks ≡ 0 }
     requires budget { ends.old.state.budget ≡ polls }
     ensures state { record { now = ends.new.state; place = result } ≡ awaited E.exec_of polls ends.old.state }
@@ -180,8 +180,8 @@ fn await_reply<E: Executor>(ends: &mut PlainEnds<E>, polls: u32) -> Option<u32>
 
 // A turn, and then a look.
 fn poll<E: Executor>(ends: &mut PlainEnds<E>) -> Option<u32>
-    requires rings { rings ends.old.state.sent ≡ true }
-    requires few { length ends.old.state.records < 4096 }
+    requires rings { rings ends.old.state ≡ true }
+    requires few { length ends.old.state.history.records < 4096 }
     requires left { ends.old.state.looks < ends.old.state.budget }
     ensures state { record { now = ends.new.state; place = result } ≡ awaited E.exec_of 1 ends.old.state }
     ensures counts { SpentByPoll (block_of ends.old.state.wiring) result ends.old.counts ends.new.counts }
