@@ -11,6 +11,7 @@ use Rattle.pcc_journal.specs.declared.note.Note.{Note}
 use Rattle.pcc_journal.specs.Records.{times_of, times_of_record}
 use Rattle.pcc_journal.specs.Events.{Event, Drained, Completed, Noted, NotedPending, completed_of, events_of, noted, noted_pending, post_count}
 use Rattle.pcc_journal.proofs.EventsGrow.{drained as events_drained, noted_last, post_count-append}
+use Rattle.pcc_history.specs.Channel.{Exchange}
 use Rattle.channel_core.specs.Sendings.{recorded}
 use Rattle.channel_turns.specs.ChannelRuns.{Call, ChannelStart, ChannelState, InFlight, completed, count_in_flight, exchange_with, next_reading, pending_of, post_of}
 use Rattle.channel_turns.specs.Replies.{Reply}
