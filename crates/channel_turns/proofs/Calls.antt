@@ -23,11 +23,11 @@ use Rattle.channel_core.specs.declared.answers.CallRefusal.{CallRefusal}
 use Rattle.channel_core.specs.declared.sent.Sent.{Sent}
 use Rattle.channel_turns.specs.declared.outcome.Outcome.{Outcome}
 use Rattle.channel_turns.specs.declared.outcome.Outcome.TheVariants as outcome
-use Rattle.channel_turns.specs.Replies.{Done, TimedOut}
+use Rattle.channel_turns.specs.Replies.{Done, StillPending, TimedOut}
 use Rattle.channel_turns.specs.Outcomes.{StandsFor}
 use Rattle.channel_turns.specs.ChannelRuns.{Answered, Call, ChannelStart, ChannelState, after_earlier, answer_call, answer_unless, completed, count_in_flight, exchange_with, next_reading, post_call, refusal_of, replied}
 use Rattle.channel_turns.specs.EndsStates.{Awaited, EndsState, awaited, awaited_for, budgeted, drained, earliest_post, exchange_in, gave_up, next_sent, posted, reading_of, ready_with, start_of}
-use Rattle.channel_turns.specs.Calls.{EndsByPost, IsAnswered, IsLate, IsPosted, Noted, OpenChannel, Stays, efforts_of, flight_of, note_in, noted_after, noted_earlier, noted_in, noted_post, now_of, open_channel}
+use Rattle.channel_turns.specs.Calls.{EndsByPost, HasAwaited, IsAnswered, IsLate, IsPosted, Noted, OpenChannel, Stays, efforts_of, flight_of, note_in, noted_after, noted_earlier, noted_in, answer_if, noted_post, now_of, open_channel}
 use Rattle.channel_turns.specs.Seeing.{EndsSeen}
 use Rattle.channel_turns.proofs.Polls.{above_polls, at_once, below_polls, completes, held_on, stays}
 
@@ -96,29 +96,6 @@ post_done exec s t u w caller polls hold place r free early in_time et eu ew =
       noted = noted;
       ends = tt;
     }
-
--- polls take one reading at most, and keep the wiring
-pub awaited_taken : (exec : Device) (s : EndsState) (polls : ℕ) → (awaited exec polls s).now.taken ≤ s.taken + 1
-awaited_taken exec s polls = by s.history.sent
-  where
-    choose : (b : Bool) (x y : Awaited exec) → x.now.taken ≤ s.taken + 1 → y.now.taken ≤ s.taken + 1 → (cond b x y).now.taken ≤ s.taken + 1
-    choose true x y h k = h
-    choose false x y h k = k
-
-    by : (o : Option Sent) → (awaited_for exec o polls s).now.taken ≤ s.taken + 1
-    by None = omega arith
-    by (Some c) = choose (nat_lt s.hold polls) _ _ (omega arith) (omega arith)
-
-pub awaited_wiring : (exec : Device) (s : EndsState) (polls : ℕ) → (awaited exec polls s).now.wiring ≡ s.wiring
-awaited_wiring exec s polls = by s.history.sent
-  where
-    choose : (b : Bool) (x y : Awaited exec) → x.now.wiring ≡ s.wiring → y.now.wiring ≡ s.wiring → (cond b x y).now.wiring ≡ s.wiring
-    choose true x y h k = h
-    choose false x y h k = k
-
-    by : (o : Option Sent) → (awaited_for exec o polls s).now.wiring ≡ s.wiring
-    by None = refl
-    by (Some c) = choose (nat_lt s.hold polls) _ _ refl refl
 
 -- a call that is given up
 pub post_lost : (exec : Device) (s t u w v : EndsState) (caller polls hold : ℕ) (place : Option ℕ) (r : ReadyCommand) → place ≡ None
@@ -207,6 +184,141 @@ same_count (Some c) hold = refl
 unrefused : (s : EndsState) (call : Call) → refused_by s call.code call.bytes ≡ None → refusal_of s.head call (now_of s) ≡ None
 unrefused s call e = ap replied (ap (λ (n : ℕ). refusals.refusal_of s.head.kind s.head.room call.code (length call.bytes) (length s.history.records + n)) (sym (same_count s.history.sent s.hold)) ∙ e)
 
+-- ---- the polls for an earlier command
+
+pub free_sent : (sent : Option Sent) → is_flying sent ≡ false → sent ≡ None
+free_sent None e = refl
+free_sent (Some c) e = absurd (cc e)
+
+module _ (exec : Device) (polls : ℕ) (s : EndsState) where
+  -- nothing was in flight
+  pub free_awaited : is_flying s.history.sent ≡ false → HasAwaited exec polls s s true
+  free_awaited e = let free : s.history.sent ≡ None = free_sent s.history.sent e in let start : ChannelStart = start_of exec s in
+      record {
+        answered = λ follows. ap (λ (o : Option Sent). after_earlier start polls follows (now_of s) (flight_of o s.hold)) free;
+        stays = record { head = refl; wiring = refl; clock = refl; first = refl; opening = refl };
+        noted = ap (λ (o : Option Sent). noted_earlier (note_in o) (noted_in s)) (sym free);
+        readings = omega arith;
+      }
+
+  -- the earlier command is drained
+  drained_awaited : (t : EndsState) (d : Sent) (place : ℕ) → s.history.sent ≡ Some d → is_late d ≡ true → s.taken + 1 < 2 ^ 64
+      → record { now = t; place = Some place } ≡ awaited exec polls s → HasAwaited exec polls s t true
+  drained_awaited t d place e lost early ew =
+      let x : Exchange = exchange_in exec s d.command in
+      let lt : s.hold < polls = below_polls exec s d polls place e (ap (λ (a : Awaited exec). a.place) (sym ew)) in
+      let mid : EndsState = (completes exec d s).now in
+      let em : t ≡ mid = ap (λ (a : Awaited exec). a.now) (ew ∙ at_once exec s d polls e lt) in
+      let start : ChannelStart = start_of exec s in let now : ChannelState = now_of s in
+      let n : counted s.taken ≡ s.taken + 1 = counts s.taken early in
+      let history : CommandHistory = record {
+        records = s.history.records ++ record_of d x.error x.output (reading_of s) ∷ [];
+        notes = s.history.notes ++ note_of d s.taken ∷ [];
+        sent = None;
+        spare = s.history.spare - 1;
+      } in
+      let eh : mid.history ≡ history = ap (λ (o : Option Sent). drained_by o x.error x.output (reading_of s) s.taken s.history) e in
+      let drained_now : completed start d.command true now ≡ now_of mid = (λ i. record {
+        object = object_after exec s.object.state d.command.code d.command.input;
+        records = s.history.records ++ recorded d.command x.error x.output (reading_of s) (sym lost i) ∷ [];
+        in_flight = None;
+        taken = sym n i;
+        added = s.added;
+      }) ∙ ap (λ (z : CommandHistory). now_of (record mid { history = z })) (sym eh) in
+      let noted : noted_in mid ≡ noted_earlier (note_in s.history.sent) (noted_in s) = ap (λ (z : CommandHistory). noted_in (record mid { history = z })) eh
+      ∙ ((λ i. record { notes = s.history.notes ++ note_of d s.taken ∷ []; flight = None; taken = n i })
+      ∙ ap (λ (o : Option Sent). noted_earlier (note_in o) (noted_in s)) (sym e)) in
+      let below : nat_lt s.hold polls ≡ true = grind (arith, nat_tests) in
+      let read : t.taken ≡ s.taken + 1 = ap (λ (z : EndsState). z.taken) em ∙ n in
+      let by : (follows : ChannelState → Answered) → after_earlier start polls follows now (flight_of (Some d) s.hold) ≡ follows (completed start d.command true now) = λ follows. rw below refl in
+      record {
+        answered = λ follows. ap (λ (o : Option Sent). after_earlier start polls follows now (flight_of o s.hold)) e
+            ∙ (by follows ∙ (ap follows drained_now ∙ ap (λ (z : EndsState). follows (now_of z)) (sym em)));
+        stays = stays_for s t mid em (record { head = refl; wiring = refl; clock = refl; first = refl; opening = refl });
+        noted = ap noted_in em ∙ noted;
+        readings = omega (arith, read);
+      }
+
+  -- it stays in flight
+  pub kept_on : (t : EndsState) (d : Sent) → s.history.sent ≡ Some d → record { now = t; place = None } ≡ awaited exec polls s
+      → (polls ≤ s.hold) × (t ≡ record s { hold = s.hold - polls; looks = s.looks + polls })
+  kept_on t d e ew = let above : polls ≤ s.hold = above_polls exec s d polls e (ap (λ (a : Awaited exec). a.place) (sym ew)) in
+      (above, ap (λ (a : Awaited exec). a.now) (ew ∙ held_on exec s d polls e above))
+
+  kept_awaited : (t : EndsState) (d : Sent) → s.history.sent ≡ Some d → record { now = t; place = None } ≡ awaited exec polls s
+      → HasAwaited exec polls s t false
+  kept_awaited t d e ew = let k = kept_on t d e ew in let above = k.0 in let start : ChannelStart = start_of exec s in let now : ChannelState = now_of s in
+      let held : nat_lt s.hold polls ≡ false = grind (arith, nat_tests) in
+      let on : EndsState = record s { hold = s.hold - polls; looks = s.looks + polls } in
+      let left : ChannelState = record now { in_flight = Some (record { command = d.command; left = s.hold - polls }) } in
+      let by : (follows : ChannelState → Answered) → after_earlier start polls follows now (flight_of (Some d) s.hold) ≡ record { reply = StillPending polls; now = left } = λ follows. rw held refl in
+      let now_is : left ≡ now_of t = ap (λ (o : Option Sent). record now { in_flight = flight_of o (s.hold - polls) }) (sym e) ∙ ap now_of (sym k.1) in
+      let read : t.taken ≡ s.taken = ap (λ (z : EndsState). z.taken) k.1 in
+      record {
+        answered = λ follows. ap (λ (o : Option Sent). after_earlier start polls follows now (flight_of o s.hold)) e
+            ∙ (by follows ∙ ap (λ (z : ChannelState). record { reply = StillPending polls; now = z }) now_is);
+        stays = stays_for s t on k.1 (record { head = refl; wiring = refl; clock = refl; first = refl; opening = refl });
+        noted = ap noted_in k.1;
+        readings = omega (arith, read);
+      }
+
+  -- what polls for a command in flight leave, by whether it was drained
+  pub polls_awaited : (t : EndsState) (place : Option ℕ) → IsLate s.history.sent s.executed → is_flying s.history.sent ≡ true → s.taken + 1 < 2 ^ 64
+      → record { now = t; place = place } ≡ awaited exec polls s → HasAwaited exec polls s t (is_some place)
+  polls_awaited t place late flies early ew = by s.history.sent place refl late flies ew
+    where
+      by : (sent : Option Sent) (p : Option ℕ) → s.history.sent ≡ sent → IsLate sent s.executed → is_flying sent ≡ true
+          → record { now = t; place = p } ≡ awaited exec polls s → HasAwaited exec polls s t (is_some p)
+      by None p e l f w = absurd (cc f)
+      by (Some d) None e l f w = kept_awaited t d e w
+      by (Some d) (Some n) e l f w = drained_awaited t d n e l.1 early w
+
+  -- what they leave in the history
+  pub record Left (t : EndsState) (free : Bool) : Type 0 where
+    pub none : free ≡ true → t.history.sent ≡ None
+    pub late : IsLate t.history.sent t.executed
+    pub memory : free ≡ true → 0 < t.history.spare
+    pub few : length t.history.records + t.history.spare ≤ 4096
+    pub budget : t.budget ≡ s.budget
+
+  pub polls_left : (t : EndsState) (place : Option ℕ) → IsLate s.history.sent s.executed → is_flying s.history.sent ≡ true
+      → count_flying s.history.sent < s.history.spare → length s.history.records + s.history.spare ≤ 4096
+      → record { now = t; place = place } ≡ awaited exec polls s → Left t (is_some place)
+  polls_left t place late flies memory few ew = by s.history.sent place refl late flies memory ew
+    where
+      by : (sent : Option Sent) (p : Option ℕ) → s.history.sent ≡ sent → IsLate sent s.executed → is_flying sent ≡ true → count_flying sent < s.history.spare
+          → record { now = t; place = p } ≡ awaited exec polls s → Left t (is_some p)
+      by None p e l f m w = absurd (cc f)
+      by (Some d) None e l f m w = let k = (kept_on t d e w).1 in record {
+        none = λ q. absurd (cc q);
+        late = subst (λ (z : EndsState). IsLate z.history.sent z.executed) (sym k) late;
+        memory = λ q. absurd (cc q);
+        few = subst (λ (z : EndsState). length z.history.records + z.history.spare ≤ 4096) (sym k) few;
+        budget = ap (λ (z : EndsState). z.budget) k;
+      }
+      by (Some d) (Some n) e l f m w = let x : Exchange = exchange_in exec s d.command in
+          let lt : s.hold < polls = below_polls exec s d polls n e (ap (λ (a : Awaited exec). a.place) (sym w)) in
+          let mid : EndsState = (completes exec d s).now in
+          let em : t ≡ mid = ap (λ (a : Awaited exec). a.now) (w ∙ at_once exec s d polls e lt) in
+          let r : Record = record_of d x.error x.output (reading_of s) in
+          let history : CommandHistory = record {
+            records = s.history.records ++ r ∷ [];
+            notes = s.history.notes ++ note_of d s.taken ∷ [];
+            sent = None;
+            spare = s.history.spare - 1;
+          } in
+          let eh : t.history ≡ history = ap (λ (z : EndsState). z.history) em ∙ ap (λ (o : Option Sent). drained_by o x.error x.output (reading_of s) s.taken s.history) e in
+          let none : t.history.sent ≡ None = ap (λ (z : CommandHistory). z.sent) eh in
+          let spare : t.history.spare ≡ s.history.spare - 1 = ap (λ (z : CommandHistory). z.spare) eh in
+          let long : length t.history.records ≡ length s.history.records + 1 = ap (λ (z : CommandHistory). length z.records) eh ∙ length-append s.history.records (r ∷ []) in
+          record {
+            none = λ q. none;
+            late = subst (λ (o : Option Sent). IsLate o t.executed) (sym none) tt;
+            memory = λ q. omega (arith, spare, m);
+            few = omega (arith, spare, long, few, m);
+            budget = ap (λ (z : EndsState). z.budget) em;
+          }
+
 -- ---- the call is answered by its post
 
 noted_by_post : (o : Outcome) (n : Noted) → EndsByPost o → noted_post o (noted_earlier n.flight n) ≡ noted_after o n
@@ -218,30 +330,6 @@ noted_by_post (outcome.TooLong l m) n e = absurd e
 noted_by_post outcome.JournalFull n e = absurd e
 noted_by_post (outcome.StillPending looks) n e = absurd e
 
--- the ends once nothing is in flight, from which the post answers the call
-record Through (exec : Device) (old mid : EndsState) (call : Call) : Type 0 where
-  pub answered : answer_call (start_of exec old) call (now_of old) ≡ post_call (start_of exec mid) call (now_of mid)
-  pub stays : Stays old mid
-  pub noted : noted_in mid ≡ noted_earlier (note_in old.history.sent) (noted_in old)
-
--- an answer after the earlier command is that of the post
-through : (exec : Device) (old new : EndsSeen) (mid : EndsState) (call : Call) (o : Outcome) → Through exec old.state mid call
-    → IsPosted exec mid call new.state o → IsAnswered exec (open_channel old) call (open_channel new) o
-through exec old new mid call o t h =
-    let P : Answered → Type 0 = λ x. StandsFor x.now.records o x.reply in let e = t.answered in
-    let now : now_of new.state ≡ (answer_call (start_of exec old.state) call (now_of old.state)).now = h.left ∙ ap (λ (x : Answered). x.now) (sym e) in
-    let a = h.stays in let b = t.stays in
-    record {
-      told = subst P (sym e) h.told;
-      left = λ i. record { head = (a.head ∙ b.head) i; wiring = (a.wiring ∙ b.wiring) i; clock = (a.clock ∙ b.clock) i; state = (a.first ∙ b.first) i; opening = (a.opening ∙ b.opening) i; now = now i; efforts = efforts_of new };
-      noted = h.noted ∙ (ap (noted_post o) t.noted ∙ noted_by_post o (noted_in old.state) h.ends);
-    }
-
-if_through : (exec : Device) (old new : EndsSeen) (mid : EndsState) (call : Call) (result : Result Outcome NoMemory) → Through exec old.state mid call
-    → IfOk result (IsPosted exec mid call new.state) → IfOk result (IsAnswered exec (open_channel old) call (open_channel new))
-if_through exec old new mid call (Ok o) t h = through exec old new mid call o t h
-if_through exec old new mid call (Err e') t h = h
-
 module _ (exec : Device) (s0 new : EndsSeen) (s1 s2 : EndsState) (c : OpenChannel) (caller code polls hold : ℕ) (bytes : List ℕ) (r : ReadyCommand) where
   abbrev asked : Call
   asked = record { caller = caller; code = code; bytes = bytes; polls = polls; hold = hold }
@@ -249,92 +337,58 @@ module _ (exec : Device) (s0 new : EndsSeen) (s1 s2 : EndsState) (c : OpenChanne
   abbrev made : Call
   made = record { caller = caller; code = r.code; bytes = r.bytes; polls = polls; hold = hold }
 
+  -- the ends after `ready` and `budget`
+  abbrev big : EndsState
+  big = budgeted polls (with_memory s0.state)
+
   -- the command that was made ready is the one that was asked
-  as_asked : (mid : EndsState) (result : Result Outcome NoMemory) → r ≡ ready_with s0.state code bytes → IfOk result (IsPosted exec mid made new.state)
-      → IfOk result (IsPosted exec mid asked new.state)
-  as_asked mid result e h = subst (λ (z : ReadyCommand). IfOk result (IsPosted exec mid (record { caller = caller; code = z.code; bytes = z.bytes; polls = polls; hold = hold }) new.state)) e h
+  as_asked : (mid : EndsState) (o : Outcome) → r ≡ ready_with s0.state code bytes → IsPosted exec mid made new.state o → IsPosted exec mid asked new.state o
+  as_asked mid o e h = subst (λ (z : ReadyCommand). IsPosted exec mid (record { caller = caller; code = z.code; bytes = z.bytes; polls = polls; hold = hold }) new.state o) e h
 
-  -- nothing was in flight
-  pub free_answered : (result : Result Outcome NoMemory) → open_channel s0 ≡ c → s0.state.history.sent ≡ None → Begun s0.state s1 s2 code bytes polls r
-      → IfOk result (IsPosted exec s2 made new.state) → IfOk result (IsAnswered exec c asked (open_channel new))
-  free_answered result ec free b h =
-      let k = made_of s0.state s1 s2 code bytes polls r b in
-      let none : refusal_of s0.state.head asked (now_of s0.state) ≡ None = unrefused s0.state asked k.unrefused in
-      let mid : EndsState = budgeted polls (with_memory s0.state) in
-      let start : ChannelStart = start_of exec s0.state in let now : ChannelState = now_of s0.state in
-      let a : answer_call start asked now ≡ post_call start asked now = ap (answer_unless start asked now) none ∙ ap (λ (o : Option Sent). after_earlier start polls (post_call start asked) now (flight_of o s0.state.hold)) free in
-      let t : Through exec s0.state mid asked = record {
-        answered = a;
-        stays = record { head = refl; wiring = refl; clock = refl; first = refl; opening = refl };
-        noted = ap (λ (o : Option Sent). noted_earlier (note_in o) (noted_in s0.state)) (sym free);
-      } in
-      let posts : IfOk result (IsPosted exec mid made new.state) = subst (λ (z : EndsState). IfOk result (IsPosted exec z made new.state)) (begun_is s0.state s1 s2 code bytes polls r b) h in
-      subst (λ (z : OpenChannel). IfOk result (IsAnswered exec z asked (open_channel new))) ec (if_through exec s0 new mid asked result t (as_asked mid result k.command posts))
+  -- an answer after the polls for an earlier command
+  answered_by : (mid : EndsState) (free : Bool) → refused_by s0.state code bytes ≡ None → HasAwaited exec polls big mid free
+      → answer_call (start_of exec s0.state) asked (now_of s0.state) ≡ answer_if free polls (post_call (start_of exec s0.state) asked) (now_of mid)
+  answered_by mid free refused h = let start : ChannelStart = start_of exec s0.state in let now : ChannelState = now_of s0.state in
+      ap (answer_unless start asked now) (unrefused s0.state asked refused) ∙ h.answered (post_call start asked)
 
-  -- an earlier command was in flight, and is drained
-  late_by : (s3 : EndsState) (place : ℕ) (d : Sent) (result : Result Outcome NoMemory) → s0.state.history.sent ≡ Some d → is_late d ≡ true
-      → s0.state.taken + 1 < 2 ^ 64 → refused_by s0.state code bytes ≡ None
-      → record { now = s3; place = Some place } ≡ awaited exec polls (budgeted polls (with_memory s0.state))
-      → IfOk result (IsPosted exec s3 asked new.state) → IfOk result (IsAnswered exec (open_channel s0) asked (open_channel new))
-  late_by s3 place d result e lost early refused ew h =
-      let s : EndsState = s0.state in let big : EndsState = budgeted polls (with_memory s) in let x : Exchange = exchange_in exec s d.command in
-      let lt : s.hold < polls = below_polls exec big d polls place e (ap (λ (a : Awaited exec). a.place) (sym ew)) in
-      let mid : EndsState = (completes exec d big).now in
-      let em : s3 ≡ mid = ap (λ (a : Awaited exec). a.now) (ew ∙ at_once exec big d polls e lt) in
-      let start : ChannelStart = start_of exec s in let now : ChannelState = now_of s in
-      let n : counted s.taken ≡ s.taken + 1 = counts s.taken early in
-      let history : CommandHistory = record {
-        records = s.history.records ++ record_of d x.error x.output (reading_of s) ∷ [];
-        notes = s.history.notes ++ note_of d s.taken ∷ [];
-        sent = None;
-        spare = max s.history.spare (count_flying s.history.sent + 1) - 1;
-      } in
-      let eh : mid.history ≡ history = ap (λ (o : Option Sent). drained_by o x.error x.output (reading_of s) s.taken (reserved s.history)) e in
-      let drained_now : completed start d.command true now ≡ now_of mid = (λ i. record {
-        object = object_after exec s.object.state d.command.code d.command.input;
-        records = s.history.records ++ recorded d.command x.error x.output (reading_of s) (sym lost i) ∷ [];
-        in_flight = None;
-        taken = sym n i;
-        added = s.added;
-      }) ∙ ap (λ (z : CommandHistory). now_of (record mid { history = z })) (sym eh) in
-      let noted : noted_in mid ≡ noted_earlier (note_in s.history.sent) (noted_in s) = ap (λ (z : CommandHistory). noted_in (record mid { history = z })) eh
-      ∙ ((λ i. record { notes = s.history.notes ++ note_of d s.taken ∷ []; flight = None; taken = n i })
-      ∙ ap (λ (o : Option Sent). noted_earlier (note_in o) (noted_in s)) (sym e)) in
-      let none : refusal_of s.head asked now ≡ None = unrefused s asked refused in
-      let below : nat_lt s.hold polls ≡ true = grind (arith, nat_tests) in
-      let a : answer_call start asked now ≡ post_call start asked (completed start d.command true now) = ap (answer_unless start asked now) none ∙ (ap (λ (o : Option Sent). after_earlier start polls (post_call start asked) now (flight_of o s.hold)) e ∙ rw below refl) in
-      let t : Through exec s mid asked = record {
-        answered = a ∙ ap (post_call start asked) drained_now;
-        stays = record { head = refl; wiring = refl; clock = refl; first = refl; opening = refl };
-        noted = noted;
-      } in
-      if_through exec s0 new mid asked result t (subst (λ (z : EndsState). IfOk result (IsPosted exec z asked new.state)) em h)
+  -- where nothing is in flight then, it is that of the post
+  through : (mid : EndsState) (o : Outcome) → refused_by s0.state code bytes ≡ None → HasAwaited exec polls big mid true
+      → IsPosted exec mid asked new.state o → IsAnswered exec (open_channel s0) asked (open_channel new) o
+  through mid o refused w h = let a = h.stays in let b = w.stays in
+      let P : Answered → Type 0 = λ x. StandsFor x.now.records o x.reply in
+      let start : start_of exec s0.state ≡ start_of exec mid = λ i. record { head = sym b.head i; clock = sym b.clock i; device = exec; state = sym b.first i; opening = sym b.opening i } in
+      let e : answer_call (start_of exec s0.state) asked (now_of s0.state) ≡ post_call (start_of exec mid) asked (now_of mid) = answered_by mid true refused w ∙ ap (λ (z : ChannelStart). post_call z asked (now_of mid)) start in
+      let now : now_of new.state ≡ (answer_call (start_of exec s0.state) asked (now_of s0.state)).now = h.left ∙ ap (λ (x : Answered). x.now) (sym e) in
+      record {
+        told = subst P (sym e) h.told;
+        left = λ i. record { head = (a.head ∙ b.head) i; wiring = (a.wiring ∙ b.wiring) i; clock = (a.clock ∙ b.clock) i; state = (a.first ∙ b.first) i; opening = (a.opening ∙ b.opening) i; now = now i; efforts = efforts_of new };
+        noted = h.noted ∙ (ap (noted_post o) w.noted ∙ noted_by_post o (noted_in s0.state) h.ends);
+      }
 
-  pub late_answered : (s3 : EndsState) (place : Option ℕ) (result : Result Outcome NoMemory) → open_channel s0 ≡ c → c.now.taken < 2 ^ 63
-      → IsLate s0.state.history.sent s0.state.executed → is_flying s2.history.sent ≡ true → Begun s0.state s1 s2 code bytes polls r
-      → record { now = s3; place = place } ≡ awaited exec polls s2 → is_some place ≡ true → IfOk result (IsPosted exec s3 made new.state)
-      → IfOk result (IsAnswered exec c asked (open_channel new))
-  late_answered s3 place result ec early late flies b ew some h =
-      let k = made_of s0.state s1 s2 code bytes polls r b in
-      let big : EndsState = budgeted polls (with_memory s0.state) in
-      let em : s2 ≡ big = begun_is s0.state s1 s2 code bytes polls r b in
-      let few : s0.state.taken < 2 ^ 63 = subst (λ (z : OpenChannel). z.now.taken < 2 ^ 63) (sym ec) early in
-      let aw : record { now = s3; place = place } ≡ awaited exec polls big = ew ∙ ap (awaited exec polls) em in
-      subst (λ (z : OpenChannel). IfOk result (IsAnswered exec z asked (open_channel new))) ec
-      (by s0.state.history.sent place refl late (subst (λ (z : EndsState). is_flying z.history.sent ≡ true) em flies) some k.unrefused aw (omega (arith, few)) (as_asked s3 result k.command h))
-    where
-      by : (sent : Option Sent) (p : Option ℕ) → s0.state.history.sent ≡ sent → IsLate sent s0.state.executed → is_flying sent ≡ true → is_some p ≡ true
-          → refused_by s0.state code bytes ≡ None → record { now = s3; place = p } ≡ awaited exec polls (budgeted polls (with_memory s0.state))
-          → s0.state.taken + 1 < 2 ^ 64 → IfOk result (IsPosted exec s3 asked new.state)
-          → IfOk result (IsAnswered exec (open_channel s0) asked (open_channel new))
-      by None p e l f q refused aw m h = absurd (cc f)
-      by (Some d) None e l f q refused aw m h = absurd (cc q)
-      by (Some d) (Some n) e l f q refused aw m h = late_by s3 n d result e l.1 m refused aw h
+  pub post_answered : (mid : EndsState) (free : Bool) (result : Result Outcome NoMemory) → open_channel s0 ≡ c → Begun s0.state s1 s2 code bytes polls r
+      → HasAwaited exec polls s2 mid free → free ≡ true → IfOk result (IsPosted exec mid made new.state) → IfOk result (IsAnswered exec c asked (open_channel new))
+  post_answered mid free (Err e) ec b w is h = h
+  post_answered mid free (Ok o) ec b w is h = let k = made_of s0.state s1 s2 code bytes polls r b in
+      let awaits : HasAwaited exec polls big mid true = subst (λ (z : EndsState × Bool). HasAwaited exec polls z.0 mid z.1) (λ i. (begun_is s0.state s1 s2 code bytes polls r b i, is i)) w in
+      subst (λ (z : OpenChannel). IsAnswered exec z asked (open_channel new) o) ec (through mid o k.unrefused awaits (as_asked mid o k.command h))
 
-free_sent : (sent : Option Sent) → is_flying sent ≡ false → sent ≡ None
-free_sent None e = refl
-free_sent (Some c) e = absurd (cc e)
+  -- where the earlier command stays in flight, it is still pending
+  pub still_answered : (free : Bool) → open_channel s0 ≡ c → Begun s0.state s1 s2 code bytes polls r → HasAwaited exec polls s2 new.state free
+      → free ≡ false → IsAnswered exec c asked (open_channel new) (outcome.StillPending polls)
+  still_answered free ec b w is = let k = made_of s0.state s1 s2 code bytes polls r b in
+      let awaits : HasAwaited exec polls big new.state false = subst (λ (z : EndsState × Bool). HasAwaited exec polls z.0 new.state z.1) (λ i. (begun_is s0.state s1 s2 code bytes polls r b i, is i)) w in
+      let e : answer_call (start_of exec s0.state) asked (now_of s0.state) ≡ record { reply = StillPending polls; now = now_of new.state } = answered_by new.state false k.unrefused awaits in
+      let a = awaits.stays in let now : now_of new.state ≡ (answer_call (start_of exec s0.state) asked (now_of s0.state)).now = ap (λ (x : Answered). x.now) (sym e) in
+      subst (λ (z : OpenChannel). IsAnswered exec z asked (open_channel new) (outcome.StillPending polls)) ec (record {
+        told = ap (λ (x : Answered). x.reply) e;
+        left = λ i. record { head = a.head i; wiring = a.wiring i; clock = a.clock i; state = a.first i; opening = a.opening i; now = now i; efforts = efforts_of new };
+        noted = awaits.noted;
+      })
 
-pub unflown : (s0 s1 s2 : EndsState) (code : ℕ) (bytes : List ℕ) (polls : ℕ) (r : ReadyCommand) → Begun s0 s1 s2 code bytes polls r
-    → is_flying s2.history.sent ≡ false → s0.history.sent ≡ None
-unflown s0 s1 s2 code bytes polls r b f = free_sent s0.history.sent (subst (λ (z : EndsState). is_flying z.history.sent ≡ false) (begun_is s0 s1 s2 code bytes polls r b) f)
+  -- the readings of the call
+  pub call_readings : (mid : EndsState) (free : Bool) (result : Result Outcome NoMemory) → open_channel s0 ≡ c → Begun s0.state s1 s2 code bytes polls r
+      → HasAwaited exec polls s2 mid free → IfOk result (IsPosted exec mid made new.state) → OnErr result ⊥ → new.state.taken ≤ c.now.taken + 3
+  call_readings mid free result ec b w h e =
+      let was : s0.state.taken ≡ c.now.taken = ap (λ (z : OpenChannel). z.now.taken) ec in
+      let same : s2.taken ≡ s0.state.taken = ap (λ (z : EndsState). z.taken) (begun_is s0.state s1 s2 code bytes polls r b) in
+      let after = posted_readings exec mid new.state made result h e in let before = w.readings in omega (arith, was, same, before, after)

@@ -1,7 +1,7 @@
 -- What a call does, and how long it takes.
-use Rattle.std.proofs.Common.{◌≡◌, ℕ, ◌+◌, ◌-◌, ◌*◌, ◌<◌, ◌≤◌, true, List, refl, sym, ap, ◌∙◌, subst, arith}
+use Rattle.std.proofs.Common.{◌≡◌, ℕ, ◌+◌, ◌*◌, ◌<◌, ◌≤◌, Bool, true, false, List, refl, sym, ap, ◌∙◌, subst, arith}
 use Rattle.std.specs.Prelude.{Option, Some, None, Result, Ok, Err, IfOk}
-use Rattle.std.specs.Option.{is_none, is_some}
+use Rattle.std.specs.Option.{is_some}
 use Rattle.pcc_history.specs.Devices.{Device}
 use Rattle.pcc_io.specs.declared.items.NoMemory.{NoMemory}
 use Rattle.pcc_steps.specs.Wires.{block_of}
@@ -14,10 +14,10 @@ use Rattle.channel_turns.specs.ChannelRuns.{Call, InFlight}
 use Rattle.channel_turns.specs.EndsStates.{Awaited, EndsState, awaited, budgeted}
 use Rattle.channel_turns.specs.Counts.{Counts, Spent, SpentByPolls}
 use Rattle.channel_turns.specs.Seeing.{EndsSeen}
-use Rattle.channel_turns.specs.Calls.{EndsByPost, HasPosted, HasWorked, OpenChannel, clear_looks, earlier_looks, earlier_turns, flight_of, open_channel, own_looks, own_turns, turns_made}
-use Rattle.channel_turns.proofs.Calls.{Begun, begun_is, with_memory}
+use Rattle.channel_turns.specs.Calls.{EndsByPost, HasPosted, HasWorked, OpenChannel, SpentByEarlier, WorksEarlier, clear_looks, earlier_looks, earlier_turns, flight_of, now_of, open_channel, own_looks, own_turns, turns_made}
+use Rattle.channel_turns.proofs.Calls.{Begun, begun_is, free_sent, kept_on, with_memory}
 use Rattle.channel_turns.proofs.Counting.{spent_again, spent_as, spent_none}
-use Rattle.channel_turns.proofs.Polls.{above_polls, below_polls, held_on}
+use Rattle.channel_turns.proofs.Polls.{below_polls}
 
 -- ---- a whole call
 
@@ -75,66 +75,56 @@ module _ (s0 s1 s2 new : EndsSeen) (c : OpenChannel) (caller code polls hold : �
   begun_big : Unspent s0 s1 s2 code bytes polls r → s2.state ≡ big
   begun_big u = begun_is s0.state s1.state s2.state code bytes polls r u.begun
 
-  -- nothing was in flight
-  pub free_works : (result : Result Outcome NoMemory) → open_channel s0 ≡ c → s0.state.history.sent ≡ None → Unspent s0 s1 s2 code bytes polls r → IfOk result (HasPosted made s2 new)
+  -- the polls for an earlier command, and then the post
+  pub post_works : (s3 : EndsSeen) (free : Bool) (result : Result Outcome NoMemory) → open_channel s0 ≡ c → Unspent s0 s1 s2 code bytes polls r
+      → WorksEarlier polls (block_of s2.state.wiring) s2 s3 free → s3.state.wiring ≡ s2.state.wiring → free ≡ true → IfOk result (HasPosted made s3 new)
       → IfOk result (HasWorked asked c (open_channel new))
-  free_works result ec free u h = ok_map result (HasPosted made s2 new) (HasWorked asked c (open_channel new)) (λ o p.
+  post_works s3 free result ec u w wired is h = ok_map result (HasPosted made s3 new) (HasWorked asked c (open_channel new)) (λ o p.
       let m : ℕ = block_of s0.state.wiring in
-      let em : block_of s2.state.wiring ≡ m = ap (λ (z : EndsState). block_of z.wiring) (begun_big u) in
-      let none : Spent 0 0 (polls + (m + 6)) s0.counts s2.counts = spent_as 0 0 0 0 0 (polls + (m + 6)) s0.counts s2.counts refl refl (omega arith) (subst (λ (z : Counts). Spent 0 0 0 s0.counts z) (sym (u.budget ∙ u.ready)) (spent_none s0.counts)) in
+      let e : s2.state ≡ big = begun_big u in
+      let em : block_of s3.state.wiring ≡ m = ap block_of wired ∙ ap (λ (z : EndsState). block_of z.wiring) e in
+      let earlier : Option InFlight = flight_of s0.state.history.sent s0.state.hold in
+      let k : Spent (earlier_looks earlier) (earlier_turns earlier) (polls + (m + 6)) s0.counts s3.counts = subst (λ (z : Bool × (EndsState × Counts)). SpentByEarlier z.0 (now_of z.1.0).in_flight polls (block_of z.1.0.wiring) z.1.1 s3.counts) (λ i. (is i, (e i, (u.budget ∙ u.ready) i))) w.counts in
       subst (λ (z : OpenChannel). HasWorked asked z (open_channel new) o) ec (record {
-        counts = subst (λ (q : Option Sent). Spent (clear_looks (flight_of q s0.state.hold) asked o) (turns_made (flight_of q s0.state.hold) asked o) (2 * polls + 3 * m + 24) s0.counts new.counts) (sym free) (joined None caller code r.code polls hold m bytes r.bytes s0.counts s2 new o em none p);
+        counts = joined earlier caller code r.code polls hold m bytes r.bytes s0.counts s3 new o em k p;
         looks = p.looks;
       })) h
 
-  -- a command was in flight
-  flown : Unspent s0 s1 s2 code bytes polls r → is_flying s2.state.history.sent ≡ true → s0.state.history.sent ≡ None → ⊥
-  flown u flies es = let f : is_flying None ≡ true = ap is_flying (sym es) ∙ (ap (λ (z : EndsState). is_flying z.history.sent) (sym (begun_big u)) ∙ flies) in cc f
+  -- the earlier command stays in flight
+  pub still_works : (free : Bool) → open_channel s0 ≡ c → Unspent s0 s1 s2 code bytes polls r → WorksEarlier polls (block_of s2.state.wiring) s2 new free
+      → free ≡ false → HasWorked asked c (open_channel new) (outcome.StillPending polls)
+  still_works free ec u w is = let m : ℕ = block_of s0.state.wiring in
+      let k : Spent polls polls polls s0.counts new.counts = subst (λ (z : Bool × Counts). SpentByEarlier z.0 (now_of s2.state).in_flight polls (block_of s2.state.wiring) z.1 new.counts) (λ i. (is i, (u.budget ∙ u.ready) i)) w.counts in
+      subst (λ (z : OpenChannel). HasWorked asked z (open_channel new) (outcome.StillPending polls)) ec (record {
+        counts = spent_as polls polls polls polls polls (2 * polls + 3 * m + 24) s0.counts new.counts refl refl (omega arith) k;
+        looks = w.looks is;
+      })
 
-  -- an earlier command is drained first
-  pub late_works : (exec : Device) (s3 : EndsSeen) (place : Option ℕ) (result : Result Outcome NoMemory) → open_channel s0 ≡ c
-      → is_flying s2.state.history.sent ≡ true → Unspent s0 s1 s2 code bytes polls r → record { now = s3.state; place = place } ≡ awaited exec polls s2.state → is_some place ≡ true
-      → SpentByPolls (block_of s2.state.wiring) polls s2.state.hold place s2.counts s3.counts → s3.state.wiring ≡ s2.state.wiring
-      → IfOk result (HasPosted made s3 new) → IfOk result (HasWorked asked c (open_channel new))
-  late_works exec s3 place result ec flies u ew some k3 wired h = by place refl s0.state.history.sent refl some
-    where
-      by : (p : Option ℕ) → place ≡ p → (sent : Option Sent) → s0.state.history.sent ≡ sent → is_some p ≡ true → IfOk result (HasWorked asked c (open_channel new))
-      by None ep sent es q = absurd (cc q)
-      by (Some n) ep None es q = absurd (flown u flies es)
-      by (Some n) ep (Some cs) es q = ok_map result (HasPosted made s3 new) (HasWorked asked c (open_channel new)) (λ o p.
-          let m : ℕ = block_of s0.state.wiring in
-          let e : s2.state ≡ big = begun_big u in
-          let em : block_of s3.state.wiring ≡ m = ap block_of wired ∙ ap (λ (z : EndsState). block_of z.wiring) e in
-          let aw : record { now = s3.state; place = Some n } ≡ awaited exec polls big = (λ i. record { now = s3.state; place = sym ep i }) ∙ (ew ∙ ap (awaited exec polls) e) in
-          let lt : s0.state.hold < polls = below_polls exec big cs polls n es (ap (λ (a : Awaited exec). a.place) (sym aw)) in
-          let k4 : Spent s0.state.hold (s0.state.hold + 1) (s0.state.hold + (m + 6)) s0.counts s3.counts = subst (λ (z : Option ℕ × (EndsState × Counts)). SpentByPolls (block_of z.1.0.wiring) polls z.1.0.hold z.0 z.1.1 s3.counts) (λ i. (ep i, (e i, (u.budget ∙ u.ready) i))) k3 in
-          let first : Spent s0.state.hold (s0.state.hold + 1) (polls + (m + 6)) s0.counts s3.counts = spent_as s0.state.hold (s0.state.hold + 1) (s0.state.hold + (m + 6)) s0.state.hold (s0.state.hold + 1) (polls + (m + 6)) s0.counts s3.counts refl refl (omega (arith, lt)) k4 in
-          let flight : InFlight = record { command = cs.command; left = s0.state.hold } in
-          subst (λ (z : OpenChannel). HasWorked asked z (open_channel new) o) ec (record {
-            counts = subst (λ (q : Option Sent). Spent (clear_looks (flight_of q s0.state.hold) asked o) (turns_made (flight_of q s0.state.hold) asked o) (2 * polls + 3 * m + 24) s0.counts new.counts) (sym es) (joined (Some flight) caller code r.code polls hold m bytes r.bytes s0.counts s3 new o em first p);
-            looks = p.looks;
-          })) h
+-- ---- the polls for an earlier command
 
-  -- an earlier command stays in flight
-  pub still_works : (exec : Device) (place : Option ℕ) → open_channel s0 ≡ c → is_flying s2.state.history.sent ≡ true → Unspent s0 s1 s2 code bytes polls r
-      → record { now = new.state; place = place } ≡ awaited exec polls s2.state → is_none place ≡ true
-      → SpentByPolls (block_of s2.state.wiring) polls s2.state.hold place s2.counts new.counts
-      → HasWorked asked c (open_channel new) (outcome.StillPending polls)
-  still_works exec place ec flies u ew none k3 = by place refl s0.state.history.sent refl none
-    where
-      by : (p : Option ℕ) → place ≡ p → (sent : Option Sent) → s0.state.history.sent ≡ sent → is_none p ≡ true
-          → HasWorked asked c (open_channel new) (outcome.StillPending polls)
-      by (Some n) ep sent es q = absurd (cc q)
-      by None ep None es q = absurd (flown u flies es)
-      by None ep (Some cs) es q =
-          let m : ℕ = block_of s0.state.wiring in
-          let e : s2.state ≡ big = begun_big u in
-          let aw : record { now = new.state; place = None } ≡ awaited exec polls big = (λ i. record { now = new.state; place = sym ep i }) ∙ (ew ∙ ap (awaited exec polls) e) in
-          let above : polls ≤ s0.state.hold = above_polls exec big cs polls es (ap (λ (a : Awaited exec). a.place) (sym aw)) in
-          let now : new.state ≡ record big { hold = s0.state.hold - polls; looks = 0 + polls } = ap (λ (a : Awaited exec). a.now) (aw ∙ held_on exec big cs polls es above) in
-          let k4 : Spent polls polls polls s0.counts new.counts = subst (λ (z : Option ℕ × (EndsState × Counts)). SpentByPolls (block_of z.1.0.wiring) polls z.1.0.hold z.0 z.1.1 new.counts) (λ i. (ep i, (e i, (u.budget ∙ u.ready) i))) k3 in
-          let looked : new.state.looks ≡ 0 + polls = ap (λ (z : EndsState). z.looks) now in
-          subst (λ (z : OpenChannel). HasWorked asked z (open_channel new) (outcome.StillPending polls)) ec (record {
-            counts = spent_as polls polls polls polls polls (2 * polls + 3 * m + 24) s0.counts new.counts refl refl (omega arith) k4;
-            looks = (omega (arith, looked), ap (λ (z : EndsState). z.budget) now);
-          })
+-- nothing was in flight
+pub free_spends : (polls block : ℕ) (s : EndsSeen) → is_flying s.state.history.sent ≡ false → WorksEarlier polls block s s true
+free_spends polls block s e = record {
+  counts = subst (λ (o : Option Sent). SpentByEarlier true (flight_of o s.state.hold) polls block s.counts s.counts) (sym (free_sent s.state.history.sent e)) (spent_as 0 0 0 0 0 (polls + (block + 6)) s.counts s.counts refl refl (omega arith) (spent_none s.counts));
+  looks = λ q. absurd (cc q);
+}
+
+pub polls_spend : (exec : Device) (polls block : ℕ) (s t : EndsSeen) (place : Option ℕ) → is_flying s.state.history.sent ≡ true → s.state.looks ≡ 0
+    → s.state.budget ≡ polls → record { now = t.state; place = place } ≡ awaited exec polls s.state
+    → SpentByPolls block polls s.state.hold place s.counts t.counts → WorksEarlier polls block s t (is_some place)
+polls_spend exec polls block s t place flies none budget ew h = by s.state.history.sent place refl flies ew h
+  where
+    by : (sent : Option Sent) (p : Option ℕ) → s.state.history.sent ≡ sent → is_flying sent ≡ true → record { now = t.state; place = p } ≡ awaited exec polls s.state
+        → SpentByPolls block polls s.state.hold p s.counts t.counts → WorksEarlier polls block s t (is_some p)
+    by None p e f w k = absurd (cc f)
+    by (Some d) None e f w k = let is = (kept_on exec polls s.state t.state d e w).1 in
+        let looked : t.state.looks ≡ s.state.looks + polls = ap (λ (z : EndsState). z.looks) is in record {
+      counts = k;
+      looks = λ q. (omega (arith, looked, none), ap (λ (z : EndsState). z.budget) is ∙ budget);
+    }
+    by (Some d) (Some n) e f w k = let hold : ℕ = s.state.hold in
+        let lt : hold < polls = below_polls exec s.state d polls n e (ap (λ (a : Awaited exec). a.place) (sym w)) in record {
+      counts = subst (λ (o : Option Sent). SpentByEarlier true (flight_of o hold) polls block s.counts t.counts) (sym e)
+          (spent_as hold (hold + 1) (hold + (block + 6)) hold (hold + 1) (polls + (block + 6)) s.counts t.counts refl refl (omega (arith, lt)) k);
+      looks = λ q. absurd (cc q);
+    }

@@ -2,7 +2,8 @@
 use Rattle.std.specs.Prelude.{◌≡◌, ◌≤◌, ℕ, ◌+◌, ◌*◌, [], ◌∷◌, ◌++◌, Bool, true, false, List, length, Option, Some, None, Result, Ok, OnOk}
 use Rattle.pcc_history.specs.Devices.{Device}
 use Rattle.pcc_journal.specs.declared.text.JournalHead.{JournalHead}
-use Rattle.channel_turns.specs.ChannelRuns.{Call, ChannelStart, ChannelState, InFlight, ScriptClock, answer_call, fresh, post_call}
+use Rattle.channel_turns.specs.ChannelRuns.{Answered, Call, ChannelStart, ChannelState, InFlight, ScriptClock, after_earlier, answer_call, fresh, post_call}
+use Rattle.channel_turns.specs.Replies.{StillPending}
 use Rattle.channel_turns.specs.EndsStates.{EndsState, start_of}
 use Rattle.channel_turns.specs.Outcomes.{IsPlaced, StandsFor}
 use Rattle.pcc_io.specs.declared.items.NoMemory.{NoMemory}
@@ -191,6 +192,36 @@ pub record Stays (old new : EndsState) : Type 0 where
   pub clock : new.clock ≡ old.clock
   pub first : new.first ≡ old.first
   pub opening : new.opening ≡ old.opening
+
+-- ---- the polls for an earlier command
+
+-- the answer after them: what follows where nothing is in flight, else that the earlier command is still pending
+abbrev pub answer_if : Bool → ℕ → (ChannelState → Answered) → ChannelState → Answered
+answer_if true polls follows now = follows now
+answer_if false polls follows now = record { reply = StillPending polls; now = now }
+
+abbrev pub noted_if : Bool → Noted → Noted
+noted_if true n = noted_earlier n.flight n
+noted_if false n = n
+
+-- whatever follows: a call is answered from what the polls left, by whether nothing is in flight then
+pub record HasAwaited (exec : Device) (polls : ℕ) (old new : EndsState) (free : Bool) : Type 0 where
+  pub answered : (follows : ChannelState → Answered) → let now = now_of old in
+    after_earlier (start_of exec old) polls follows now now.in_flight ≡ answer_if free polls follows (now_of new)
+  pub stays : Stays old new
+  pub noted : noted_in new ≡ noted_if free (noted_in old)
+  pub readings : new.taken ≤ old.taken + 1
+
+abbrev pub SpentByEarlier : Bool → Option InFlight → ℕ → ℕ → Counts → Counts → Type 0
+SpentByEarlier true earlier polls block = Spent (earlier_looks earlier) (earlier_turns earlier) (polls + (block + 6))
+SpentByEarlier false earlier polls block = Spent polls polls polls
+
+-- the looks and the counts of these polls, for a block of so many words
+pub record WorksEarlier (polls block : ℕ) (old new : EndsSeen) (free : Bool) : Type 0 where
+  pub counts : SpentByEarlier free (now_of old.state).in_flight polls block old.counts new.counts
+  pub looks : free ≡ false → (new.state.looks ≡ polls) × (new.state.budget ≡ polls)
+
+-- ---- a post
 
 -- nothing was in flight: the call is answered by its post
 pub record IsPosted (exec : Device) (old : EndsState) (call : Call) (new : EndsState) (outcome : Outcome) : Type 0 where

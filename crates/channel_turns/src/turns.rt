@@ -4,7 +4,8 @@ ghost use Rattle.std.specs.Prelude.{◌≡◌, ◌≤◌, ◌<◌, ◌+◌, ◌^
 ghost use Rattle.std.specs.Option.{option_copied};
 ghost use Rattle.pcc_steps.specs.Wires.{IsRight};
 ghost use Rattle.channel_turns.specs.ChannelRuns.{journal_limit, pending_of};
-ghost use Rattle.channel_turns.specs.Calls.{HasPosted, HasWorked, IsAnswered, IsLate, IsPosted, IsRefused, new_channel, waited};
+ghost use Rattle.channel_core.specs.Sendings.{count_flying};
+ghost use Rattle.channel_turns.specs.Calls.{HasAwaited, HasPosted, HasWorked, IsAnswered, IsLate, IsPosted, IsRefused, WorksEarlier, new_channel, waited};
 ghost use Rattle.channel_turns.specs.Counts.{SpentByPoll, SpentByPolls};
 ghost use Rattle.pcc_steps.specs.Wires.{block_of};
 ghost use Rattle.channel_turns.specs.EndsStates.{awaited, rings};
@@ -116,11 +117,33 @@ impl<E: Executor> TurnChannel<E> {
             Err(refusal) => return refused(refusal),
         };
         self.ends.budget(polls);
-        if self.ends.in_flight() && await_reply(&mut self.ends, polls).is_none() {
+        if !await_earlier(&mut self.ends, polls) {
             return Ok(Outcome::StillPending { looks: polls });
         }
         post(&mut self.ends, caller, ready, polls, hold)
     }
+}
+
+// Awaits an earlier command. Whether nothing is in flight then.
+fn await_earlier<E: Executor>(ends: &mut PlainEnds<E>, polls: u32) -> bool
+    requires late { IsLate ends.old.state.history.sent ends.old.state.executed }
+    requires memory { count_flying ends.old.state.history.sent < ends.old.state.history.spare }
+    requires few { length ends.old.state.history.records + ends.old.state.history.spare ≤ 4096 }
+    requires looks { ends.old.state.looks ≡ 0 }
+    requires budget { ends.old.state.budget ≡ polls }
+    requires early { ends.old.state.taken + 1 < 2 ^ 64 }
+    ensures awaited { HasAwaited E.exec_of polls ends.old.state ends.new.state result }
+    ensures worked { WorksEarlier polls (block_of ends.old.state.wiring) ends.old ends.new result }
+    ensures free { result ≡ true → ends.new.state.history.sent ≡ None }
+    ensures late { IsLate ends.new.state.history.sent ends.new.state.executed }
+    ensures memory { result ≡ true → 0 < ends.new.state.history.spare }
+    ensures few { length ends.new.state.history.records + ends.new.state.history.spare ≤ 4096 }
+    ensures budget { ends.new.state.budget ≡ polls }
+{
+    if !ends.in_flight() {
+        return true;
+    }
+    await_reply(ends, polls).is_some()
 }
 
 // Nothing is in flight: posts a command that is made ready, and polls for its reply.
