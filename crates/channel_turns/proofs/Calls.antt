@@ -1,5 +1,5 @@
 -- What a call is answered.
-use Rattle.std.proofs.Common.{◌≡◌, ℕ, ◌+◌, ◌-◌, ◌^◌, ◌<◌, ◌≤◌, max, Bool, true, false, cond, List, [], ◌∷◌, ◌++◌, length, refl, sym, ap, ◌∙◌, subst, arith, length-append}
+use Rattle.std.proofs.Common.{◌≡◌, ℕ, ◌+◌, ◌-◌, ◌^◌, ◌<◌, ◌≤◌, Bool, true, false, List, [], ◌∷◌, ◌++◌, length, refl, sym, ap, ◌∙◌, subst, arith, length-append}
 use Rattle.std.specs.Prelude.{Option, Some, None, Result, Ok, Err, IfOk, OnErr, nat_lt, slice_get}
 use Rattle.std.specs.Option.{is_some}
 use Rattle.std.proofs.lemmas.Bool.Decides.{nat_tests}
@@ -25,11 +25,11 @@ use Rattle.channel_turns.specs.declared.outcome.Outcome.{Outcome}
 use Rattle.channel_turns.specs.declared.outcome.Outcome.TheVariants as outcome
 use Rattle.channel_turns.specs.Replies.{Done, StillPending, TimedOut}
 use Rattle.channel_turns.specs.Outcomes.{StandsFor}
-use Rattle.channel_turns.specs.ChannelRuns.{Answered, Call, ChannelStart, ChannelState, after_earlier, answer_call, answer_unless, completed, count_in_flight, exchange_with, next_reading, post_call, refusal_of, replied}
-use Rattle.channel_turns.specs.EndsStates.{Awaited, EndsState, awaited, awaited_for, budgeted, drained, earliest_post, exchange_in, gave_up, next_sent, posted, reading_of, ready_with, start_of}
+use Rattle.channel_turns.specs.ChannelRuns.{Answered, Call, ChannelStart, ChannelState, after_earlier, answer_call, answer_unless, completed, count_in_flight, next_reading, post_call, refusal_of, replied}
+use Rattle.channel_turns.specs.EndsStates.{Awaited, EndsState, awaited, budgeted, earliest_post, exchange_in, gave_up, next_sent, posted, reading_of, ready_with, start_of}
 use Rattle.channel_turns.specs.Calls.{EndsByPost, HasAwaited, IsAnswered, IsLate, IsPosted, Noted, OpenChannel, Stays, efforts_of, flight_of, note_in, noted_after, noted_earlier, noted_in, answer_if, noted_post, now_of, open_channel}
 use Rattle.channel_turns.specs.Seeing.{EndsSeen}
-use Rattle.channel_turns.proofs.Polls.{above_polls, at_once, below_polls, completes, held_on, stays}
+use Rattle.channel_turns.proofs.Polls.{above_polls, at_once, below_polls, completes, held_on}
 
 -- ---- counts of readings
 
@@ -366,7 +366,8 @@ module _ (exec : Device) (s0 new : EndsSeen) (s1 s2 : EndsState) (c : OpenChanne
       }
 
   pub post_answered : (mid : EndsState) (free : Bool) (result : Result Outcome NoMemory) → open_channel s0 ≡ c → Begun s0.state s1 s2 code bytes polls r
-      → HasAwaited exec polls s2 mid free → free ≡ true → IfOk result (IsPosted exec mid made new.state) → IfOk result (IsAnswered exec c asked (open_channel new))
+      → HasAwaited exec polls s2 mid free → free ≡ true → IfOk result (IsPosted exec mid made new.state)
+      → IfOk result (IsAnswered exec c asked (open_channel new))
   post_answered mid free (Err e) ec b w is h = h
   post_answered mid free (Ok o) ec b w is h = let k = made_of s0.state s1 s2 code bytes polls r b in
       let awaits : HasAwaited exec polls big mid true = subst (λ (z : EndsState × Bool). HasAwaited exec polls z.0 mid z.1) (λ i. (begun_is s0.state s1 s2 code bytes polls r b i, is i)) w in

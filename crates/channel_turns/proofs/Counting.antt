@@ -37,7 +37,8 @@ spent_as l t n l' t' n' a b e f le h = let x = h.steps in record { clears = rise
 turned_wiring : (s : EndsState) → (turned s).now.wiring ≡ s.wiring
 turned_wiring s = by (nat_lt 0 s.hold) (length s.history.records + flying s.executed == journal_limit) (rings s) _ _ _ _ refl refl refl refl
   where
-    by : (a b c : Bool) (p q r u : Turned) → p.now.wiring ≡ s.wiring → q.now.wiring ≡ s.wiring → r.now.wiring ≡ s.wiring → u.now.wiring ≡ s.wiring → (cond a p (cond b q (cond c r u))).now.wiring ≡ s.wiring
+    by : (a b c : Bool) (p q r u : Turned) → p.now.wiring ≡ s.wiring → q.now.wiring ≡ s.wiring → r.now.wiring ≡ s.wiring → u.now.wiring ≡ s.wiring
+        → (cond a p (cond b q (cond c r u))).now.wiring ≡ s.wiring
     by true b c p q r u h k m n = h
     by false true c p q r u h k m n = k
     by false false true p q r u h k m n = m

@@ -11,7 +11,7 @@ use Rattle.channel_turns.specs.EndsStates.{Awaited, EndsState, Looked, Turned, a
 use Rattle.channel_core.specs.declared.answers.Look.{Look}
 use Rattle.channel_core.specs.declared.answers.Look.TheVariants as look
 use Rattle.channel_core.specs.declared.answers.Turn.{Turn}
-use Rattle.channel_turns.proofs.Tellings.{looked_at, taken_by, clear_by}
+use Rattle.channel_turns.proofs.Tellings.{looked_at}
 
 unexecuted : (b : Bool) → not b ≡ true → b ≡ false
 unexecuted true e = absurd (cc e)

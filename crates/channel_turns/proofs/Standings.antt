@@ -35,7 +35,7 @@ use Rattle.channel_core.specs.declared.sent.Sent.{Sent}
 use Rattle.pcc_journal.specs.declared.record.Pending.{Pending}
 use Rattle.channel_turns.specs.EndsStates.{rings_for}
 use Rattle.channel_turns.specs.WordRuns.{AskSteps, AnswerKeeps, HasExecuted, LineWas}
-use Rattle.channel_turns.specs.Standing.{Allows, LinkState, Carries, IsExecutedIn, IsHeadOf, Stands, answerer_of, asker_of, exchange_after, waits}
+use Rattle.channel_turns.specs.Standing.{Allows, LinkState, Carries, IsHeadOf, Stands, answerer_of, asker_of, exchange_after, waits}
 
 -- the doorbell line
 abbrev pub line_at : Bool → ℕ
@@ -74,7 +74,8 @@ not_more xs ys e p q = let l = ap (λ (l : List Exchange). length l) p in let k 
 pub exchanges_more : (rs : List Record) (r : Record) → exchanges_of (rs ++ r ∷ []) ≡ exchanges_of rs ++ exchange_of_record r ∷ []
 exchanges_more rs r = map-append exchange_of_record rs (r ∷ [])
 
-pub state_more : (exec : Device) (state : List ℕ) (xs : List Exchange) (c : Exchange) → state_after exec state (xs ++ c ∷ []) ≡ (exec (state_after exec state xs) c.code c.input).state
+pub state_more : (exec : Device) (state : List ℕ) (xs : List Exchange) (c : Exchange)
+    → state_after exec state (xs ++ c ∷ []) ≡ (exec (state_after exec state xs) c.code c.input).state
 state_more exec state [] c = refl
 state_more exec state (x ∷ xs) c = state_more exec (exec state x.code x.input).state xs c
 
@@ -91,16 +92,19 @@ count_executed true = refl
 count_executed false = refl
 
 -- a command that is made ready changes neither the records nor the command in flight
-readied_by : (o : Option CallRefusal) (old new : CommandHistory) (r : ReadyCommand) (result : Result ReadyCommand CallRefusal) → ReadiedBy o old r new result → (new.records ≡ old.records) × (new.sent ≡ old.sent)
+readied_by : (o : Option CallRefusal) (old new : CommandHistory) (r : ReadyCommand) (result : Result ReadyCommand CallRefusal)
+    → ReadiedBy o old r new result → (new.records ≡ old.records) × (new.sent ≡ old.sent)
 readied_by (Some e) old new r result h = (ap (λ (z : CommandHistory). z.records) h.1, ap (λ (z : CommandHistory). z.sent) h.1)
 readied_by None old new r (Ok made) h = (ap (λ (z : CommandHistory). z.records) h.1, ap (λ (z : CommandHistory). z.sent) h.1)
 readied_by None old new r (Err e) h = (ap (λ (z : CommandHistory). z.records) h.1, ap (λ (z : CommandHistory). z.sent) h.1)
 
-pub readied_keeps : (old new : CommandHistory) (r : ReadyCommand) (result : Result ReadyCommand CallRefusal) → IsReadied old r new result → (new.records ≡ old.records) × (new.sent ≡ old.sent)
+pub readied_keeps : (old new : CommandHistory) (r : ReadyCommand) (result : Result ReadyCommand CallRefusal) → IsReadied old r new result
+    → (new.records ≡ old.records) × (new.sent ≡ old.sent)
 readied_keeps old new r result h = readied_by (refusal_of r.kind r.room r.code (length r.bytes) (posts_of old)) old new r result h
 
 -- the last exchange of a legal history is what the device makes of it
-legal_last : (exec : Device) (reports : Bool) (state : List ℕ) (xs : List Exchange) (c : Exchange) → Legal exec reports state (xs ++ c ∷ []) → c ≡ exchange_of exec reports (state_after exec state xs) c.code c.input
+legal_last : (exec : Device) (reports : Bool) (state : List ℕ) (xs : List Exchange) (c : Exchange) → Legal exec reports state (xs ++ c ∷ [])
+    → c ≡ exchange_of exec reports (state_after exec state xs) c.code c.input
 legal_last exec reports state [] c h = λ i. record { code = c.code; input = c.input; error = h.0 i; output = h.1 i }
 legal_last exec reports state (x ∷ xs) c h = legal_last exec reports (exec state x.code x.input).state xs c h.2
 
@@ -116,24 +120,28 @@ is_flown (Some c) a e h = h.0
 module _ (exec : Device) where
   -- ---- both ends rest
 
-  rests_fit : (start : List ℕ) (x : Asker) (y : Answerer) (c : Core) (f : Bool) → x.m.stage ≡ AskRest → y.m.stage ≡ AnswerRest → x.m.in_flight ≡ f → Agreed exec start x y c → Fits (resting f) quiet x y c
+  rests_fit : (start : List ℕ) (x : Asker) (y : Answerer) (c : Core) (f : Bool) → x.m.stage ≡ AskRest → y.m.stage ≡ AnswerRest → x.m.in_flight ≡ f
+      → Agreed exec start x y c → Fits (resting f) quiet x y c
   rests_fit start x y c f r q e g =
       let h : Fits (resting x.m.in_flight) quiet x y c = subst (λ (z : AskStage × AnswerStage). Fits (pose_at z.0 x.m) (turn_at z.1 y.m) x y c) (λ i. (r i, q i)) g.fits in
       subst (λ (b : Bool). Fits (resting b) quiet x y c) e h
 
   -- nothing is in flight
-  free_line : (start ws : List ℕ) (x : Asker) (y : Answerer) → x.m.stage ≡ AskRest → y.m.stage ≡ AnswerRest → x.m.in_flight ≡ false → Agree exec start ws x y → get_or ws 2 0 ≡ 0
+  free_line : (start ws : List ℕ) (x : Asker) (y : Answerer) → x.m.stage ≡ AskRest → y.m.stage ≡ AnswerRest → x.m.in_flight ≡ false
+      → Agree exec start ws x y → get_or ws 2 0 ≡ 0
   free_line start ws x y r q e g = ap (λ (l : List ℕ). get_or l 2 0) g.1.1 ∙ (rests_fit start x y g.0 false r q e g.1.2).1.line
 
   -- a command is in flight that isn't executed: the line is up
-  rung_line : (start ws : List ℕ) (x : Asker) (y : Answerer) → x.m.stage ≡ AskRest → y.m.stage ≡ AnswerRest → x.m.in_flight ≡ true → y.done ≡ x.done → Agree exec start ws x y → get_or ws 2 0 ≡ 1
+  rung_line : (start ws : List ℕ) (x : Asker) (y : Answerer) → x.m.stage ≡ AskRest → y.m.stage ≡ AnswerRest → x.m.in_flight ≡ true → y.done ≡ x.done
+      → Agree exec start ws x y → get_or ws 2 0 ≡ 1
   rung_line start ws x y r q e h g = ap (λ (l : List ℕ). get_or l 2 0) g.1.1
       ∙ ⊎_elim (λ (w : Row x.m.wiring x.m.code y.done g.0 closed 1 x.m.sent x.done). w.line)
       (λ (d : (o : Bool × List ℕ) × IsDone (flight x) y.done g.0 o.0 o.1). absurd (not_more x.done y.done (answered (flight x) d.0.0 d.0.1) h d.1.row.done))
       (rests_fit start x y g.0 true r q e g.1.2)
 
   -- it is executed
-  done_is : (start ws : List ℕ) (x : Asker) (y : Answerer) → x.m.stage ≡ AskRest → y.m.stage ≡ AnswerRest → x.m.in_flight ≡ true → length y.done ≡ length x.done + 1 → (g : Agree exec start ws x y) → (o : Bool × List ℕ) × IsDone (flight x) y.done g.0 o.0 o.1
+  done_is : (start ws : List ℕ) (x : Asker) (y : Answerer) → x.m.stage ≡ AskRest → y.m.stage ≡ AnswerRest → x.m.in_flight ≡ true
+      → length y.done ≡ length x.done + 1 → (g : Agree exec start ws x y) → (o : Bool × List ℕ) × IsDone (flight x) y.done g.0 o.0 o.1
   done_is start ws x y r q e h g = ⊎_elim (λ (w : Row x.m.wiring x.m.code y.done g.0 closed 1 x.m.sent x.done). absurd (longer w.done))
       (λ (d : (o : Bool × List ℕ) × IsDone (flight x) y.done g.0 o.0 o.1). d)
       (rests_fit start x y g.0 true r q e g.1.2)
@@ -141,15 +149,18 @@ module _ (exec : Device) where
       longer : y.done ≡ x.done → ⊥
       longer p = let l = ap (λ (l : List Exchange). length l) p in omega (arith, l, h)
 
-  done_line : (start ws : List ℕ) (x : Asker) (y : Answerer) → x.m.stage ≡ AskRest → y.m.stage ≡ AnswerRest → x.m.in_flight ≡ true → length y.done ≡ length x.done + 1 → Agree exec start ws x y → get_or ws 2 0 ≡ 0
+  done_line : (start ws : List ℕ) (x : Asker) (y : Answerer) → x.m.stage ≡ AskRest → y.m.stage ≡ AnswerRest → x.m.in_flight ≡ true
+      → length y.done ≡ length x.done + 1 → Agree exec start ws x y → get_or ws 2 0 ≡ 0
   done_line start ws x y r q e h g = let d = done_is start ws x y r q e h g in ap (λ (l : List ℕ). get_or l 2 0) g.1.1 ∙ d.1.row.line
 
-  done_word : (start ws : List ℕ) (x : Asker) (y : Answerer) → x.m.stage ≡ AskRest → y.m.stage ≡ AnswerRest → x.m.in_flight ≡ true → length y.done ≡ length x.done + 1 → Agree exec start ws x y → sees_done x.m.wiring (get_or ws 0 0) ≡ true
+  done_word : (start ws : List ℕ) (x : Asker) (y : Answerer) → x.m.stage ≡ AskRest → y.m.stage ≡ AnswerRest → x.m.in_flight ≡ true
+      → length y.done ≡ length x.done + 1 → Agree exec start ws x y → sees_done x.m.wiring (get_or ws 0 0) ≡ true
   done_word start ws x y r q e h g = let d = done_is start ws x y r q e h g in let w : Wiring = x.m.wiring in let ok = g.1.2.ask_ok in
       ap (sees_done w) (ap (λ (l : List ℕ). get_or l 0 0) g.1.1) ∙ finished_set (style_of w) w x.m.code g.0.completion d.0.0 ok.id ok.code d.1.row.completion
 
   -- what the answering end has executed
-  done_reply : (start ws : List ℕ) (x : Asker) (y : Answerer) → x.m.stage ≡ AskRest → y.m.stage ≡ AnswerRest → x.m.in_flight ≡ true → length y.done ≡ length x.done + 1 → Agree exec start ws x y
+  done_reply : (start ws : List ℕ) (x : Asker) (y : Answerer) → x.m.stage ≡ AskRest → y.m.stage ≡ AnswerRest → x.m.in_flight ≡ true
+      → length y.done ≡ length x.done + 1 → Agree exec start ws x y
       → y.done ≡ x.done ++ exchange_of exec x.m.wiring.reports (state_after exec start x.done) x.m.code x.m.input ∷ []
   done_reply start ws x y r q e h g = let d = done_is start ws x y r q e h g in let c : Exchange = answered (flight x) d.0.0 d.0.1 in let p : y.done ≡ x.done ++ c ∷ [] = d.1.row.done in
       p ∙ ap (λ (z : Exchange). x.done ++ z ∷ []) (legal_last exec x.m.wiring.reports start x.done c (subst (Legal exec x.m.wiring.reports start) p g.1.2.legal))

@@ -19,7 +19,7 @@ use Rattle.channel_core.specs.declared.sent.Sent.{Sent}
 use Rattle.channel_core.specs.CommandHistory.{CommandHistory, drained_by, marked_done, marked_post}
 use Rattle.channel_core.specs.Readings.{counted}
 use Rattle.channel_core.specs.Readying.{ReadyCommand, sent_by}
-use Rattle.channel_core.specs.Sendings.{command_of, is_flying, is_given_up, is_late, note_of, record_of}
+use Rattle.channel_core.specs.Sendings.{command_of, is_flying, is_given_up, note_of, record_of}
 use Rattle.pcc_steps.specs.declared.ask.AskOutcome.TheVariants.{Posted, Clear, Drained}
 use Rattle.pcc_steps.specs.Asking.{ask_begun, ask_looking}
 use Rattle.channel_turns.specs.ChannelRuns.{journal_limit}

@@ -42,7 +42,8 @@ joined earlier caller code code' polls hold m bytes bytes' a s new o em h k = by
     le : polls + (m + 6) + (polls + 2 * m + 13) ≤ 2 * polls + 3 * m + 24
     le = omega arith
 
-    sum : (l t : ℕ) → Spent l t (polls + 2 * m + 13) s.counts new.counts → Spent (earlier_looks earlier + l) (earlier_turns earlier + t) (2 * polls + 3 * m + 24) a new.counts
+    sum : (l t : ℕ) → Spent l t (polls + 2 * m + 13) s.counts new.counts
+        → Spent (earlier_looks earlier + l) (earlier_turns earlier + t) (2 * polls + 3 * m + 24) a new.counts
     sum l t q = spent_as (earlier_looks earlier + l) (earlier_turns earlier + t) (polls + (m + 6) + (polls + 2 * m + 13)) (earlier_looks earlier + l) (earlier_turns earlier + t) (2 * polls + 3 * m + 24) a new.counts refl refl le
         (spent_again (earlier_looks earlier) (earlier_turns earlier) (polls + (m + 6)) l t (polls + 2 * m + 13) a s.counts new.counts h q)
 
@@ -114,7 +115,8 @@ pub polls_spend : (exec : Device) (polls block : ℕ) (s t : EndsSeen) (place : 
     → SpentByPolls block polls s.state.hold place s.counts t.counts → WorksEarlier polls block s t (is_some place)
 polls_spend exec polls block s t place flies none budget ew h = by s.state.history.sent place refl flies ew h
   where
-    by : (sent : Option Sent) (p : Option ℕ) → s.state.history.sent ≡ sent → is_flying sent ≡ true → record { now = t.state; place = p } ≡ awaited exec polls s.state
+    by : (sent : Option Sent) (p : Option ℕ) → s.state.history.sent ≡ sent → is_flying sent ≡ true
+        → record { now = t.state; place = p } ≡ awaited exec polls s.state
         → SpentByPolls block polls s.state.hold p s.counts t.counts → WorksEarlier polls block s t (is_some p)
     by None p e f w k = absurd (cc f)
     by (Some d) None e f w k = let is = (kept_on exec polls s.state t.state d e w).1 in

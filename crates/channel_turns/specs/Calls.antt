@@ -94,7 +94,7 @@ noted_earlier None n = n
 noted_earlier (Some f) n = record { notes = n.notes ++ record f { done_at = n.taken } ∷ []; flight = None; taken = n.taken + 1 }
 
 -- Nothing is in flight: a call that is done took the readings of its post and of its completion. One that timed out took that of its post, and gave
--- its command up after so many looks. One that is too soon took one reading.
+-- its command up after all its looks. One that is too soon took one reading.
 abbrev pub noted_post : Outcome → Noted → Noted
 noted_post (outcome.Done place) n =
     record n { notes = n.notes ++ record { post_at = n.taken; done_at = n.taken + 1; looks = 0 } ∷ []; taken = n.taken + 2 }
@@ -113,7 +113,7 @@ noted_after o n = noted_post o (noted_earlier n.flight n)
 abbrev pub start_by : Device → OpenChannel → ChannelStart
 start_by exec c = record { head = c.head; clock = c.clock; device = exec; state = c.state; opening = c.opening }
 
--- what became of a call stands for its answer, which leaves the channel as it is, but for what the channel has done; and its notes
+-- the outcome of a call means its answer, which leaves the channel as it is now, but for its efforts; and the notes of the call
 pub record IsAnswered (exec : Device) (old : OpenChannel) (call : Call) (new : OpenChannel) (outcome : Outcome) : Type 0 where
   pub told : let a = answer_call (start_by exec old) call old.now in StandsFor a.now.records outcome a.reply
   pub left : new ≡ record old { now = (answer_call (start_by exec old) call old.now).now; efforts = new.efforts }
@@ -216,7 +216,7 @@ abbrev pub SpentByEarlier : Bool → Option InFlight → ℕ → ℕ → Counts 
 SpentByEarlier true earlier polls block = Spent (earlier_looks earlier) (earlier_turns earlier) (polls + (block + 6))
 SpentByEarlier false earlier polls block = Spent polls polls polls
 
--- the looks and the counts of these polls, for a block of so many words
+-- the looks and the counts of these polls, by the words of the block
 pub record WorksEarlier (polls block : ℕ) (old new : EndsSeen) (free : Bool) : Type 0 where
   pub counts : SpentByEarlier free (now_of old.state).in_flight polls block old.counts new.counts
   pub looks : free ≡ false → (new.state.looks ≡ polls) × (new.state.budget ≡ polls)

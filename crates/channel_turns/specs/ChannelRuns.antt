@@ -64,7 +64,7 @@ fresh start = record { object = record { state = start.state; space = start.open
 abbrev pub next_reading : ChannelStart → ChannelState → ℕ
 next_reading start now = line_reading start.clock.start start.clock.step now.added now.taken
 
--- a journal has so many records at most
+-- the records of a journal at most
 abbrev pub journal_limit : ℕ
 journal_limit = MAX_ITEMS
 
@@ -80,6 +80,9 @@ pub record Call : Type 0 where
   pub bytes : List ℕ
   pub polls : ℕ
   pub hold : ℕ
+
+abbrev pub call_by : ℕ → ℕ → List ℕ → ℕ → ℕ → Call
+call_by caller code bytes polls hold = record { caller = caller; code = code; bytes = bytes; polls = polls; hold = hold }
 
 -- what a line is answered, and how it leaves the channel
 pub record Answered : Type 0 where

@@ -17,7 +17,6 @@ use Rattle.channel_core.specs.declared.answers.Look.{Look}
 use Rattle.channel_core.specs.declared.answers.Look.TheVariants as look
 use Rattle.channel_core.specs.declared.answers.Turn.{Turn}
 use Rattle.channel_core.specs.declared.answers.Turn.TheVariants as turn
-use Rattle.channel_core.specs.declared.caller.Reading.{Reading}
 use Rattle.channel_core.specs.declared.sent.Sent.{Sent}
 use Rattle.channel_turns.specs.ChannelRuns.{ChannelStart, ScriptClock, journal_limit}
 

@@ -39,16 +39,14 @@ pub struct PlainEnds<E: Executor> {
 }
 
 impl<E: Executor> Model for PlainEnds<E> {
-    ghost use Rattle.channel_core.specs.Sendings.{command_of};
-    ghost use Rattle.channel_turns.specs.EndsStates.{EndsState};
-    ghost use Rattle.channel_turns.specs.Seeing.{EndsSeen, IsKept};
-    ghost use Rattle.channel_turns.specs.Standing.{Stands, seen};
+    ghost use Rattle.channel_turns.specs.Seeing.{EndsSeen, IsConnected, IsKept, ends_seen};
 
     ghost Value = { EndsSeen };
 
-    ghost view = { λ s. record { state = seen E.exec_of s.head s.caller.clock s.start.value.device s.start.value.ask.space s.link s.history s.executed s.hold; counts = record { clears = s.clears; turns = s.turns; steps = s.link.ask.steps } } };
+    ghost view = { λ s. ends_seen E.exec_of s.head s.caller.clock s.start.value s.link s.history s.executed s.hold s.clears s.turns };
 
-    ghost invariant = { λ s. Stands E.exec_of s.head s.start.value.device s.start.value.ask.space E.is_state E.room_of s.link s.history.records (command_of s.history.sent) s.executed × IsKept s.head s.caller.limits s.caller.clock s.caller.readings };
+    ghost invariant = { λ s. IsConnected E.exec_of E.is_state E.room_of s.head s.start.value s.link s.history s.executed
+        × IsKept s.head s.caller.limits s.caller.clock s.caller.readings };
 }
 
 impl<E: Executor> PlainEnds<E> {
@@ -113,7 +111,7 @@ impl<E: Executor> PlainEnds<E> {
         self.history.pending()
     }
 
-    /// The space that came back last, at first the opening space.
+    /// The space of the last reply, at first the opening space.
     pub fn space(&self) -> &[u8]
         ensures { result.now ≡ self.now.state.object.space }
     {
@@ -142,7 +140,7 @@ impl<E: Executor> PlainEnds<E> {
     }
 
     /// Takes all memory of one more command: for its input, its reply and its record. A code above 255 on types 0 to 2, more bytes than the space
-    /// has, and 4,096 posts are refused, in this order. All then stands.
+    /// has, and 4,096 posts are refused, in this order, and change nothing.
     pub fn ready(&mut self, alloc: Global, code: u32, bytes: &[u8]) -> Result<Ready, CallRefusal>
         ensures readied { IsReadied self.old.state.history (ready_with self.old.state code bytes.now) self.new.state.history result }
         ensures most { length self.new.state.history.records + self.new.state.history.spare ≤ MAX_ITEMS }
@@ -169,8 +167,8 @@ impl<E: Executor> PlainEnds<E> {
         self.link.budget(polls);
     }
 
-    /// Posts a command that is made ready, at the next reading. Where that is below the earliest that the limits allow, it is too soon, and the
-    /// clock alone has moved.
+    /// Posts a command that is made ready, at the next reading. A reading below the earliest that the limits allow is too soon, and changes
+    /// nothing else.
     pub fn post(&mut self, caller: u32, ready: Ready) -> Result<(), CallRefusal>
         requires free { self.old.state.history.sent ≡ None }
         requires budget { self.old.state.budget ≢ 0 }
@@ -179,7 +177,9 @@ impl<E: Executor> PlainEnds<E> {
         requires spare { 0 < self.old.state.history.spare }
         ensures state { MatchResult result
             (λ _. (earliest_post self.old.state ≤ reading_of self.old.state) × (self.new.state ≡ posted caller ready self.old.state))
-            (λ e. (reading_of self.old.state < earliest_post self.old.state) × (e ≡ refusal.TooSoon (reading_of self.old.state) (earliest_post self.old.state)) × (self.new.state ≡ read_once self.old.state)) }
+            (λ e. (reading_of self.old.state < earliest_post self.old.state)
+                × (e ≡ refusal.TooSoon (reading_of self.old.state) (earliest_post self.old.state))
+                × (self.new.state ≡ read_once self.old.state)) }
         ensures counts { Spent 0 0 (block_of self.old.state.wiring + 7) self.old.counts self.new.counts }
     {
         let at = self.caller.clock.now();
@@ -232,7 +232,7 @@ impl<E: Executor> PlainEnds<E> {
         self.history.mark_late(self.link.ask().looks());
     }
 
-    /// Holds the next command for so many turns of the answering end.
+    /// Holds the next command for this number of turns of the answering end.
     pub fn hold(&mut self, turns: u32)
         ensures state { self.new.state ≡ record self.old.state { hold = turns } }
         ensures counts { self.new.counts ≡ self.old.counts }
@@ -272,7 +272,7 @@ impl<E: Executor> PlainEnds<E> {
         }
     }
 
-    /// Moves the clock up by so many microseconds.
+    /// Moves the clock up by n microseconds.
     pub fn wait(&mut self, n: u64)
         ensures state { self.new.state ≡ waited n self.old.state }
         ensures counts { self.new.counts ≡ self.old.counts }

@@ -2,12 +2,11 @@
 
 ghost use Rattle.std.specs.Prelude.{◌≡◌, ◌≤◌, ◌<◌, ◌+◌, ◌^◌, true, None, length, IfOk, OnErr};
 ghost use Rattle.std.specs.Option.{option_copied};
-ghost use Rattle.pcc_steps.specs.Wires.{IsRight};
-ghost use Rattle.channel_turns.specs.ChannelRuns.{journal_limit, pending_of};
+ghost use Rattle.pcc_steps.specs.Wires.{IsRight, block_of};
+ghost use Rattle.channel_turns.specs.ChannelRuns.{call_by, journal_limit, pending_of};
 ghost use Rattle.channel_core.specs.Sendings.{count_flying};
 ghost use Rattle.channel_turns.specs.Calls.{HasAwaited, HasPosted, HasWorked, IsAnswered, IsLate, IsPosted, IsRefused, WorksEarlier, new_channel, waited};
 ghost use Rattle.channel_turns.specs.Counts.{SpentByPoll, SpentByPolls};
-ghost use Rattle.pcc_steps.specs.Wires.{block_of};
 ghost use Rattle.channel_turns.specs.EndsStates.{awaited, rings};
 ghost use Rattle.channel_turns.specs.Outcomes.{IsPlaced};
 ghost use Rattle.channel_turns.specs.Standing.{IsHeadOf};
@@ -83,15 +82,15 @@ impl<E: Executor> TurnChannel<E> {
         self.ends.pending()
     }
 
-    /// Moves the clock up by so many microseconds.
+    /// Moves the clock up by n microseconds.
     pub fn wait(&mut self, n: u64)
         ensures { self.new ≡ waited n self.old }
     {
         self.ends.wait(n);
     }
 
-    /// Makes a call of a caller: a command of this code, whose input is the space with the bytes laid over its front, with so many polls from 1
-    /// to 1,000,000, held for so many turns of the answering end. It is answered as a line of a run. A command is executed in its call
+    /// Makes a call of a caller: a command of this code, whose input is the space with the bytes laid over its front, with a number of polls
+    /// from 1 to 1,000,000, held for some turns of the answering end. It is answered as a line of a run. A command is executed in its call
     /// exactly when its hold is below its polls; the rest of the hold is left for the next call.
     pub fn call(
         &mut self,
@@ -105,8 +104,8 @@ impl<E: Executor> TurnChannel<E> {
         requires polls { 0 < polls }
         requires most { polls ≤ 1000000 }
         requires early { self.old.now.taken < 2 ^ 63 }
-        ensures answered { IfOk result (IsAnswered E.exec_of self.old (record { caller = caller; code = code; bytes = bytes.now; polls = polls; hold = hold }) self.new) }
-        ensures worked { IfOk result (HasWorked (record { caller = caller; code = code; bytes = bytes.now; polls = polls; hold = hold }) self.old self.new) }
+        ensures answered { IfOk result (IsAnswered E.exec_of self.old (call_by caller code bytes.now polls hold) self.new) }
+        ensures worked { IfOk result (HasWorked (call_by caller code bytes.now polls hold) self.old self.new) }
         ensures placed { IfOk result (IsPlaced (length self.new.now.records)) }
         ensures readings { self.new.now.taken ≤ self.old.now.taken + 3 }
         ensures head { self.new.head ≡ self.old.head }
@@ -162,8 +161,8 @@ fn post<E: Executor>(
     requires polls { 0 < polls }
     requires budget { ends.old.state.budget ≡ polls }
     requires early { ends.old.state.taken + 2 < 2 ^ 64 }
-    ensures answered { IfOk result (IsPosted E.exec_of ends.old.state (record { caller = caller; code = ready.code; bytes = ready.bytes; polls = polls; hold = hold }) ends.new.state) }
-    ensures worked { IfOk result (HasPosted (record { caller = caller; code = ready.code; bytes = ready.bytes; polls = polls; hold = hold }) ends.old ends.new) }
+    ensures answered { IfOk result (IsPosted E.exec_of ends.old.state (call_by caller ready.code ready.bytes polls hold) ends.new.state) }
+    ensures worked { IfOk result (HasPosted (call_by caller ready.code ready.bytes polls hold) ends.old ends.new) }
     ensures late { IsLate ends.new.state.history.sent ends.new.state.executed }
     ensures err { OnErr result ⊥ }
 {
@@ -184,7 +183,7 @@ fn post<E: Executor>(
     }
 }
 
-// A turn and a look, until the command in flight is drained or so many looks are made. The place of its record, where it is drained.
+// Polls, each a turn and a look, until the command in flight is drained or all are made. The place of its record, where it is drained.
 fn await_reply<E: Executor>(ends: &mut PlainEnds<E>, polls: u32) -> Option<u32>
     requires rings { rings ends.old.state ≡ true }
     requires few { length ends.old.state.history.records < 4096 }
@@ -216,7 +215,7 @@ fn poll<E: Executor>(ends: &mut PlainEnds<E>) -> Option<u32>
     }
 }
 
-// What a refused command makes of its call.
+// The outcome of a call whose command is refused.
 fn refused(refusal: CallRefusal) -> Result<Outcome, NoMemory>
     ensures { IsRefused refusal result }
 {

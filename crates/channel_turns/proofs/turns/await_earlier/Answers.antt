@@ -1,10 +1,9 @@
-use Rattle.std.proofs.Common.{rules, ◌≡◌, true, false, Bool, sym, subst, ap, ◌∙◌}
-use Rattle.std.specs.Option.{is_some}
+use Rattle.std.proofs.Common.{rules, ◌≡◌, true, Bool, sym, subst, ◌∙◌}
 use Rattle.pcc_steps.specs.Wires.{block_of}
 use Rattle.channel_core.specs.Sendings.{is_flying}
 use Rattle.channel_turns.specs.Seeing.{EndsSeen}
 use Rattle.channel_turns.specs.Calls.{HasAwaited, WorksEarlier}
-use Rattle.channel_turns.proofs.Calls.{Left, polls_awaited, polls_left}
+use Rattle.channel_turns.proofs.Calls.{polls_awaited, polls_left}
 use Rattle.channel_turns.proofs.Working.{polls_spend}
 use Rattle.channel_turns.proofs.turns.await_earlier.Goals as goal
 
