@@ -5,6 +5,10 @@ use Rattle.std.specs.Prelude.{◌≡◌, ◌<◌, ℕ, ◌+◌, ◌-◌, ◌^◌
 abbrev pub counted : ℕ → ℕ
 counted n = min (n + 1) (2 ^ 64 - 1)
 
+-- the time that was added to a clock, and more of it: at most the greatest number of 128 bits
+abbrev pub more_time : ℕ → ℕ → ℕ
+more_time n added = min (added + n) (2 ^ 128 - 1)
+
 -- a clock, by what it has taken and what it tells, gives its next reading
 pub record Reads {K : Type 0} (taken : K → ℕ) (tells : K → ℕ → Option ℕ) (old new : K) (at : ℕ) : Type 0 where
   pub count : taken new ≡ counted (taken old)

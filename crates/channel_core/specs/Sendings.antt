@@ -15,9 +15,12 @@ command_of None = None
 command_of (Some c) = Some c.command
 
 -- the reading at which it was posted
+abbrev pub posted_at : Option Pending → Option ℕ
+posted_at None = None
+posted_at (Some p) = Some p.post
+
 abbrev pub post_of : Option Sent → Option ℕ
-post_of None = None
-post_of (Some c) = Some c.command.post
+post_of sent = posted_at (command_of sent)
 
 abbrev pub count_flying : Option Sent → ℕ
 count_flying None = 0
@@ -39,11 +42,13 @@ abbrev pub given_up_after : ℕ → Option Sent → Option Sent
 given_up_after looks None = None
 given_up_after looks (Some c) = Some (record c { note = record c.note { looks = first_looks c.note.looks looks } })
 
--- its record, by what came back and the reading at which that was seen
+-- the record of a command, by the error and the space that came back, the reading at which that was seen, and whether it was given up before
+abbrev pub recorded : Pending → Bool → List ℕ → ℕ → Bool → Record
+recorded p error output done late =
+    record { caller = p.caller; code = p.code; input = p.input; error = error; output = output; post = p.post; done = done; late = late }
+
 abbrev pub record_of : Sent → Bool → List ℕ → ℕ → Record
-record_of c error output done =
-    let p = c.command in
-    record { caller = p.caller; code = p.code; input = p.input; error = error; output = output; post = p.post; done = done; late = is_late c }
+record_of c error output done = recorded c.command error output done (is_late c)
 
 -- its note, with the number of that reading
 abbrev pub note_of : Sent → ℕ → Note

@@ -14,9 +14,10 @@ use Rattle.rate_limit.specs.RateLimits.{WithinLimits, earliest_of}
 use Rattle.rate_limit.proofs.Law.{exact as post_exact, completed as completion_keeps}
 use Rattle.std.proofs.lemmas.Bool.{ltb-false}
 use Rattle.channel_core.specs.Refusals as refusals
+use Rattle.channel_core.specs.Sendings.{recorded}
 use Rattle.channel_core.specs.declared.answers.CallRefusal.TheVariants as refusal
 use Rattle.channel_turns.specs.Replies.{Reply, BadCode, TooLong, JournalFull}
-use Rattle.channel_turns.specs.ChannelRuns.{Answered, Call, ChannelStart, ChannelState, InFlight, after_post, answer_behind, answer_call, answer_unless, completed, count_in_flight, exchange_with, fresh, journal_limit, next_reading, post_call, post_of, record_of, refusal_of, replied}
+use Rattle.channel_turns.specs.ChannelRuns.{Answered, Call, ChannelStart, ChannelState, InFlight, after_post, answer_call, answer_unless, completed, count_in_flight, exchange_with, fresh, journal_limit, next_reading, post_call, post_of, refusal_of, replied, after_earlier}
 use Rattle.channel_headline.specs.Lines.{is_post}
 
 -- ---- histories that grow
@@ -89,7 +90,7 @@ completed_records : (start : ChannelStart) (command : Pending) (late : Bool) (no
     → let next = completed start command late now in Recorded start next.records next.object (asked ++ bytes ∷ [])
 completed_records start command late now asked bytes h e =
     let x : Exchange = exchange_with start command now in
-    let r : Record = record_of command x (next_reading start now) late in
+    let r : Record = recorded command x.error x.output (next_reading start now) late in
     let xs : List Exchange = exchanges_of now.records in
     let c : Exchange = exchange_of_record r in
     let more : exchanges_of (now.records ++ r ∷ []) ≡ xs ++ c ∷ [] = exchanges_of-more now.records r in
@@ -111,7 +112,8 @@ completed_records start command late now asked bytes h e =
 completed_within : (start : ChannelStart) (command : Pending) (late : Bool) (now : ChannelState) → WithinLimits start.head.limits (times_of now.records) (Some command.post)
     → WithinLimits start.head.limits (times_of (completed start command late now).records) None
 completed_within start command late now w =
-    let r : Record = record_of command (exchange_with start command now) (next_reading start now) late in
+    let x : Exchange = exchange_with start command now in
+    let r : Record = recorded command x.error x.output (next_reading start now) late in
     let same : times_of (now.records ++ r ∷ []) ≡ times_of now.records ++ times_of_record r ∷ [] = map-append times_of_record now.records (r ∷ []) in
     let P : List Times → Type 0 = λ v. WithinLimits start.head.limits v None in
     subst P (sym same) (completion_keeps start.head.limits (times_of now.records) (times_of_record r) w)
@@ -141,7 +143,7 @@ post_call_keeps start call now asked h none w =
     after_post_keeps start call command later asked h refl ((post_exact start.head.limits (times_of now.records) reading w).1 in_time))
 
 behind_keeps : (start : ChannelStart) (call : Call) (now : ChannelState) (o : Option InFlight) (asked : List (List ℕ)) → now.in_flight ≡ o → Kept start now asked
-    → let a = answer_behind start call now o in Kept start a.now (asked ++ added_by a.reply call.bytes)
+    → let a = after_earlier start call.polls (post_call start call) now o in Kept start a.now (asked ++ added_by a.reply call.bytes)
 behind_keeps start call now None asked e h =
     let P : Option InFlight → Type 0 = λ o. IsWaiting now.object.space o h.waiting in
     let none : h.waiting ≡ [] = subst P e h.flight in

@@ -11,7 +11,9 @@ use Rattle.pcc_journal.specs.declared.note.Note.{Note}
 use Rattle.pcc_journal.specs.Records.{times_of, times_of_record}
 use Rattle.pcc_journal.specs.Events.{Event, Drained, Completed, Noted, NotedPending, completed_of, events_of, noted, noted_pending, post_count}
 use Rattle.pcc_journal.proofs.EventsGrow.{drained as events_drained, noted_last, post_count-append}
-use Rattle.channel_turns.specs.ChannelRuns.{Call, ChannelStart, ChannelState, InFlight, completed, count_in_flight, exchange_with, next_reading, pending_of, post_of, record_of}
+use Rattle.pcc_history.specs.Channel.{Exchange}
+use Rattle.channel_core.specs.Sendings.{recorded}
+use Rattle.channel_turns.specs.ChannelRuns.{Call, ChannelStart, ChannelState, InFlight, completed, count_in_flight, exchange_with, next_reading, pending_of, post_of}
 use Rattle.channel_turns.specs.Replies.{Reply}
 use Rattle.channel_headline.specs.After.{After, IsRead, IsReading, Rise, after_event, after_events, before_all, numbers_in}
 use Rattle.channel_headline.specs.Causes.{AllCaused, HasCause, Terms}
@@ -87,7 +89,8 @@ drained_at start s now p n events flight h =
     let k : ℕ = length s.readings in
     let v : ℕ = reading_at start.clock s k in
     let t : Terms = terms_of start in
-    let r : Record = record_of p.command (exchange_with start p.command now) (next_reading start now) true in
+    let x : Exchange = exchange_with start p.command now in
+    let r : Record = recorded p.command x.error x.output (next_reading start now) true in
     let note : Note = record n { done_at = k } in
     let en : Noted = record { entry = r; note = note } in
     let pn : NotedPending = record { command = p.command; note = n } in

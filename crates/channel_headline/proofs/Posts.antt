@@ -15,9 +15,10 @@ use Rattle.pcc_journal.specs.Records.{times_of, times_of_record}
 use Rattle.pcc_journal.specs.Events.{Event, Answered as AnsweredEvent, Drained, Lost, Noted, NotedPending, completed_of, events_of, noted, post_count, posted_of, posted_of_pending}
 use Rattle.pcc_journal.proofs.EventsGrow.{last as events_last, noted_last, posted as events_posted, post_count-append}
 use Rattle.channel_core.specs.Refusals as refusals
+use Rattle.channel_core.specs.Sendings.{recorded}
 use Rattle.channel_core.specs.declared.answers.CallRefusal.TheVariants as refusal
 use Rattle.channel_turns.specs.Replies.{Reply, Done, BadCode, TooLong, JournalFull, StillPending, TooSoon, TimedOut}
-use Rattle.channel_turns.specs.ChannelRuns.{Answered, Call, ChannelStart, ChannelState, InFlight, answer_behind, answer_call, answer_unless, completed, count_in_flight, exchange_with, journal_limit, next_reading, post_call, record_of}
+use Rattle.channel_turns.specs.ChannelRuns.{Answered, Call, ChannelStart, ChannelState, InFlight, answer_call, answer_unless, completed, count_in_flight, exchange_with, journal_limit, next_reading, post_call, after_earlier}
 use Rattle.channel_headline.specs.After.{After, IsReading, after_event, after_events, before_all, numbers_in}
 use Rattle.channel_headline.specs.Causes.{AllCaused, IsBlocked, IsFull, IsTooSoon, Past, Terms}
 use Rattle.channel_headline.specs.ChannelLog.{ChannelLog, drained, line_of, logged, reading_at, with_drained, with_reply}
@@ -57,7 +58,7 @@ answered_point start call now s events passes room h =
     let k : ℕ = length s.readings in
     let v : ℕ = reading_at start.clock s k in
     let w : ℕ = reading_at start.clock s (k + 1) in
-    let r : Record = record_of command x (next_reading start later) false in
+    let r : Record = recorded command x.error x.output (next_reading start later) false in
     let note : Note = record { post_at = k; done_at = k + 1; looks = 0 } in
     let en : Noted = record { entry = r; note = note } in
     let ns : List Noted = noted now.records s.notes in
@@ -223,7 +224,7 @@ post_reached start call now s events none passes room h =
     (λ _. choose Good (nat_lt call.hold call.polls) _ _ (answered_point start call now d events passes room h) (timed_out_point start call now (call.hold - call.polls) d events passes room h))
 
 behind_reached : (start : ChannelStart) (call : Call) (now : ChannelState) (o : Option InFlight) (s : ChannelLog) (events : List Event) → now.in_flight ≡ o → Passes start call → post_count events < MAX_ITEMS
-    → Point start s now o events → let a = answer_behind start call now o in Reached start (logged start.clock call a.reply s) a.now a.now.in_flight
+    → Point start s now o events → let a = after_earlier start call.polls (post_call start call) now o in Reached start (logged start.clock call a.reply s) a.now a.now.in_flight
 behind_reached start call now None s events is passes room h =
     let P : Option Note → Type 0 = λ f. Point start (with_drained start.clock s f) now None events in
     let none : s.flight ≡ None = both_none s.flight h.pair in

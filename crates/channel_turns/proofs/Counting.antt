@@ -7,7 +7,8 @@ use Rattle.channel_core.specs.declared.answers.Look.{Look}
 use Rattle.channel_core.specs.declared.answers.Look.TheVariants as look
 use Rattle.channel_core.specs.declared.answers.Turn.{Turn}
 use Rattle.channel_turns.specs.ChannelRuns.{journal_limit}
-use Rattle.channel_turns.specs.EndsStates.{EndsState, Turned, count_waiting, rings, turned}
+use Rattle.pcc_steps.specs.Agree.{flying}
+use Rattle.channel_turns.specs.EndsStates.{EndsState, Turned, rings, turned}
 use Rattle.channel_turns.specs.Counts.{Counts, Rises, Spent, SpentByPoll}
 use Rattle.channel_turns.specs.Seeing.{SpentByLook}
 use Rattle.channel_turns.proofs.Polls.{place_of}
@@ -34,16 +35,18 @@ spent_as l t n l' t' n' a b e f le h = let x = h.steps in record { clears = rise
 -- ---- a turn keeps the wiring
 
 turned_wiring : (s : EndsState) → (turned s).now.wiring ≡ s.wiring
-turned_wiring s = by (nat_lt 0 s.hold) (length s.records + count_waiting s.sent == journal_limit) (rings s.sent) _ _ _ _ refl refl refl refl
+turned_wiring s = by (nat_lt 0 s.hold) (length s.history.records + flying s.executed == journal_limit) (rings s) _ _ _ _ refl refl refl refl
   where
-    by : (a b c : Bool) (p q r u : Turned) → p.now.wiring ≡ s.wiring → q.now.wiring ≡ s.wiring → r.now.wiring ≡ s.wiring → u.now.wiring ≡ s.wiring → (cond a p (cond b q (cond c r u))).now.wiring ≡ s.wiring
+    by : (a b c : Bool) (p q r u : Turned) → p.now.wiring ≡ s.wiring → q.now.wiring ≡ s.wiring → r.now.wiring ≡ s.wiring → u.now.wiring ≡ s.wiring
+        → (cond a p (cond b q (cond c r u))).now.wiring ≡ s.wiring
     by true b c p q r u h k m n = h
     by false true c p q r u h k m n = k
     by false false true p q r u h k m n = m
     by false false false p q r u h k m n = n
 
 -- a turn and a look
-pub poll_spends : (s t : EndsState) (said : Turn) (told : Look) (a b c : Counts) → record { now = t; told = said } ≡ turned s → Spent 0 1 0 a b → SpentByLook (block_of t.wiring) told b c → SpentByPoll (block_of s.wiring) (place_of told) a c
+pub poll_spends : (s t : EndsState) (said : Turn) (told : Look) (a b c : Counts) → record { now = t; told = said } ≡ turned s → Spent 0 1 0 a b
+    → SpentByLook (block_of t.wiring) told b c → SpentByPoll (block_of s.wiring) (place_of told) a c
 poll_spends s t said told a b c e h k = by told (subst (λ (w : Wiring). SpentByLook (block_of w) told b c) (ap (λ (z : Turned). z.now.wiring) e ∙ turned_wiring s) k)
   where
     drains : (m : ℕ) → Spent 0 0 (m + 6) b c → Spent 0 1 (m + 6) a c
@@ -58,7 +61,8 @@ poll_spends s t said told a b c e h k = by told (subst (λ (w : Wiring). SpentBy
 pub polls_more : (i : ℕ) (a b c : Counts) → Spent i i i a b → Spent 1 1 1 b c → Spent (i + 1) (i + 1) (i + 1) a c
 polls_more i a b c h k = spent_again i i i 1 1 1 a b c h k
 
-pub polls_end : (block i hold : ℕ) (a b c : Counts) → hold ≡ i → Spent i i i a b → Spent 0 1 (block + 6) b c → Spent hold (hold + 1) (hold + (block + 6)) a c
+pub polls_end : (block i hold : ℕ) (a b c : Counts) → hold ≡ i → Spent i i i a b → Spent 0 1 (block + 6) b c
+    → Spent hold (hold + 1) (hold + (block + 6)) a c
 polls_end block i hold a b c e h k = subst (λ (n : ℕ). Spent n (n + 1) (n + (block + 6)) a c) (sym e) (let z : i + 0 ≡ i = omega arith in spent_as (i + 0) (i + 1) (i + (block + 6)) i (i + 1) (i + (block + 6)) a c z refl (omega arith) (spent_again i i i 0 1 (block + 6) a b c h k))
 
 pub polls_stop : (i polls : ℕ) (a b : Counts) → i ≤ polls → polls ≤ i → Spent i i i a b → Spent polls polls polls a b

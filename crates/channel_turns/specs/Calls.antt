@@ -1,13 +1,17 @@
 -- A channel that is called in one thread, and what a call makes of it.
-use Rattle.std.specs.Prelude.{◌≡◌, ◌≤◌, ℕ, ◌+◌, ◌-◌, ◌*◌, ◌^◌, [], min, true, false, List, length, Option, Some, None, Result, Ok, OnOk}
+use Rattle.std.specs.Prelude.{◌≡◌, ◌≤◌, ℕ, ◌+◌, ◌*◌, [], ◌∷◌, ◌++◌, Bool, true, false, List, length, Option, Some, None, Result, Ok, OnOk}
 use Rattle.pcc_history.specs.Devices.{Device}
 use Rattle.pcc_journal.specs.declared.text.JournalHead.{JournalHead}
-use Rattle.channel_turns.specs.ChannelRuns.{Call, ChannelStart, ChannelState, InFlight, ScriptClock, answer_call, fresh, post_call}
-use Rattle.channel_turns.specs.EndsStates.{EndsState, Sent, is_lost, start_of}
+use Rattle.channel_turns.specs.ChannelRuns.{Answered, Call, ChannelStart, ChannelState, InFlight, ScriptClock, after_earlier, answer_call, fresh, post_call}
+use Rattle.channel_turns.specs.Replies.{StillPending}
+use Rattle.channel_turns.specs.EndsStates.{EndsState, start_of}
 use Rattle.channel_turns.specs.Outcomes.{IsPlaced, StandsFor}
 use Rattle.pcc_io.specs.declared.items.NoMemory.{NoMemory}
+use Rattle.channel_core.specs.Readings.{more_time}
+use Rattle.channel_core.specs.Sendings.{is_late}
 use Rattle.channel_core.specs.declared.answers.CallRefusal.{CallRefusal}
 use Rattle.channel_core.specs.declared.answers.CallRefusal.TheVariants as refusal
+use Rattle.channel_core.specs.declared.sent.Sent.{Sent}
 use Rattle.pcc_journal.specs.declared.note.Note.{Note}
 use Rattle.pcc_steps.specs.declared.wiring.Wiring.{Wiring}
 use Rattle.pcc_steps.specs.Wires.{block_of}
@@ -42,30 +46,78 @@ flight_of None hold = None
 flight_of (Some c) hold = Some (record { command = c.command; left = hold })
 
 abbrev pub now_of : EndsState → ChannelState
-now_of s = record { object = s.object; records = s.records; in_flight = flight_of s.sent s.hold; taken = s.taken; added = s.added }
+now_of s = record { object = s.object; records = s.history.records; in_flight = flight_of s.history.sent s.hold; taken = s.taken; added = s.added }
 
 abbrev pub note_in : Option Sent → Option Note
 note_in None = None
 note_in (Some c) = Some c.note
 
 abbrev pub efforts_of : EndsSeen → Efforts
-efforts_of e = let s = e.state in record { counts = e.counts; looks = s.looks; budget = s.budget; notes = s.notes; note = note_in s.sent }
+efforts_of e =
+    let s = e.state in record { counts = e.counts; looks = s.looks; budget = s.budget; notes = s.history.notes; note = note_in s.history.sent }
 
 abbrev pub open_channel : EndsSeen → OpenChannel
-open_channel e = let s = e.state in record { head = s.head; wiring = s.wiring; clock = s.clock; state = s.first; opening = s.opening; now = now_of s; efforts = efforts_of e }
+open_channel e =
+    let s = e.state in
+    record {
+      head = s.head;
+      wiring = s.wiring;
+      clock = s.clock;
+      state = s.first;
+      opening = s.opening;
+      now = now_of s;
+      efforts = efforts_of e;
+    }
 
 -- between two calls a command in flight was given up, and is not executed yet
-abbrev pub IsLate : Option Sent → Type 0
-IsLate None = Unit {0}
-IsLate (Some c) = (c.executed ≡ false) × (is_lost c ≡ true)
+abbrev pub IsLate : Option Sent → Bool → Type 0
+IsLate None executed = Unit {0}
+IsLate (Some c) executed = (executed ≡ false) × (is_late c ≡ true)
+
+-- ---- the notes that a call makes
+
+-- the notes beside the records, that of the command in flight, and the number of readings that were taken
+pub record Noted : Type 0 where
+  pub notes : List Note
+  pub flight : Option Note
+  pub taken : ℕ
+
+abbrev pub noted_in : EndsState → Noted
+noted_in s = record { notes = s.history.notes; flight = note_in s.history.sent; taken = s.taken }
+
+abbrev pub noted_of : OpenChannel → Noted
+noted_of c = record { notes = c.efforts.notes; flight = c.efforts.note; taken = c.now.taken }
+
+-- a command in flight completes at the next reading
+abbrev pub noted_earlier : Option Note → Noted → Noted
+noted_earlier None n = n
+noted_earlier (Some f) n = record { notes = n.notes ++ record f { done_at = n.taken } ∷ []; flight = None; taken = n.taken + 1 }
+
+-- Nothing is in flight: a call that is done took the readings of its post and of its completion. One that timed out took that of its post, and gave
+-- its command up after all its looks. One that is too soon took one reading.
+abbrev pub noted_post : Outcome → Noted → Noted
+noted_post (outcome.Done place) n =
+    record n { notes = n.notes ++ record { post_at = n.taken; done_at = n.taken + 1; looks = 0 } ∷ []; taken = n.taken + 2 }
+noted_post (outcome.TimedOut looks) n = record n { flight = Some (record { post_at = n.taken; done_at = 0; looks = looks }); taken = n.taken + 1 }
+noted_post (outcome.TooSoon now earliest) n = record n { taken = n.taken + 1 }
+noted_post _ n = n
+
+-- an earlier command completes before a post; no other call takes a reading
+abbrev pub noted_after : Outcome → Noted → Noted
+noted_after (outcome.BadCode code) n = n
+noted_after (outcome.TooLong len room) n = n
+noted_after outcome.JournalFull n = n
+noted_after (outcome.StillPending looks) n = n
+noted_after o n = noted_post o (noted_earlier n.flight n)
 
 abbrev pub start_by : Device → OpenChannel → ChannelStart
 start_by exec c = record { head = c.head; clock = c.clock; device = exec; state = c.state; opening = c.opening }
 
--- what became of a call stands for its answer, which leaves the channel as it is, but for what the channel has done
+-- the outcome of a call means its answer, which leaves the channel as it is now, but for its efforts; and the notes of the call
 pub record IsAnswered (exec : Device) (old : OpenChannel) (call : Call) (new : OpenChannel) (outcome : Outcome) : Type 0 where
   pub told : let a = answer_call (start_by exec old) call old.now in StandsFor a.now.records outcome a.reply
   pub left : new ≡ record old { now = (answer_call (start_by exec old) call old.now).now; efforts = new.efforts }
+  pub noted : noted_of new ≡ noted_after outcome (noted_of old)
 
 -- ---- what a call does
 
@@ -110,8 +162,14 @@ HasLooked polls new (outcome.TimedOut looks) = (new.looks ≡ polls) × (new.bud
 HasLooked polls new (outcome.StillPending looks) = (new.looks ≡ polls) × (new.budget ≡ polls)
 HasLooked polls new _ = Unit {0}
 
+-- the word steps of a call at most
+abbrev pub most_steps : Call → ℕ → ℕ
+most_steps call block = 2 * call.polls + 3 * block + 24
+
 pub record HasWorked (call : Call) (old new : OpenChannel) (o : Outcome) : Type 0 where
-  pub counts : Spent (clear_looks old.now.in_flight call o) (turns_made old.now.in_flight call o) (2 * call.polls + 3 * block_of old.wiring + 24) old.efforts.counts new.efforts.counts
+  pub counts :
+    let earlier = old.now.in_flight in
+    Spent (clear_looks earlier call o) (turns_made earlier call o) (most_steps call (block_of old.wiring)) old.efforts.counts new.efforts.counts
   pub looks : HasLooked call.polls new.efforts o
 
 -- what a call without an earlier command ends with: done, timed out, or too soon
@@ -135,15 +193,47 @@ pub record Stays (old new : EndsState) : Type 0 where
   pub first : new.first ≡ old.first
   pub opening : new.opening ≡ old.opening
 
+-- ---- the polls for an earlier command
+
+-- the answer after them: what follows where nothing is in flight, else that the earlier command is still pending
+abbrev pub answer_if : Bool → ℕ → (ChannelState → Answered) → ChannelState → Answered
+answer_if true polls follows now = follows now
+answer_if false polls follows now = record { reply = StillPending polls; now = now }
+
+abbrev pub noted_if : Bool → Noted → Noted
+noted_if true n = noted_earlier n.flight n
+noted_if false n = n
+
+-- whatever follows: a call is answered from what the polls left, by whether nothing is in flight then
+pub record HasAwaited (exec : Device) (polls : ℕ) (old new : EndsState) (free : Bool) : Type 0 where
+  pub answered : (follows : ChannelState → Answered) → let now = now_of old in
+    after_earlier (start_of exec old) polls follows now now.in_flight ≡ answer_if free polls follows (now_of new)
+  pub stays : Stays old new
+  pub noted : noted_in new ≡ noted_if free (noted_in old)
+  pub readings : new.taken ≤ old.taken + 1
+
+abbrev pub SpentByEarlier : Bool → Option InFlight → ℕ → ℕ → Counts → Counts → Type 0
+SpentByEarlier true earlier polls block = Spent (earlier_looks earlier) (earlier_turns earlier) (polls + (block + 6))
+SpentByEarlier false earlier polls block = Spent polls polls polls
+
+-- the looks and the counts of these polls, by the words of the block
+pub record WorksEarlier (polls block : ℕ) (old new : EndsSeen) (free : Bool) : Type 0 where
+  pub counts : SpentByEarlier free (now_of old.state).in_flight polls block old.counts new.counts
+  pub looks : free ≡ false → (new.state.looks ≡ polls) × (new.state.budget ≡ polls)
+
+-- ---- a post
+
 -- nothing was in flight: the call is answered by its post
 pub record IsPosted (exec : Device) (old : EndsState) (call : Call) (new : EndsState) (outcome : Outcome) : Type 0 where
   pub told : let a = post_call (start_of exec old) call (now_of old) in StandsFor a.now.records outcome a.reply
   pub left : now_of new ≡ (post_call (start_of exec old) call (now_of old)).now
   pub stays : Stays old new
-  pub placed : IsPlaced (length new.records) outcome
+  pub placed : IsPlaced (length new.history.records) outcome
   pub readings : new.taken ≤ old.taken + 2
+  pub noted : noted_in new ≡ noted_post outcome (noted_in old)
+  pub ends : EndsByPost outcome
 
--- what is told of a refusal
+-- what a refusal makes of a call
 abbrev pub IsRefused : CallRefusal → Result Outcome NoMemory → Type 0
 IsRefused (refusal.BadCode code) result = result ≡ Ok (outcome.BadCode code)
 IsRefused (refusal.TooLong len room) result = result ≡ Ok (outcome.TooLong len room)
@@ -169,4 +259,4 @@ new_channel exec head wiring start step state opening =
 
 -- the clock is moved up
 abbrev pub waited : ℕ → OpenChannel → OpenChannel
-waited n c = record c { now = record c.now { added = min (c.now.added + n) (2 ^ 128 - 1) } }
+waited n c = record c { now = record c.now { added = more_time n c.now.added } }

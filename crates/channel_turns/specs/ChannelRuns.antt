@@ -11,6 +11,7 @@ use Rattle.pcc_journal.specs.declared.record.Pending.{Pending}
 use Rattle.pcc_journal.specs.declared.text.JournalHead.{JournalHead}
 use Rattle.pcc_journal.specs.Records.{times_of}
 use Rattle.channel_core.specs.Refusals as refusals
+use Rattle.channel_core.specs.Sendings.{posted_at, recorded}
 use Rattle.channel_core.specs.declared.answers.CallRefusal.{CallRefusal}
 use Rattle.channel_core.specs.declared.answers.CallRefusal.TheVariants as refusal
 use Rattle.channel_turns.specs.Replies.{Reply, Done, BadCode, TooLong, JournalFull, StillPending, TooSoon, TimedOut}
@@ -41,8 +42,7 @@ pending_of (Some p) = Some p.command
 
 -- the reading at which the command in flight was posted
 abbrev pub post_of : Option InFlight → Option ℕ
-post_of None = None
-post_of (Some p) = Some p.command.post
+post_of in_flight = posted_at (pending_of in_flight)
 
 -- what changes: the channel, the records, the command in flight, how many readings its clock gave, and the time that was added to the clock
 pub record ChannelState : Type 0 where
@@ -64,7 +64,7 @@ fresh start = record { object = record { state = start.state; space = start.open
 abbrev pub next_reading : ChannelStart → ChannelState → ℕ
 next_reading start now = line_reading start.clock.start start.clock.step now.added now.taken
 
--- a journal has so many records at most
+-- the records of a journal at most
 abbrev pub journal_limit : ℕ
 journal_limit = MAX_ITEMS
 
@@ -80,6 +80,9 @@ pub record Call : Type 0 where
   pub bytes : List ℕ
   pub polls : ℕ
   pub hold : ℕ
+
+abbrev pub call_by : ℕ → ℕ → List ℕ → ℕ → ℕ → Call
+call_by caller code bytes polls hold = record { caller = caller; code = code; bytes = bytes; polls = polls; hold = hold }
 
 -- what a line is answered, and how it leaves the channel
 pub record Answered : Type 0 where
@@ -107,21 +110,17 @@ refusal_of head call now = replied (refusals.refusal_of head.kind head.room call
 abbrev pub exchange_with : ChannelStart → Pending → ChannelState → Exchange
 exchange_with start command now = exchange_of start.device start.head.reports now.object.state command.code command.input
 
-abbrev pub record_of : Pending → Exchange → ℕ → Bool → Record
-record_of command x done late =
-    record { caller = command.caller; code = command.code; input = command.input; error = x.error; output = x.output; post = command.post; done = done; late = late }
-
 -- the device executes a posted command; the next reading is its completion, and it is recorded
 abbrev pub completed : ChannelStart → Pending → Bool → ChannelState → ChannelState
-completed start command late now = record {
+completed start command late now = let x = exchange_with start command now in record {
   object = object_after start.device now.object.state command.code command.input;
-  records = now.records ++ record_of command (exchange_with start command now) (next_reading start now) late ∷ [];
+  records = now.records ++ recorded command x.error x.output (next_reading start now) late ∷ [];
   in_flight = None;
   taken = now.taken + 1;
   added = now.added;
 }
 
--- a posted command is executed in its call exactly where its hold is below the polls
+-- a posted command is executed in its call exactly when its hold is below the polls
 abbrev pub after_post : ChannelStart → Call → Pending → ChannelState → Answered
 after_post start call command now =
     if nat_lt call.hold call.polls then (
@@ -138,16 +137,17 @@ post_call start call now =
     if nat_lt reading earliest then record { reply = TooSoon reading earliest; now = later }
     else after_post start call (record { caller = call.caller; code = call.code; input = over now.object.space call.bytes; post = reading }) later
 
--- an earlier command is completed first, exactly where what is left of its hold is below the polls
-abbrev pub answer_behind : ChannelStart → Call → ChannelState → Option InFlight → Answered
-answer_behind start call now None = post_call start call now
-answer_behind start call now (Some p) =
-    if nat_lt p.left call.polls then post_call start call (completed start p.command true now)
-    else record { reply = StillPending call.polls; now = record now { in_flight = Some (record p { left = p.left - call.polls }) } }
+-- An earlier command is completed first, exactly when the rest of its hold is below the polls: then the call is answered by what follows once nothing
+-- is in flight. Else the earlier command is still pending.
+abbrev pub after_earlier : ChannelStart → ℕ → (ChannelState → Answered) → ChannelState → Option InFlight → Answered
+after_earlier start polls follows now None = follows now
+after_earlier start polls follows now (Some p) =
+    if nat_lt p.left polls then follows (completed start p.command true now)
+    else record { reply = StillPending polls; now = record now { in_flight = Some (record p { left = p.left - polls }) } }
 
 abbrev pub answer_unless : ChannelStart → Call → ChannelState → Option Reply → Answered
 answer_unless start call now (Some refusal) = record { reply = refusal; now = now }
-answer_unless start call now None = answer_behind start call now now.in_flight
+answer_unless start call now None = after_earlier start call.polls (post_call start call) now now.in_flight
 
 abbrev pub answer_call : ChannelStart → Call → ChannelState → Answered
 answer_call start call now = answer_unless start call now (refusal_of start.head call now)

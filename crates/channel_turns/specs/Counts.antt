@@ -9,11 +9,11 @@ pub record Counts : Type 0 where
   -- the word steps of the asking end
   pub steps : ℕ
 
--- a count, which stands still at the greatest u64, has risen by so many
+-- a count, which stays at the greatest u64, has risen by n
 abbrev pub Rises : ℕ → ℕ → ℕ → Type 0
 Rises n old new = old + n < 2 ^ 64 → new ≡ old + n
 
--- so many looks saw clear, so many turns were made, and so many word steps of the asking end at most
+-- looks that saw clear, turns, and word steps of the asking end at most
 pub record Spent (seen made most : ℕ) (old new : Counts) : Type 0 where
   pub clears : Rises seen old.clears new.clears
   pub turns : Rises made old.turns new.turns
@@ -24,7 +24,7 @@ abbrev pub SpentByPoll : ℕ → Option ℕ → Counts → Counts → Type 0
 SpentByPoll block None = Spent 1 1 1
 SpentByPoll block (Some place) = Spent 0 1 (block + 6)
 
--- so many polls for a command that is held for so many turns
+-- polls for a command that is held for some turns
 abbrev pub SpentByPolls : ℕ → ℕ → ℕ → Option ℕ → Counts → Counts → Type 0
 SpentByPolls block polls hold None = Spent polls polls polls
 SpentByPolls block polls hold (Some place) = Spent hold (hold + 1) (hold + (block + 6))

@@ -5,11 +5,13 @@ ghost use Rattle.std.specs.Prelude.{◌≡◌, ◌≢◌, ◌≤◌, ◌<◌, �
 ghost use Rattle.std.specs.Option.{option_copied};
 ghost use Rattle.pcc_journal.specs.declared.reserved.TheConstants.{MAX_ITEMS};
 ghost use Rattle.pcc_steps.specs.Wires.{IsRight, block_of};
-ghost use Rattle.channel_turns.specs.EndsStates.{IsReadied, budgeted, command_of, count_waiting, drained, earliest_post, gave_up, is_flying, is_given_up, looked, new_ends, posted, read_once, reading_of, turned, waited};
+ghost use Rattle.channel_core.specs.Readying.{IsReadied};
+ghost use Rattle.channel_core.specs.Sendings.{command_of, is_flying, is_given_up};
+ghost use Rattle.channel_core.specs.declared.answers.CallRefusal.TheVariants as refusal;
+ghost use Rattle.channel_turns.specs.EndsStates.{budgeted, earliest_post, gave_up, looked, new_ends, posted, read_once, reading_of, ready_with, turned, waited};
 ghost use Rattle.channel_turns.specs.Counts.{Spent};
 ghost use Rattle.channel_turns.specs.Seeing.{SpentByLook, nothing_spent};
-ghost use Rattle.channel_turns.specs.Standing.{IsHeadOf, sent_of};
-ghost use Rattle.channel_core.specs.declared.answers.CallRefusal.TheVariants as refusal;
+ghost use Rattle.channel_turns.specs.Standing.{IsHeadOf};
 
 use crate::link::Link;
 use channel_core::{CallRefusal, Caller, History, Look, Ready, Turn, make_ready, too_soon};
@@ -29,7 +31,7 @@ pub struct PlainEnds<E: Executor> {
     start: Snapshot<Link<E>>,
     caller: Caller<LineClock>,
     history: History,
-    // Whether the command in flight is executed.
+    // Whether the command in flight is executed; no, where nothing is in flight.
     executed: bool,
     hold: u32,
     clears: u64,
@@ -37,15 +39,14 @@ pub struct PlainEnds<E: Executor> {
 }
 
 impl<E: Executor> Model for PlainEnds<E> {
-    ghost use Rattle.channel_turns.specs.EndsStates.{EndsState};
-    ghost use Rattle.channel_turns.specs.Seeing.{EndsSeen, IsKept};
-    ghost use Rattle.channel_turns.specs.Standing.{Stands, seen, sent_of};
+    ghost use Rattle.channel_turns.specs.Seeing.{EndsSeen, IsConnected, IsKept, ends_seen};
 
     ghost Value = { EndsSeen };
 
-    ghost view = { λ s. record { state = seen E.exec_of s.head s.caller.clock s.start.value.device s.start.value.ask.space s.link s.history s.executed s.hold; counts = record { clears = s.clears; turns = s.turns; steps = s.link.ask.steps } } };
+    ghost view = { λ s. ends_seen E.exec_of s.head s.caller.clock s.start.value s.link s.history s.executed s.hold s.clears s.turns };
 
-    ghost invariant = { λ s. Stands E.exec_of s.head s.start.value.device s.start.value.ask.space E.is_state E.room_of s.link s.history.records (sent_of s.history.sent s.executed) × IsKept s.head s.caller.limits s.caller.clock s.caller.readings };
+    ghost invariant = { λ s. IsConnected E.exec_of E.is_state E.room_of s.head s.start.value s.link s.history s.executed
+        × IsKept s.head s.caller.limits s.caller.clock s.caller.readings };
 }
 
 impl<E: Executor> PlainEnds<E> {
@@ -89,8 +90,8 @@ impl<E: Executor> PlainEnds<E> {
 
     /// The records of the commands that were drained, in order.
     pub fn journal(&self) -> &Journal
-        ensures items { result.now.items ≡ self.now.state.records }
-        ensures spare { result.now.spare ≡ self.now.state.spare }
+        ensures items { result.now.items ≡ self.now.state.history.records }
+        ensures spare { result.now.spare ≡ self.now.state.history.spare }
         ensures most { length result.now.items + result.now.spare ≤ MAX_ITEMS }
     {
         self.history.journal()
@@ -98,19 +99,19 @@ impl<E: Executor> PlainEnds<E> {
 
     /// The notes beside the records.
     pub fn notes(&self) -> &Notes
-        ensures { result.now.items ≡ self.now.state.notes }
+        ensures { result.now.items ≡ self.now.state.history.notes }
     {
         self.history.notes()
     }
 
     /// The command in flight.
     pub fn pending(&self) -> Option<&Pending>
-        ensures { option_copied result ≡ command_of self.now.state.sent }
+        ensures { option_copied result ≡ command_of self.now.state.history.sent }
     {
         self.history.pending()
     }
 
-    /// The space that came back last, at first the opening space.
+    /// The space of the last reply, at first the opening space.
     pub fn space(&self) -> &[u8]
         ensures { result.now ≡ self.now.state.object.space }
     {
@@ -119,14 +120,14 @@ impl<E: Executor> PlainEnds<E> {
 
     /// Whether a command is in flight: posted, and not yet drained.
     pub fn in_flight(&self) -> bool
-        ensures { result ≡ is_flying self.now.state.sent }
+        ensures { result ≡ is_flying self.now.state.history.sent }
     {
         self.history.in_flight()
     }
 
     /// Whether a command is in flight that was given up.
     pub fn given_up(&self) -> bool
-        ensures { result ≡ is_given_up self.now.state.sent }
+        ensures { result ≡ is_given_up self.now.state.history.sent }
     {
         self.history.given_up()
     }
@@ -139,9 +140,11 @@ impl<E: Executor> PlainEnds<E> {
     }
 
     /// Takes all memory of one more command: for its input, its reply and its record. A code above 255 on types 0 to 2, more bytes than the space
-    /// has, and 4,096 posts are refused, in this order. All then stands.
+    /// has, and 4,096 posts are refused, in this order, and change nothing.
     pub fn ready(&mut self, alloc: Global, code: u32, bytes: &[u8]) -> Result<Ready, CallRefusal>
-        ensures state { IsReadied self.old.state code bytes.now self.new.state result }
+        ensures readied { IsReadied self.old.state.history (ready_with self.old.state code bytes.now) self.new.state.history result }
+        ensures most { length self.new.state.history.records + self.new.state.history.spare ≤ MAX_ITEMS }
+        ensures rest { self.new.state ≡ record self.old.state { history = self.new.state.history } }
         ensures counts { self.new.counts ≡ self.old.counts }
     {
         make_ready(
@@ -164,17 +167,19 @@ impl<E: Executor> PlainEnds<E> {
         self.link.budget(polls);
     }
 
-    /// Posts a command that is made ready, at the next reading. Where that is below the earliest that the limits allow, it is too soon, and the
-    /// clock alone has moved.
+    /// Posts a command that is made ready, at the next reading. A reading below the earliest that the limits allow is too soon, and changes
+    /// nothing else.
     pub fn post(&mut self, caller: u32, ready: Ready) -> Result<(), CallRefusal>
-        requires free { self.old.state.sent ≡ None }
+        requires free { self.old.state.history.sent ≡ None }
         requires budget { self.old.state.budget ≢ 0 }
         requires kind { ready.kind ≡ self.old.state.head.kind }
         requires room { ready.room ≡ self.old.state.head.room }
-        requires spare { 0 < self.old.state.spare }
+        requires spare { 0 < self.old.state.history.spare }
         ensures state { MatchResult result
             (λ _. (earliest_post self.old.state ≤ reading_of self.old.state) × (self.new.state ≡ posted caller ready self.old.state))
-            (λ e. (reading_of self.old.state < earliest_post self.old.state) × (e ≡ refusal.TooSoon (reading_of self.old.state) (earliest_post self.old.state)) × (self.new.state ≡ read_once self.old.state)) }
+            (λ e. (reading_of self.old.state < earliest_post self.old.state)
+                × (e ≡ refusal.TooSoon (reading_of self.old.state) (earliest_post self.old.state))
+                × (self.new.state ≡ read_once self.old.state)) }
         ensures counts { Spent 0 0 (block_of self.old.state.wiring + 7) self.old.counts self.new.counts }
     {
         let at = self.caller.clock.now();
@@ -191,7 +196,7 @@ impl<E: Executor> PlainEnds<E> {
 
     /// Makes one look for the command in flight. Where it is complete, the reply is taken at the next reading and recorded.
     pub fn look(&mut self) -> Look
-        requires flies { is_flying self.old.state.sent ≡ true }
+        requires flies { is_flying self.old.state.history.sent ≡ true }
         requires left { self.old.state.looks < self.old.state.budget }
         ensures state { record { now = self.new.state; told = result } ≡ looked E.exec_of self.old.state }
         ensures counts { SpentByLook (block_of self.old.state.wiring) result self.old.counts self.new.counts }
@@ -210,6 +215,7 @@ impl<E: Executor> PlainEnds<E> {
                 let place = self
                     .history
                     .mark_done(error, self.link.ask().space(), &done);
+                self.executed = false;
                 Look::Drained { place, late }
             }
             AskOutcome::Posted => unreachable!(),
@@ -218,7 +224,7 @@ impl<E: Executor> PlainEnds<E> {
 
     /// Gives the command in flight up, once the budget is spent: its record will say that it was late.
     pub fn give_up(&mut self)
-        requires flies { is_flying self.old.state.sent ≡ true }
+        requires flies { is_flying self.old.state.history.sent ≡ true }
         requires spent { self.old.state.looks ≡ self.old.state.budget }
         ensures state { self.new.state ≡ gave_up self.old.state }
         ensures counts { self.new.counts ≡ self.old.counts }
@@ -226,7 +232,7 @@ impl<E: Executor> PlainEnds<E> {
         self.history.mark_late(self.link.ask().looks());
     }
 
-    /// Holds the next command for so many turns of the answering end.
+    /// Holds the next command for this number of turns of the answering end.
     pub fn hold(&mut self, turns: u32)
         ensures state { self.new.state ≡ record self.old.state { hold = turns } }
         ensures counts { self.new.counts ≡ self.old.counts }
@@ -254,7 +260,7 @@ impl<E: Executor> PlainEnds<E> {
         ensures state { record { now = self.new.state; told = result } ≡ turned self.old.state }
         ensures counts { self.new.counts ≡ self.old.counts }
     {
-        if self.history.journal().len() + count_waiting(&self.history, self.executed) == MAX_ITEMS {
+        if self.history.journal().len() + usize::from(self.executed) == MAX_ITEMS {
             return Turn::JournalFull;
         }
         match self.link.answer() {
@@ -266,22 +272,11 @@ impl<E: Executor> PlainEnds<E> {
         }
     }
 
-    /// Moves the clock up by so many microseconds.
+    /// Moves the clock up by n microseconds.
     pub fn wait(&mut self, n: u64)
         ensures state { self.new.state ≡ waited n self.old.state }
         ensures counts { self.new.counts ≡ self.old.counts }
     {
         self.caller.clock.add(n);
     }
-}
-
-// The commands that are executed and not drained.
-#[tactic(auto, using(crate::proofs::Standings::count_flown, crate::proofs::Standings::count_free))]
-fn count_waiting(history: &History, executed: bool) -> usize
-    ensures { result ≡ count_waiting (sent_of history.now.sent executed) }
-{
-    if history.in_flight() {
-        return usize::from(executed);
-    }
-    0
 }

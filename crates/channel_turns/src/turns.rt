@@ -2,11 +2,11 @@
 
 ghost use Rattle.std.specs.Prelude.{◌≡◌, ◌≤◌, ◌<◌, ◌+◌, ◌^◌, true, None, length, IfOk, OnErr};
 ghost use Rattle.std.specs.Option.{option_copied};
-ghost use Rattle.pcc_steps.specs.Wires.{IsRight};
-ghost use Rattle.channel_turns.specs.ChannelRuns.{journal_limit, pending_of};
-ghost use Rattle.channel_turns.specs.Calls.{HasPosted, HasWorked, IsAnswered, IsLate, IsPosted, IsRefused, new_channel, waited};
+ghost use Rattle.pcc_steps.specs.Wires.{IsRight, block_of};
+ghost use Rattle.channel_turns.specs.ChannelRuns.{call_by, journal_limit, pending_of};
+ghost use Rattle.channel_core.specs.Sendings.{count_flying};
+ghost use Rattle.channel_turns.specs.Calls.{HasAwaited, HasPosted, HasWorked, IsAnswered, IsLate, IsPosted, IsRefused, WorksEarlier, new_channel, waited};
 ghost use Rattle.channel_turns.specs.Counts.{SpentByPoll, SpentByPolls};
-ghost use Rattle.pcc_steps.specs.Wires.{block_of};
 ghost use Rattle.channel_turns.specs.EndsStates.{awaited, rings};
 ghost use Rattle.channel_turns.specs.Outcomes.{IsPlaced};
 ghost use Rattle.channel_turns.specs.Standing.{IsHeadOf};
@@ -34,7 +34,7 @@ impl<E: Executor> Model for TurnChannel<E> {
 
     ghost view = { λ c. open_channel c.ends };
 
-    ghost invariant = { λ c. IsLate c.ends.state.sent };
+    ghost invariant = { λ c. IsLate c.ends.state.history.sent c.ends.state.executed };
 }
 
 impl<E: Executor> TurnChannel<E> {
@@ -82,16 +82,16 @@ impl<E: Executor> TurnChannel<E> {
         self.ends.pending()
     }
 
-    /// Moves the clock up by so many microseconds.
+    /// Moves the clock up by n microseconds.
     pub fn wait(&mut self, n: u64)
         ensures { self.new ≡ waited n self.old }
     {
         self.ends.wait(n);
     }
 
-    /// Makes a call of a caller: a command of this code, whose input is the space with the bytes laid over its front, with so many polls from 1
-    /// to 1,000,000, held for so many turns of the answering end. It is answered as a line of a run. A command is executed in its call
-    /// exactly where its hold is below its polls; what is left of the hold stands for the next call.
+    /// Makes a call of a caller: a command of this code, whose input is the space with the bytes laid over its front, with a number of polls
+    /// from 1 to 1,000,000, held for some turns of the answering end. It is answered as a line of a run. A command is executed in its call
+    /// exactly when its hold is below its polls; the rest of the hold is left for the next call.
     pub fn call(
         &mut self,
         alloc: Global,
@@ -104,8 +104,8 @@ impl<E: Executor> TurnChannel<E> {
         requires polls { 0 < polls }
         requires most { polls ≤ 1000000 }
         requires early { self.old.now.taken < 2 ^ 63 }
-        ensures answered { IfOk result (IsAnswered E.exec_of self.old (record { caller = caller; code = code; bytes = bytes.now; polls = polls; hold = hold }) self.new) }
-        ensures worked { IfOk result (HasWorked (record { caller = caller; code = code; bytes = bytes.now; polls = polls; hold = hold }) self.old self.new) }
+        ensures answered { IfOk result (IsAnswered E.exec_of self.old (call_by caller code bytes.now polls hold) self.new) }
+        ensures worked { IfOk result (HasWorked (call_by caller code bytes.now polls hold) self.old self.new) }
         ensures placed { IfOk result (IsPlaced (length self.new.now.records)) }
         ensures readings { self.new.now.taken ≤ self.old.now.taken + 3 }
         ensures head { self.new.head ≡ self.old.head }
@@ -116,11 +116,33 @@ impl<E: Executor> TurnChannel<E> {
             Err(refusal) => return refused(refusal),
         };
         self.ends.budget(polls);
-        if self.ends.in_flight() && await_reply(&mut self.ends, polls).is_none() {
+        if !await_earlier(&mut self.ends, polls) {
             return Ok(Outcome::StillPending { looks: polls });
         }
         post(&mut self.ends, caller, ready, polls, hold)
     }
+}
+
+// Awaits an earlier command. Whether nothing is in flight then.
+fn await_earlier<E: Executor>(ends: &mut PlainEnds<E>, polls: u32) -> bool
+    requires late { IsLate ends.old.state.history.sent ends.old.state.executed }
+    requires memory { count_flying ends.old.state.history.sent < ends.old.state.history.spare }
+    requires few { length ends.old.state.history.records + ends.old.state.history.spare ≤ 4096 }
+    requires looks { ends.old.state.looks ≡ 0 }
+    requires budget { ends.old.state.budget ≡ polls }
+    requires early { ends.old.state.taken + 1 < 2 ^ 64 }
+    ensures awaited { HasAwaited E.exec_of polls ends.old.state ends.new.state result }
+    ensures worked { WorksEarlier polls (block_of ends.old.state.wiring) ends.old ends.new result }
+    ensures free { result ≡ true → ends.new.state.history.sent ≡ None }
+    ensures late { IsLate ends.new.state.history.sent ends.new.state.executed }
+    ensures memory { result ≡ true → 0 < ends.new.state.history.spare }
+    ensures few { length ends.new.state.history.records + ends.new.state.history.spare ≤ 4096 }
+    ensures budget { ends.new.state.budget ≡ polls }
+{
+    if !ends.in_flight() {
+        return true;
+    }
+    await_reply(ends, polls).is_some()
 }
 
 // Nothing is in flight: posts a command that is made ready, and polls for its reply.
@@ -131,17 +153,17 @@ fn post<E: Executor>(
     polls: u32,
     hold: u32,
 ) -> Result<Outcome, NoMemory>
-    requires free { ends.old.state.sent ≡ None }
+    requires free { ends.old.state.history.sent ≡ None }
     requires kind { ready.kind ≡ ends.old.state.head.kind }
     requires room { ready.room ≡ ends.old.state.head.room }
-    requires spare { 0 < ends.old.state.spare }
-    requires few { length ends.old.state.records + ends.old.state.spare ≤ 4096 }
+    requires spare { 0 < ends.old.state.history.spare }
+    requires few { length ends.old.state.history.records + ends.old.state.history.spare ≤ 4096 }
     requires polls { 0 < polls }
     requires budget { ends.old.state.budget ≡ polls }
     requires early { ends.old.state.taken + 2 < 2 ^ 64 }
-    ensures answered { IfOk result (IsPosted E.exec_of ends.old.state (record { caller = caller; code = ready.code; bytes = ready.bytes; polls = polls; hold = hold }) ends.new.state) }
-    ensures worked { IfOk result (HasPosted (record { caller = caller; code = ready.code; bytes = ready.bytes; polls = polls; hold = hold }) ends.old ends.new) }
-    ensures late { IsLate ends.new.state.sent }
+    ensures answered { IfOk result (IsPosted E.exec_of ends.old.state (call_by caller ready.code ready.bytes polls hold) ends.new.state) }
+    ensures worked { IfOk result (HasPosted (call_by caller ready.code ready.bytes polls hold) ends.old ends.new) }
+    ensures late { IsLate ends.new.state.history.sent ends.new.state.executed }
     ensures err { OnErr result ⊥ }
 {
     match ends.post(caller, ready) {
@@ -161,10 +183,10 @@ fn post<E: Executor>(
     }
 }
 
-// A turn and a look, until the command in flight is drained or so many looks are made. The place of its record, where it is drained.
+// Polls, each a turn and a look, until the command in flight is drained or all are made. The place of its record, where it is drained.
 fn await_reply<E: Executor>(ends: &mut PlainEnds<E>, polls: u32) -> Option<u32>
-    requires rings { rings ends.old.state.sent ≡ true }
-    requires few { length ends.old.state.records < 4096 }
+    requires rings { rings ends.old.state ≡ true }
+    requires few { length ends.old.state.history.records < 4096 }
     requires looks { ends.old.state.looks ≡ 0 }
     requires budget { ends.old.state.budget ≡ polls }
     ensures state { record { now = ends.new.state; place = result } ≡ awaited E.exec_of polls ends.old.state }
@@ -180,8 +202,8 @@ fn await_reply<E: Executor>(ends: &mut PlainEnds<E>, polls: u32) -> Option<u32>
 
 // A turn, and then a look.
 fn poll<E: Executor>(ends: &mut PlainEnds<E>) -> Option<u32>
-    requires rings { rings ends.old.state.sent ≡ true }
-    requires few { length ends.old.state.records < 4096 }
+    requires rings { rings ends.old.state ≡ true }
+    requires few { length ends.old.state.history.records < 4096 }
     requires left { ends.old.state.looks < ends.old.state.budget }
     ensures state { record { now = ends.new.state; place = result } ≡ awaited E.exec_of 1 ends.old.state }
     ensures counts { SpentByPoll (block_of ends.old.state.wiring) result ends.old.counts ends.new.counts }
@@ -193,7 +215,7 @@ fn poll<E: Executor>(ends: &mut PlainEnds<E>) -> Option<u32>
     }
 }
 
-// What a refused command makes of its call.
+// The outcome of a call whose command is refused.
 fn refused(refusal: CallRefusal) -> Result<Outcome, NoMemory>
     ensures { IsRefused refusal result }
 {

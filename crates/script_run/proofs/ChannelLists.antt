@@ -12,7 +12,7 @@ use Rattle.pcc_script.specs.declared.scenario.Line.{Line}
 use Rattle.pcc_script.specs.declared.scenario.Line.TheVariants as line
 use Rattle.pcc_setup.specs.declared.opening.Opened.{Opened}
 use Rattle.rate_limit.specs.RateLimits.{earliest_of}
-use Rattle.channel_turns.specs.ChannelRuns.{Answered, Call, Channel, ChannelStart, ChannelState, InFlight, answer_behind, answer_call, answer_unless, completed, next_reading, post_call, refusal_of}
+use Rattle.channel_turns.specs.ChannelRuns.{Answered, Call, Channel, ChannelStart, ChannelState, InFlight, answer_call, answer_unless, completed, next_reading, post_call, refusal_of, after_earlier}
 use Rattle.channel_turns.specs.Outcomes.{IsPlaced, StandsFor}
 use Rattle.channel_turns.specs.Replies.{Reply}
 use Rattle.channel_turns.specs.declared.outcome.Outcome.{Outcome}
@@ -165,7 +165,7 @@ same_added start call now = unless (refusal_of start.head call now)
     posted : (later : ChannelState) → later.added ≡ now.added → (post_call start call later).now.added ≡ now.added
     posted later e = choose (nat_lt (next_reading start later) (earliest_of start.head.limits (times_of later.records))) _ _ e (choose (nat_lt call.hold call.polls) _ _ e e)
 
-    behind : (o : Option InFlight) → (answer_behind start call now o).now.added ≡ now.added
+    behind : (o : Option InFlight) → (after_earlier start call.polls (post_call start call) now o).now.added ≡ now.added
     behind None = posted now refl
     behind (Some p) = choose (nat_lt p.left call.polls) _ _ (posted (completed start p.command true now) refl) refl
 

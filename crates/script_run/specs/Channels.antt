@@ -8,6 +8,7 @@ use Rattle.pcc_script.specs.declared.scenario.Line.{Line}
 use Rattle.pcc_script.specs.declared.scenario.Line.TheVariants as line
 use Rattle.pcc_setup.specs.declared.opening.Opened.{Opened}
 use Rattle.pcc_steps.specs.Wires.{IsRight}
+use Rattle.channel_core.specs.Readings.{more_time}
 use Rattle.channel_turns.specs.ChannelRuns.{Call, Channel, ChannelStart, ScriptClock, answer_call, fresh}
 use Rattle.channel_turns.specs.Outcomes.{StandsFor}
 use Rattle.channel_turns.specs.Standing.{IsHeadOf}
@@ -31,7 +32,7 @@ pub record IsWired (o : Opened) : Type 0 where
 
 -- its clock is moved up, as far as it goes
 abbrev pub moved_up : ℕ → Channel → Channel
-moved_up n c = record c { now = record c.now { added = min (c.now.added + n) (2 ^ 128 - 1) } }
+moved_up n c = record c { now = record c.now { added = more_time n c.now.added } }
 
 -- the outcome of a call stands for its reply, and the call leaves the channel so
 pub record IsAnsweredBy (old : Channel) (call : Call) (new : Channel) (outcome : Outcome) : Type 0 where
