@@ -7,7 +7,7 @@ use Rattle.pcc_journal.specs.declared.record.Record.{Record}
 use Rattle.pcc_steps.specs.declared.wiring.Wiring.{Wiring}
 use Rattle.pcc_steps.specs.declared.wiring.Action.TheVariants.{Load, Store, Swap, Rest}
 use Rattle.pcc_steps.specs.Runs.{Run, ends, AskEnd, AnswerEnd}
-use Rattle.channel_plain.specs.declared.sent.Sent.{Sent}
+use Rattle.channel_core.specs.declared.sent.Sent.{Sent}
 use Rattle.channel_plain.specs.declared.trace.Side.{Side}
 use Rattle.channel_plain.specs.declared.trace.Side.TheVariants.{System, Platform}
 use Rattle.channel_plain.specs.declared.trace.Asked.{Asked}

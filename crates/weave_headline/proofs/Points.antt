@@ -25,39 +25,14 @@ use Rattle.channel_headline.specs.Causes.{AllCaused, HasCause, IsTooSoon, Past, 
 use Rattle.channel_headline.specs.Headline.{Headline, pending_count, pending_post}
 use Rattle.channel_headline.specs.Lines.{AreEnded, CallLine, asked_by, mine_of, soon_lines, soon_numbers, was_posted, was_too_soon}
 use Rattle.channel_headline.specs.Matches.{AllMatch, Matches, Placed, Tied, own_calls, placed}
+use Rattle.channel_headline.proofs.Histories.{WholeHistory-length, WholeHistory-more, space_after-more}
+use Rattle.channel_headline.proofs.WholeRuns.{asked_more, kept_length}
 use Rattle.channel_headline.proofs.Growing.{after-append, all_last, all_read, match_drained, match_more, match_quiet, one_match, reading_first, reading_second, rise_events, rise_higher, soon_count, soon_more, soon_other}
 use Rattle.channel_headline.proofs.Owned.{own_length}
 use Rattle.channel_headline.proofs.Points.{causes_last, causes_more, from_zero}
 use Rattle.weave_headline.specs.WordHeadline.{terms_of}
 
 -- ---- lists that grow
-
-whole_more : (space : List ℕ) (xs : List Exchange) (bs : List (List ℕ)) (x : Exchange) (b : List ℕ) → WholeHistory space xs bs → x.input ≡ over (space_after space xs) b → WholeHistory space (xs ++ x ∷ []) (bs ++ b ∷ [])
-whole_more space [] [] x b h e = (e, tt)
-whole_more space [] (c ∷ cs) x b h e = absurd h
-whole_more space (y ∷ ys) [] x b h e = absurd h
-whole_more space (y ∷ ys) (c ∷ cs) x b h e = (h.0, whole_more y.output ys cs x b h.1 e)
-
-space_more : (space : List ℕ) (xs : List Exchange) (x : Exchange) → space_after space (xs ++ x ∷ []) ≡ x.output
-space_more space [] x = refl
-space_more space (y ∷ ys) x = space_more y.output ys x
-
-whole_length : (space : List ℕ) (xs : List Exchange) (asked : List (List ℕ)) → WholeHistory space xs asked → length asked ≡ length xs
-whole_length space [] [] h = refl
-whole_length space [] (a ∷ asked) h = absurd h
-whole_length space (x ∷ xs) [] h = absurd h
-whole_length space (x ∷ xs) (a ∷ asked) h = grind (arith, whole_length x.output xs asked h.1)
-
-one_asked : (b : Bool) (l : CallLine) → map (λ (x : CallLine). x.bytes) (cond b (l ∷ []) []) ≡ cond b (l.bytes ∷ []) []
-one_asked true l = refl
-one_asked false l = refl
-
-asked_more : (lines : List CallLine) (l : CallLine) → asked_by (lines ++ l ∷ []) ≡ asked_by lines ++ cond (was_posted l.reply) (l.bytes ∷ []) []
-asked_more lines l =
-    let posted : CallLine → Bool = λ x. was_posted x.reply in
-    ap (λ (v : List CallLine). map (λ (x : CallLine). x.bytes) v) (filter-append posted lines (l ∷ []))
-    ∙ map-append (λ (x : CallLine). x.bytes) (filter posted lines) (filter posted (l ∷ []))
-    ∙ ap (λ (v : List (List ℕ)). asked_by lines ++ v) (one_asked (was_posted l.reply) l)
 
 asked_posted : (lines : List CallLine) (l : CallLine) → was_posted l.reply ≡ true → asked_by (lines ++ l ∷ []) ≡ asked_by lines ++ l.bytes ∷ []
 asked_posted lines l e = asked_more lines l ∙ ap (λ (b : Bool). asked_by lines ++ cond b (l.bytes ∷ []) []) e
@@ -99,8 +74,8 @@ asks_recorded opening space records lines lines' answered bytes r whole last inp
       answered = answered ++ bytes ∷ [];
       waiting = [];
       parts = parts ∙ sym (append-nil (answered ++ bytes ∷ []));
-      whole = subst V (sym more) (whole_more opening (exchanges_of records) answered (exchange_of_record r) bytes whole (input ∙ ap (λ (s : List ℕ). over s bytes) (sym last)));
-      last = ap (space_after opening) more ∙ space_more opening (exchanges_of records) (exchange_of_record r);
+      whole = subst V (sym more) (WholeHistory-more opening (exchanges_of records) answered (exchange_of_record r) bytes whole (input ∙ ap (λ (s : List ℕ). over s bytes) (sym last)));
+      last = ap (space_after opening) more ∙ space_after-more opening (exchanges_of records) (exchange_of_record r);
       waits = refl;
     }
 
@@ -412,15 +387,12 @@ module _ (exec : Device) (w : Wiring) (limits : Limits) (start opening : List �
     asks = record { answered = []; waiting = []; parts = refl; whole = tt; last = refl; waits = refl };
   }
 
-  kept_length : (rs : List Record) (ns : List Note) → length (noted rs ns) ≡ length rs
-  kept_length rs ns = sym (length-map (noted rs ns) (λ (n : Noted). n.entry)) ∙ ap (λ (v : List Record). length v) (noted_records rs ns)
-
   pub headline_at : (space rs : List ℕ) (records : List Record) (notes : List Note) (pending : Option NotedPending) (lines : List CallLine) → Legal exec w.reports start (exchanges_of records) → AreEnded lines
       → Point space rs records notes pending lines → Headline T rs (take (length records) (asked_by lines)) lines (record { entries = noted records notes; pending = pending })
   headline_at space rs records notes pending lines legal ended p =
       let asks = p.asks in
       let asked : List (List ℕ) = take (length records) (asked_by lines) in
-      let n : length asks.answered ≡ length records = whole_length opening (exchanges_of records) asks.answered asks.whole ∙ length-map records exchange_of_record in
+      let n : length asks.answered ≡ length records = WholeHistory-length opening (exchanges_of records) asks.answered asks.whole ∙ length-map records exchange_of_record in
       let fits : length records ≤ length asks.answered = omega (arith, n) in
       let all : length asks.answered ≤ length records = omega (arith, n) in
       let same : asked ≡ asks.answered = ap (take (length records)) asks.parts ∙ take-append-le (length records) asks.answered asks.waiting fits ∙ take_all (length records) asks.answered all in
