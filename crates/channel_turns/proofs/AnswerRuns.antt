@@ -24,10 +24,12 @@ use Rattle.pcc_steps.specs.Laws.{AnswerBeginAgrees, AnswerStepAgrees}
 use Rattle.pcc_steps.proofs.AnswerWalks.{answers_by_table, answer_steps_by_table, executes_by_table}
 use Rattle.pcc_steps.proofs.Bounds.{answers_within}
 use Rattle.pcc_steps.proofs.Nexts.{idle_told}
+use Rattle.pcc_steps.proofs.Wired.{answer_wired}
 use Rattle.pcc_steps.proofs.WordSteps.{long_act, finds_found}
-use Rattle.channel_turns.proofs.AnswerFeeds.{counted, framed, is_rest, is_run, rest_is, run_is, ends_run, fed_rests}
+use Rattle.pcc_steps.proofs.AnswerFeeds.{counted, framed, is_rest, is_run, rest_is, run_is, not_rest, not_run, ends_run, fed_rests, unsettled, settled_wired}
+use Rattle.pcc_steps.proofs.Lists.{one_more}
 use Rattle.channel_turns.specs.WordRuns.{AnswerStep, AnswerKeeps, HasExecuted, HistoryIs}
-use Rattle.channel_turns.proofs.AskRuns.{one_less}
+use Rattle.pcc_steps.proofs.Lengths.{one_less}
 
 -- ---- stages
 
@@ -169,44 +171,6 @@ once CloseBellLoad a v e = refl
 once CloseBellStore a v e = close_walks (asks_notify a)
 once CloseLine a v e = refl
 
-not_rest_of : (st : AnswerStage) → st ≢ AnswerRest → is_rest st ≡ false
-not_rest_of AnswerRest n = absurd (n refl)
-not_rest_of TakeLine n = refl
-not_rest_of TakeAckLoad n = refl
-not_rest_of TakeAckStore n = refl
-not_rest_of TakeHeader n = refl
-not_rest_of (TakeBlock j) n = refl
-not_rest_of RunDevice n = refl
-not_rest_of (ReplyBlock j) n = refl
-not_rest_of ReplyError n = refl
-not_rest_of ReplyHeader n = refl
-not_rest_of ReplyUpdateLoad n = refl
-not_rest_of ReplyUpdateStore n = refl
-not_rest_of ReplyMarkLoad n = refl
-not_rest_of ReplyMarkStore n = refl
-not_rest_of CloseBellLoad n = refl
-not_rest_of CloseBellStore n = refl
-not_rest_of CloseLine n = refl
-
-not_run_of : (st : AnswerStage) → st ≢ RunDevice → is_run st ≡ false
-not_run_of RunDevice n = absurd (n refl)
-not_run_of AnswerRest n = refl
-not_run_of TakeLine n = refl
-not_run_of TakeAckLoad n = refl
-not_run_of TakeAckStore n = refl
-not_run_of TakeHeader n = refl
-not_run_of (TakeBlock j) n = refl
-not_run_of (ReplyBlock j) n = refl
-not_run_of ReplyError n = refl
-not_run_of ReplyHeader n = refl
-not_run_of ReplyUpdateLoad n = refl
-not_run_of ReplyUpdateStore n = refl
-not_run_of ReplyMarkLoad n = refl
-not_run_of ReplyMarkStore n = refl
-not_run_of CloseBellLoad n = refl
-not_run_of CloseBellStore n = refl
-not_run_of CloseLine n = refl
-
 -- the line is taken once
 abbrev is_line : AnswerStage → Bool
 is_line TakeLine = true
@@ -283,39 +247,6 @@ behind_at CloseBellLoad a v e f = refl
 behind_at CloseBellStore a v e f = behind_close (asks_notify a)
 behind_at CloseLine a v e f = refl
 
--- ---- wirings
-
-takes_wired : (b : Bool) (a : Answer) → (take_on b a).wiring ≡ a.wiring
-takes_wired true a = refl
-takes_wired false a = refl
-
-loads_wired : (b : Bool) (j v : ℕ) (a : Answer) → (load_on b j v a).wiring ≡ a.wiring
-loads_wired true j v a = refl
-loads_wired false j v a = refl
-
-replies_wired : (b : Bool) (j : ℕ) (a : Answer) → (reply_on b j a).wiring ≡ a.wiring
-replies_wired true j a = refl
-replies_wired false j a = refl
-
-pub wired : (st : AnswerStage) (a : Answer) (v : ℕ) → (answer_fed_at st a v).wiring ≡ a.wiring
-wired AnswerRest a v = refl
-wired TakeLine a v = takes_wired (eqb v 0) a
-wired TakeAckLoad a v = refl
-wired TakeAckStore a v = refl
-wired TakeHeader a v = refl
-wired (TakeBlock j) a v = loads_wired (has_more j a.wiring) j v a
-wired RunDevice a v = refl
-wired (ReplyBlock j) a v = replies_wired (has_more j a.wiring) j a
-wired ReplyError a v = refl
-wired ReplyHeader a v = refl
-wired ReplyUpdateLoad a v = refl
-wired ReplyUpdateStore a v = refl
-wired ReplyMarkLoad a v = refl
-wired ReplyMarkStore a v = refl
-wired CloseBellLoad a v = refl
-wired CloseBellStore a v = refl
-wired CloseLine a v = refl
-
 served_only : (o : AnswerOutcome) → o ≡ Served → Some o ≡ Some Idle → ⊥
 served_only Idle e q = cc
 served_only Served e q = cc
@@ -360,9 +291,6 @@ executed_early ReplyUpdateStore hp ha e = tt
 executed_early ReplyMarkLoad hp ha e = tt
 executed_early ReplyMarkStore hp ha e = tt
 
-one_more : (xs ys : List Exchange) (e : Exchange) → ys ≡ xs ++ e ∷ [] → length ys ≡ length xs + 1
-one_more xs ys e p = ap (λ (l : List Exchange). length l) p ∙ length-append xs (e ∷ [])
-
 replying_more : (p : Pose) (j : ℕ) (x : Asker) (y : Answerer) (c : Core) → Fits p (replying j) x y c → length y.done ≡ length x.done + 1
 replying_more free j x y c f = absurd (cc (f.0))
 replying_more (writing i) j x y c f = absurd (cc (f.0))
@@ -392,25 +320,6 @@ module _ (exec : Device) where
 
   -- ---- the device's turn
 
-  unsettled : (st : AnswerStage) (y : Answerer) → is_run st ≡ false → settle_at exec st y ≡ y
-  unsettled RunDevice y e = absurd (cc e)
-  unsettled AnswerRest y e = refl
-  unsettled TakeLine y e = refl
-  unsettled TakeAckLoad y e = refl
-  unsettled TakeAckStore y e = refl
-  unsettled TakeHeader y e = refl
-  unsettled (TakeBlock j) y e = refl
-  unsettled (ReplyBlock j) y e = refl
-  unsettled ReplyError y e = refl
-  unsettled ReplyHeader y e = refl
-  unsettled ReplyUpdateLoad y e = refl
-  unsettled ReplyUpdateStore y e = refl
-  unsettled ReplyMarkLoad y e = refl
-  unsettled ReplyMarkStore y e = refl
-  unsettled CloseBellLoad y e = refl
-  unsettled CloseBellStore y e = refl
-  unsettled CloseLine y e = refl
-
   -- the stage behind the device's turn: a stage by itself, but where the device ran
   settled_stage : (P : AnswerStage → Type 0) (st : AnswerStage) (y : Answerer) → y.m.stage ≡ st → (st ≢ RunDevice → P st) → ((j : ℕ) → P (ReplyBlock j)) → P (settle_at exec st y).m.stage
   settled_stage P RunDevice y e h k = k (heads_of (style_of y.m.wiring))
@@ -431,16 +340,12 @@ module _ (exec : Device) where
   settled_stage P CloseBellStore y e h k = subst P (sym e) (h (λ q. cc))
   settled_stage P CloseLine y e h k = subst P (sym e) (h (λ q. cc))
 
-  settled_wired : (st : AnswerStage) (y : Answerer) → (settle_at exec st y).m.wiring ≡ y.m.wiring
-  settled_wired RunDevice y = refl
-  settled_wired _ y = refl
-
   -- the machine and the device behind a step that found this value, and what was executed
   abbrev pub behind : Answer → List ℕ → ℕ → Answerer
   behind b d v = settle exec (record { m = answer_fed b v; device = d; done = [] })
 
   pub behind_wired : (b : Answer) (d : List ℕ) (v : ℕ) → (behind b d v).m.wiring ≡ b.wiring
-  behind_wired b d v = settled_wired (answer_fed b v).stage (record { m = answer_fed b v; device = d; done = [] }) ∙ wired b.stage b v
+  behind_wired b d v = settled_wired exec (answer_fed b v).stage (record { m = answer_fed b v; device = d; done = [] }) ∙ answer_wired b.stage b v
 
   same_step : (b : Answer) (d : List ℕ) (done : List Exchange) (v : ℕ) → answerer_fed exec (record { m = b; device = d; done = done }) v ≡ (let y = behind b d v in record { m = y.m; device = y.device; done = done ++ y.done })
   same_step b d done v = let st : AnswerStage = (answer_fed b v).stage in
@@ -462,7 +367,7 @@ module _ (exec : Device) where
 
       -- nothing is executed
       still : is_run m.stage ≡ false → done ++ (behind b d v).done ≡ done
-      still e = ap (λ (z : Answerer). done ++ z.done) (unsettled m.stage from e) ∙ append-nil done
+      still e = ap (λ (z : Answerer). done ++ z.done) (unsettled exec m.stage from e) ∙ append-nil done
 
       late : length done ≡ length x.done + 1 → is_run m.stage ≡ false → length (done ++ (behind b d v).done) ≡ length x.done + 1
       late e r = ap (λ (l : List Exchange). length l) (still r) ∙ e
@@ -486,10 +391,10 @@ module _ (exec : Device) where
         → AnswerKeeps exec is_state room_of ws b d (act (answer_next b) ws) (behind b d v).m (behind b d v).device (answer_told b v)
     stepped law ws b d v runs e small start x done is same g h = let y : Answerer = record { m = b; device = d; done = done } in
         let f : Finds (answer_next b) ws v = subst (λ (n : ℕ). Finds (answer_next b) ws n) (sym e) (finds_found (answer_next b) ws) in
-        let not_rest : is_rest b.stage ≡ false = not_rest_of b.stage runs.0 in let not_run : is_run b.stage ≡ false = not_run_of b.stage runs.1 in (
+        let rests : is_rest b.stage ≡ false = not_rest b.stage runs.0 in let walks : is_run b.stage ≡ false = not_run b.stage runs.1 in (
           done ++ (behind b d v).done,
           subst (λ (z : Answerer). Agree exec start (act (answer_next b) ws) x z) (same_step b d done v) (law start ws x y v is same g f small),
-          history (answer_told b v) start ws x b d done v refl not_rest not_run g h,
+          history (answer_told b v) start ws x b d done v refl rests walks g h,
         )
 
     pub step_keeps : AnswerStepAgrees exec is_state room_of → (ws : List ℕ) (b : Answer) (d : List ℕ) (ws' : List ℕ) (b' : Answer) (d' : List ℕ) (told : Option AnswerOutcome) → IsAnswerStepping b → AnswerStep exec ws b d ws' b' d' told → AnswerKeeps exec is_state room_of ws b d ws' b' d' told
@@ -520,7 +425,7 @@ module _ (exec : Device) where
 
   -- the device's turn takes no word step
   settled_within : (b : Bool) (n : ℕ) (m : Answer) (d : List ℕ) → is_run m.stage ≡ b → AnswerOk m → AnswerOk (settle exec (record { m = m; device = d; done = [] })).m → Within n (answer_left m) → Within n (answer_left (settle exec (record { m = m; device = d; done = [] })).m)
-  settled_within false n m d e ok ok' w = subst (λ (y : Answerer). Within n (answer_left y.m)) (sym (unsettled m.stage (record { m = m; device = d; done = [] }) e)) w
+  settled_within false n m d e ok ok' w = subst (λ (y : Answerer). Within n (answer_left y.m)) (sym (unsettled exec m.stage (record { m = m; device = d; done = [] }) e)) w
   settled_within true n m d e ok ok' w = let st : m.stage ≡ RunDevice = run_is m.stage e in let from : Answerer = record { m = m; device = d; done = [] } in
       let x = exec d (answer_code m) m.space in let k : ℕ = heads_of (style_of m.wiring) in let ran : Answer = ran_with (record m { space = x.space }) x.bad in
       let same : settle exec from ≡ settle_at exec RunDevice from = ap (λ (s : AnswerStage). settle_at exec s from) st in
@@ -559,7 +464,7 @@ module _ (exec : Device) where
     goes_on : (b : Answer) (d : List ℕ) (v : ℕ) → IsAnswerStepping b → answer_told b v ≡ None → ((behind b d v).m.stage ≢ AnswerRest) × ((behind b d v).m.stage ≢ RunDevice) × ((behind b d v).m.stage ≢ TakeLine)
     goes_on b d v runs e = let m : Answer = answer_fed b v in
         settled_stage (λ (s : AnswerStage). (s ≢ AnswerRest) × (s ≢ RunDevice) × (s ≢ TakeLine)) m.stage (record { m = m; device = d; done = [] }) refl
-        (λ q. (λ r. not_false (is_rest m.stage) (ap is_rest r) (fed_rests b.stage b v (not_rest_of b.stage runs.0) (not_run_of b.stage runs.1) ∙ ap ends_run e), q, λ r. not_false (is_line m.stage) (ap is_line r) (behind_at b.stage b v (not_rest_of b.stage runs.0) (not_run_of b.stage runs.1))))
+        (λ q. (λ r. not_false (is_rest m.stage) (ap is_rest r) (fed_rests b.stage b v (not_rest b.stage runs.0) (not_run b.stage runs.1) ∙ ap ends_run e), q, λ r. not_false (is_line m.stage) (ap is_line r) (behind_at b.stage b v (not_rest b.stage runs.0) (not_run b.stage runs.1))))
         (λ j. (λ q. cc, λ q. cc, λ q. cc))
 
     pub going_more : AnswerStepAgrees exec is_state room_of → (ws : List ℕ) (b : Answer) (d : List ℕ) (most i : ℕ) (ws1 ws2 : List ℕ) (b1 b2 : Answer) (d1 d2 : List ℕ) → AnswerGoing ws b d most i ws1 b1 d1 → AnswerStep exec ws1 b1 d1 ws2 b2 d2 None → AnswerGoing ws b d most (i + 1) ws2 b2 d2
@@ -576,8 +481,8 @@ module _ (exec : Device) where
 
     -- the last step of a run
     rests_at : (b : Answer) (d : List ℕ) (v : ℕ) (o : AnswerOutcome) → IsAnswerStepping b → answer_told b v ≡ Some o → (behind b d v).m.stage ≡ AnswerRest
-    rests_at b d v o runs e = let m : Answer = answer_fed b v in let r : m.stage ≡ AnswerRest = rest_is m.stage (fed_rests b.stage b v (not_rest_of b.stage runs.0) (not_run_of b.stage runs.1) ∙ ap ends_run e) in
-        ap (λ (y : Answerer). y.m.stage) (unsettled m.stage (record { m = m; device = d; done = [] }) (ap is_run r)) ∙ r
+    rests_at b d v o runs e = let m : Answer = answer_fed b v in let r : m.stage ≡ AnswerRest = rest_is m.stage (fed_rests b.stage b v (not_rest b.stage runs.0) (not_run b.stage runs.1) ∙ ap ends_run e) in
+        ap (λ (y : Answerer). y.m.stage) (unsettled exec m.stage (record { m = m; device = d; done = [] }) (ap is_run r)) ∙ r
 
     pub step_rests : (ws : List ℕ) (b : Answer) (d : List ℕ) (ws' : List ℕ) (b' : Answer) (d' : List ℕ) (o : AnswerOutcome) → IsAnswerStepping b → AnswerStep exec ws b d ws' b' d' (Some o) → b'.stage ≡ AnswerRest
     step_rests ws b d ws' b' d' o runs s = ap (λ (a : Answer). a.stage) s.machine ∙ rests_at b d (found (answer_next b) ws) o runs (sym s.told_is)

@@ -20,53 +20,38 @@ use Rattle.pcc_steps.proofs.AskWalks.{asks_by_table, looks_by_table, posts_by_ta
 use Rattle.pcc_steps.proofs.Bounds.{looks_within, posts_within}
 use Rattle.pcc_steps.proofs.Nexts.{clear_told}
 use Rattle.pcc_steps.proofs.WordSteps.{long_act, finds_found}
-use Rattle.channel_turns.proofs.AskFeeds.{is_rest, carried_at}
-use Rattle.channel_turns.proofs.AskFeeds as feeds
-use Rattle.channel_turns.specs.WordRuns.{AskStep, AskSteps, look_most, looks_after, flies_after, IsFor, KeepsSpace, Stops}
+use Rattle.pcc_steps.proofs.AskFeeds.{Fed, Spaced, Sure, done_same, rest_is, not_rest}
+use Rattle.pcc_steps.proofs.AskFeeds as feeds
+use Rattle.pcc_steps.proofs.Ends.{ask_steps_count, rose_most}
+use Rattle.pcc_steps.proofs.Lengths.{one_less}
+use Rattle.pcc_steps.specs.Carrying.{is_rest, carried_at, ends_run, looks_after, flies_after}
+use Rattle.channel_turns.specs.WordRuns.{AskStep, AskSteps, look_most, IsFor, KeepsSpace, Stops}
 
 -- ---- one step
 
-looks_same : (told : Option AskOutcome) (n : ℕ) → feeds.looks_after told n ≡ looks_after told n
-looks_same None n = refl
-looks_same (Some Posted) n = refl
-looks_same (Some Clear) n = refl
-looks_same (Some (Drained e)) n = refl
-
-flies_same : (told : Option AskOutcome) (f : Bool) → feeds.flies_after told f ≡ flies_after told f
-flies_same None f = refl
-flies_same (Some Posted) f = refl
-flies_same (Some Clear) f = refl
-flies_same (Some (Drained e)) f = refl
-
-keeps_space : (told : Option AskOutcome) (old : List ℕ) (b : Ask) → feeds.Spaced told old b → KeepsSpace told old b.space
+keeps_space : (told : Option AskOutcome) (old : List ℕ) (b : Ask) → Spaced told old b → KeepsSpace told old b.space
 keeps_space None old b h = h
 keeps_space (Some Posted) old b h = h
 keeps_space (Some Clear) old b h = h
 keeps_space (Some (Drained e)) old b h = tt
 
-is_for : (told : Option AskOutcome) (c f : Bool) → feeds.Sure told c f → IsFor told f
+is_for : (told : Option AskOutcome) (c f : Bool) → Sure told c f → IsFor told f
 is_for None c f h = tt
 is_for (Some Posted) c f h = h.1
 is_for (Some Clear) c f h = h.1
 is_for (Some (Drained e)) c f h = h.1
 
-stops : (told : Option AskOutcome) (b : Ask) → is_rest b.stage ≡ feeds.ends_run told → Stops told b
+stops : (told : Option AskOutcome) (b : Ask) → is_rest b.stage ≡ ends_run told → Stops told b
 stops None b e = λ q. not_false (is_rest b.stage) (ap is_rest q) e
   where
     not_false : (b : Bool) → b ≡ true → b ≡ false → ⊥
     not_false b t f = cc
-stops (Some o) b e = feeds.rest_is b.stage e
-
-done_same : (told : Option AskOutcome) (done : List Exchange) (a : Ask) (n : ℕ) → done_after told done (record a { steps = n }) ≡ done_after told done a
-done_same None done a n = refl
-done_same (Some Posted) done a n = refl
-done_same (Some Clear) done a n = refl
-done_same (Some (Drained e)) done a n = refl
+stops (Some o) b e = rest_is b.stage e
 
 -- by the value that it finds
 stepped : (ws : List ℕ) (a : Ask) (v : ℕ) → a.stage ≢ AskRest → Flies a.stage a.in_flight → v ≡ found (ask_next a) ws → v < 2 ^ 64 → AskSteps ws a (act (ask_next a) ws) (ask_fed a v) (ask_told a v)
 stepped ws a v runs flies e small = let told : Option AskOutcome = ask_told a v in let z : Ask = ask_fed_at a.stage a v in let b : Ask = ask_fed a v in
-    let f : feeds.Fed a.stage a b told = feeds.stepped a.stage a z told b.steps (feeds.fed a.stage a v (feeds.not_rest a.stage runs) flies) in record {
+    let f : Fed a.stage a b told = feeds.stepped a.stage a z told b.steps (feeds.fed a.stage a v (not_rest a.stage runs) flies) in record {
       keeps = λ exec start x y is g.
           subst (λ (l : List Exchange). Agree exec start (act (ask_next a) ws) (record x { m = b; done = l; clears = clears_after told x.clears }) y) (sym (done_same told x.done z b.steps))
           (ask_step_agrees exec start ws (record x { m = a }) y v (subst (λ (m : Ask). Agree exec start ws (record x { m = m }) y) is g) (subst (λ (n : ℕ). Finds (ask_next a) ws n) (sym e) (finds_found (ask_next a) ws)) small);
@@ -75,8 +60,8 @@ stepped ws a v runs flies e small = let told : Option AskOutcome = ask_told a v 
       code = f.code;
       input = f.input;
       budget = f.budget;
-      looks = f.looks ∙ looks_same told a.looks;
-      flies = f.flies ∙ flies_same told a.in_flight;
+      looks = f.looks;
+      flies = f.flies;
       space = keeps_space told a.space b f.space;
       stops = stops told b f.rests;
       is_for = is_for told (carried_at a.stage a.in_flight) a.in_flight f.sure;
@@ -110,13 +95,6 @@ more ws ws1 ws2 a b c told h k = record {
 }
 
 -- ---- the run ends
-
-pub one_less : {E : Type 0} (n : ℕ) (r : Run E) (x : Action) (next : ℕ → Run E) → Takes r x next → Within n r → (0 < n) × ((v : ℕ) → Within (n - 1) (next v))
-one_less n (ends e) x next t w = absurd t
-one_less n (loads p f) x next t w = (w.0, λ v. subst (Within (n - 1)) (sym (t.1 v)) (w.1 v))
-one_less n (stores p u r) x next t w = (w.0, λ v. subst (Within (n - 1)) (sym (t.1 v)) w.1)
-one_less n (swaps p u f) x next t w = (w.0, λ v. subst (Within (n - 1)) (sym (t.1 v)) (w.1 v))
-one_less n (executes code s f) x next t w = absurd t
 
 least : (n : ℕ) (a : Ask) → AskOk a → IsAskRunning a → Within n (ask_left a) → 0 < n
 least n a ok runs w = (one_less n (ask_left a) (ask_next a) (λ v. ask_after (ask_told a v) (ask_fed a v)) (asks_by_table a ok runs) w).0
@@ -220,60 +198,12 @@ fed_behind a v runs = not_look (ask_fed a v).stage (behind_at a.stage a v runs)
 
 -- ---- the count of steps
 
-count_by : (b : Bool) (n : ℕ) → cond b (n + 1) n ≤ n + 1
-count_by true n = omega arith
-count_by false n = omega arith
-
-store_steps : (b : Bool) (j : ℕ) (a : Ask) → (store_on b j a).steps ≡ a.steps
-store_steps true j a = refl
-store_steps false j a = refl
-
-look_count : (b : Bool) (v : ℕ) (a : Ask) → (look_on b v a).steps ≡ a.steps
-look_count true v a = refl
-look_count false v a = refl
-
-block_steps : (b : Bool) (a : Ask) → (block_on b a).steps ≡ a.steps
-block_steps true a = refl
-block_steps false a = refl
-
-read_steps : (b : Bool) (j v : ℕ) (a : Ask) → (read_on b j v a).steps ≡ a.steps
-read_steps true j v a = refl
-read_steps false j v a = block_steps a.wiring.notify _
-
-line_steps : (b : Bool) (a : Ask) → (line_on b a).steps ≡ a.steps
-line_steps true a = refl
-line_steps false a = refl
-
-lowered_steps : (b : Bool) (a : Ask) → (lowered_on b a).steps ≡ a.steps
-lowered_steps true a = refl
-lowered_steps false a = refl
-
--- only the count itself counts
-fed_steps : (st : AskStage) (a : Ask) (v : ℕ) → (ask_fed_at st a v).steps ≡ a.steps
-fed_steps (PostBlock j) a v = store_steps (has_more j a.wiring) j a
-fed_steps LookWord a v = look_count (sees_done a.wiring v) v a
-fed_steps (LookBlock j) a v = read_steps (has_more j a.wiring) j v a
-fed_steps LookLine a v = line_steps (eqb v 0) a
-fed_steps LookLineStore a v = lowered_steps (acknowledges a.wiring) a
-fed_steps AskRest a v = refl
-fed_steps PostHeader a v = refl
-fed_steps PostUpdateLoad a v = refl
-fed_steps PostUpdateStore a v = refl
-fed_steps PostMarkLoad a v = refl
-fed_steps PostMarkStore a v = refl
-fed_steps PostBellLoad a v = refl
-fed_steps PostBellStore a v = refl
-fed_steps PostLine a v = refl
-fed_steps LookError a v = refl
-fed_steps LookAckLoad a v = refl
-fed_steps LookAckStore a v = refl
-
 -- a step raises the count by one at most
-pub count_more : (a : Ask) (v : ℕ) → (ask_fed a v).steps ≤ (ask_fed_at a.stage a v).steps + 1
-count_more a v = count_by (ltb (ask_fed_at a.stage a v).steps (2 ^ 64 - 1)) (ask_fed_at a.stage a v).steps
+pub count_more : (a : Ask) (v : ℕ) → (ask_fed a v).steps ≤ a.steps + 1
+count_more a v = let e = ask_steps_count a v in let r = rose_most a.steps in omega (arith, e, r)
 
 pub step_counts : (ws : List ℕ) (a : Ask) (ws' : List ℕ) (b : Ask) (told : Option AskOutcome) → AskStep ws a ws' b told → b.steps ≤ a.steps + 1
-step_counts ws a ws' b told h = let v : ℕ = found (ask_next a) ws in let c = count_more a v in let s : (ask_fed_at a.stage a v).steps ≡ a.steps = fed_steps a.stage a v in let e = ap (λ (x : Ask). x.steps) h.machine in omega (arith, c, s, e)
+step_counts ws a ws' b told h = let v : ℕ = found (ask_next a) ws in let c = count_more a v in let e = ap (λ (x : Ask). x.steps) h.machine in omega (arith, c, e)
 
 -- ---- a run of so many steps at most
 
@@ -352,8 +282,8 @@ look_long a c ws o h long = long ∙ ap (λ (w : Wiring). 8 + block_of w) (sym h
 -- ---- how many steps a look takes
 
 pub first_counts : (a b c : Ask) (v : ℕ) → b ≡ ask_looking a → c ≡ ask_fed b v → c.steps ≤ a.steps + 1
-first_counts a b c v e k = let x : Ask = ask_looking a in let n = count_more x v in let m : (ask_fed_at LookWord x v).steps ≡ a.steps = fed_steps LookWord x v in
-    let s : c.steps ≡ (ask_fed x v).steps = ap (λ (y : Ask). y.steps) (k ∙ ap (λ (y : Ask). ask_fed y v) e) in omega (arith, n, m, s)
+first_counts a b c v e k = let x : Ask = ask_looking a in let n = count_more x v in
+    let s : c.steps ≡ (ask_fed x v).steps = ap (λ (y : Ask). y.steps) (k ∙ ap (λ (y : Ask). ask_fed y v) e) in omega (arith, n, s)
 
 pub look_counts : (a c d : Ask) (n : ℕ) (o : AskOutcome) → o ≢ Clear → c.steps ≤ a.steps + 1 → n ≡ block_of c.wiring → c.wiring ≡ a.wiring → d.steps ≤ c.steps + (n + 5) → d.steps ≤ a.steps + look_most (block_of a.wiring) o
 look_counts a c d n Clear sees first e same rest = absurd (sees refl)

@@ -11,6 +11,7 @@ use Rattle.pcc_steps.specs.declared.answer.AnswerOutcome.{AnswerOutcome}
 use Rattle.pcc_steps.specs.declared.answer.AnswerOutcome.TheVariants.{Idle, Served}
 use Rattle.pcc_steps.specs.Asking.{Ask, AskOk, ask_next, ask_fed, ask_told}
 use Rattle.pcc_steps.specs.Answering.{Answer, AnswerOk, answer_next, answer_fed, answer_told}
+use Rattle.pcc_steps.specs.Carrying.{looks_after, flies_after}
 use Rattle.pcc_steps.specs.Agree.{act, found, Asker, Answerer, Agree, clears_after, done_after, settle}
 
 -- ---- the asking end
@@ -22,18 +23,6 @@ pub record AskStep (ws : List ℕ) (a : Ask) (ws' : List ℕ) (b : Ask) (told : 
   pub words : ws' ≡ act (ask_next a) ws
   pub machine : b ≡ ask_fed a (found (ask_next a) ws)
   pub told_is : told ≡ ask_told a (found (ask_next a) ws)
-
-abbrev pub looks_after : Option AskOutcome → ℕ → ℕ
-looks_after None n = n
-looks_after (Some Posted) n = 0
-looks_after (Some Clear) n = n + 1
-looks_after (Some (Drained e)) n = n
-
-abbrev pub flies_after : Option AskOutcome → Bool → Bool
-flies_after None f = f
-flies_after (Some Posted) f = true
-flies_after (Some Clear) f = f
-flies_after (Some (Drained e)) f = false
 
 -- a run that looks is for a command in flight
 abbrev pub IsFor : Option AskOutcome → Bool → Type 0

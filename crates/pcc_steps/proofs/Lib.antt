@@ -24,3 +24,5 @@ pub mod Wired
 pub mod Reaches
 pub mod Ends
 pub mod Refusals
+pub mod AskFeeds
+pub mod AnswerFeeds

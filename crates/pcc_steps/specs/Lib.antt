@@ -9,3 +9,4 @@ pub mod Laws
 pub mod Reached
 pub mod WorkedRuns
 pub mod Walk
+pub mod Carrying

@@ -1,5 +1,5 @@
 -- What a step of the answering machine leads to, and what the device's turn adds to a history.
-use Rattle.std.proofs.Common.{◌≡◌, ℕ, Bool, true, false, eqb, List, [], ◌++◌, refl, sym, ap}
+use Rattle.std.proofs.Common.{◌≡◌, ◌≢◌, ℕ, Bool, true, false, eqb, List, [], ◌++◌, refl, sym, ap}
 use Rattle.std.specs.Prelude.{Option, Some, None}
 use Rattle.std.proofs.lemmas.List.{append-nil}
 use Rattle.pcc_history.specs.Devices.{Device}
@@ -44,6 +44,46 @@ rest_is _ e = absurd (cc e)
 pub run_is : (st : AnswerStage) → is_run st ≡ true → st ≡ RunDevice
 run_is RunDevice e = refl
 run_is _ e = absurd (cc e)
+
+-- ---- stages
+
+pub not_rest : (st : AnswerStage) → st ≢ AnswerRest → is_rest st ≡ false
+not_rest AnswerRest n = absurd (n refl)
+not_rest TakeLine n = refl
+not_rest TakeAckLoad n = refl
+not_rest TakeAckStore n = refl
+not_rest TakeHeader n = refl
+not_rest (TakeBlock j) n = refl
+not_rest RunDevice n = refl
+not_rest (ReplyBlock j) n = refl
+not_rest ReplyError n = refl
+not_rest ReplyHeader n = refl
+not_rest ReplyUpdateLoad n = refl
+not_rest ReplyUpdateStore n = refl
+not_rest ReplyMarkLoad n = refl
+not_rest ReplyMarkStore n = refl
+not_rest CloseBellLoad n = refl
+not_rest CloseBellStore n = refl
+not_rest CloseLine n = refl
+
+pub not_run : (st : AnswerStage) → st ≢ RunDevice → is_run st ≡ false
+not_run RunDevice n = absurd (n refl)
+not_run AnswerRest n = refl
+not_run TakeLine n = refl
+not_run TakeAckLoad n = refl
+not_run TakeAckStore n = refl
+not_run TakeHeader n = refl
+not_run (TakeBlock j) n = refl
+not_run (ReplyBlock j) n = refl
+not_run ReplyError n = refl
+not_run ReplyHeader n = refl
+not_run ReplyUpdateLoad n = refl
+not_run ReplyUpdateStore n = refl
+not_run ReplyMarkLoad n = refl
+not_run ReplyMarkStore n = refl
+not_run CloseBellLoad n = refl
+not_run CloseBellStore n = refl
+not_run CloseLine n = refl
 
 abbrev pub ends_run : Option AnswerOutcome → Bool
 ends_run None = false
@@ -131,3 +171,26 @@ module _ (exec : Device) where
   pub counted : (st : AnswerStage) (y : Answerer) → settle_at exec st (answerer_stepped y) ≡ answerer_stepped (settle_at exec st y)
   counted RunDevice y = refl
   counted _ y = refl
+
+  pub unsettled : (st : AnswerStage) (y : Answerer) → is_run st ≡ false → settle_at exec st y ≡ y
+  unsettled RunDevice y e = absurd (cc e)
+  unsettled AnswerRest y e = refl
+  unsettled TakeLine y e = refl
+  unsettled TakeAckLoad y e = refl
+  unsettled TakeAckStore y e = refl
+  unsettled TakeHeader y e = refl
+  unsettled (TakeBlock j) y e = refl
+  unsettled (ReplyBlock j) y e = refl
+  unsettled ReplyError y e = refl
+  unsettled ReplyHeader y e = refl
+  unsettled ReplyUpdateLoad y e = refl
+  unsettled ReplyUpdateStore y e = refl
+  unsettled ReplyMarkLoad y e = refl
+  unsettled ReplyMarkStore y e = refl
+  unsettled CloseBellLoad y e = refl
+  unsettled CloseBellStore y e = refl
+  unsettled CloseLine y e = refl
+
+  pub settled_wired : (st : AnswerStage) (y : Answerer) → (settle_at exec st y).m.wiring ≡ y.m.wiring
+  settled_wired RunDevice y = refl
+  settled_wired _ y = refl
