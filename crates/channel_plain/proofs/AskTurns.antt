@@ -31,16 +31,18 @@ use Rattle.channel_plain.specs.declared.trace.TraceEnd.{TraceEnd}
 use Rattle.channel_plain.specs.declared.trace.TraceEnd.TheVariants as end
 use Rattle.channel_plain.specs.declared.trace.TraceLine.{TraceLine}
 use Rattle.channel_plain.specs.Picks.{PlainState, Picked, ask_picked_at, ask_stepped, begins, call_begun, call_ended, from_rest, line_of, post_or_soon, posting, read_once, refusal_of, sent_by, served, soon_end}
-use Rattle.channel_plain.specs.Standing.{HavePolls, IsCarried, IsServing, LooksBegun, Stands, carried, carried_at, is_rest}
+use Rattle.pcc_steps.specs.Carrying.{carried, carried_at, is_rest}
+use Rattle.channel_plain.specs.Standing.{HavePolls, IsCarried, IsServing, LooksBegun, Stands}
 use Rattle.channel_plain.specs.Weaving.{reading_of}
 use Rattle.channel_plain.specs.WordRuns.{Calls, Serves, goes_on, begins as begins_now, Turns, idles, refuses, delays, end_call, take_reading, block_after, posts_call, reading_at, replied, earliest_at, refusal_at}
 use Rattle.channel_core.specs.Readings.{count_of}
 use Rattle.channel_core.specs.Sendings.{count_flying}
-use Rattle.channel_plain.proofs.AskFed.{Fed, fed, stepped, rest_is}
+use Rattle.pcc_steps.proofs.AskFeeds.{Fed, fed, stepped, rest_is}
 use Rattle.channel_plain.proofs.Blocks.{blocks_kept, blocks_stepped, shown_space}
 use Rattle.channel_plain.proofs.Readied.{late_enough, soon_is}
 use Rattle.channel_plain.proofs.AskPicks.{running as runs_on}
-use Rattle.channel_plain.proofs.WordSteps.{AskTie, resting, running, Running, posts_run, looks_run, calls_at, not_false, run_turn, takes_next, takes_rest, turned}
+use Rattle.channel_plain.proofs.Tests.{not_false}
+use Rattle.channel_plain.proofs.WordSteps.{AskTie, resting, running, Running, posts_run, looks_run, calls_at, run_turn, takes_next, takes_rest, turned}
 
 -- ---- the looks stay within the budget
 

@@ -28,9 +28,11 @@ use Rattle.channel_core.specs.Sendings.{FliesWith, given_up_after, is_given_up}
 use Rattle.channel_plain.specs.Holding.{FliesIf}
 use Rattle.pcc_steps.proofs.WordSteps.{long_act, finds_found}
 use Rattle.channel_plain.specs.News.{opening_of}
-use Rattle.channel_plain.specs.Standing.{asker_of, answerer_of, carried, carried_at, is_rest, IsCarried, LooksBegun, Holds, owns}
+use Rattle.pcc_steps.specs.Carrying.{carried, carried_at, is_rest}
+use Rattle.channel_plain.specs.Standing.{asker_of, answerer_of, IsCarried, LooksBegun, Holds, owns}
 use Rattle.channel_plain.specs.Steps.{budget_by}
-use Rattle.channel_plain.proofs.AskFed.{Fed, fed, stepped, not_rest}
+use Rattle.pcc_steps.proofs.AskFeeds.{Fed, done_same, fed, stepped, not_rest}
+use Rattle.channel_plain.proofs.Tests.{below, not_false}
 
 -- ---- small facts
 
@@ -82,12 +84,6 @@ late_sent false c = refl
 late_begun : (l : Bool) (c : CallsState) → (drained_calls l c).begun ≡ true → l ≡ true
 late_begun true c e = refl
 late_begun false c e = absurd (cc e)
-
-not_false : (b : Bool) → b ≡ true → b ≡ false → ⊥
-not_false b t f = cc
-
-below : (looks budget : ℕ) → looks ≤ budget → nat_eq looks budget ≡ false → looks < budget
-below looks budget le ne = grind (arith, nat_tests)
 
 cleared : (last : Bool) (st : AskStage) (a b : Ask) (c : CallsState) → nat_eq b.looks b.budget ≡ last → Fed st a b (Some Clear) → b.looks ≤ b.budget → IsCarried (carried_at st a.in_flight) c.sent a.code a.input → c.begun ≡ true → After b (clear_ended last b.looks c).calls (exchanges_of c.records)
 cleared true st a b c test f left h begun = record {
@@ -147,12 +143,6 @@ taken_on st a b (Some (Drained e)) r c n ready f h q e' = absurd (not_false (car
 left_most : (st : AskStage) (l b : ℕ) → LooksLeft st l b → l ≤ b
 left_most LookWord l b h = omega (arith, h)
 left_most _ l b h = h
-
-done_same : (told : Option AskOutcome) (done : List Exchange) (a : Ask) (n : ℕ) → done_after told done (record a { steps = n }) ≡ done_after told done a
-done_same None done a n = refl
-done_same (Some Posted) done a n = refl
-done_same (Some Clear) done a n = refl
-done_same (Some (Drained e)) done a n = refl
 
 -- ---- the state with the value that the step found
 

@@ -1,5 +1,5 @@
+pub mod Tests
 pub mod Readied
-pub mod AskFed
 pub mod Blocks
 pub mod Keeps
 pub mod AnswerHolds

@@ -236,7 +236,7 @@ module _ (w : Wiring) (limits : Limits) (calls : List Asked) where
   served_sent x y c (begins _ _ b at free) = (refl, refl, at)
 
   module _ (opening : List ℕ) (lines : List TraceLine) (readings : List ℕ) (records : List Record) (sent : Option Sent) where
-    -- the run that is cut is what stands after the last end
+    -- the run that is cut is what is left after the last end
     cut_tail : IsAsking w limits calls opening lines readings records sent → (x : Calls) × (rs : List ℕ) × Cut w limits calls x (open_tail lines) rs × (all_mid lines ≡ true → x ≡ from_opening w limits calls opening)
     cut_tail a = (
       a.after,

@@ -13,8 +13,9 @@ use Rattle.channel_core.specs.Sendings.{is_given_up}
 use Rattle.channel_plain.specs.declared.trace.Asked.{Asked}
 use Rattle.channel_plain.specs.declared.trace.TraceEnd.{TraceEnd}
 use Rattle.channel_plain.specs.Picks.{CallsState, PlainState, Picked, ask_ended, ask_picked_at, ask_stepped, begins, call_begun, clear_ended, drained, drained_calls, from_rest, next_reading, picked_by, post_or_soon, posting, read_once, refusal_of, served, soon_end, takes_reading}
-use Rattle.channel_plain.specs.Standing.{Stands, is_rest}
-use Rattle.channel_plain.proofs.AskFed.{Fed, fed, stepped, rest_is}
+use Rattle.pcc_steps.specs.Carrying.{is_rest}
+use Rattle.channel_plain.specs.Standing.{Stands}
+use Rattle.pcc_steps.proofs.AskFeeds.{Fed, fed, stepped, rest_is}
 use Rattle.channel_plain.proofs.AskPicks.{running}
 
 -- the count of the readings, with the one that was taken
@@ -79,14 +80,15 @@ soon_kept : (o : Option TraceEnd) (s t : PlainState) (r : ℕ) (c : Asked) → t
     → t.ask.in_flight ≡ false → AskKept s (post_or_soon o c r t)
 soon_kept (Some e) s t r c ws ls rs w st free =
     record { value = refl; words = ws; limits = ls; wiring = w; readings = ap counted rs; rest = ap (λ (z : PlainState). with_asking z (post_or_soon (Some e) c r t).state) st }
-soon_kept None s t r c ws ls rs w st free = record {
-  value = ap (found (ask_next (posting c r t).ask)) ws;
-  words = ap (act (ask_next (posting c r t).ask)) ws;
-  limits = ls;
-  wiring = w;
-  readings = ap counted rs;
-  rest = ap (λ (z : PlainState). with_asking z (post_or_soon None c r t).state) st;
-}
+soon_kept None s t r c ws ls rs w st free = let a : Ask = (posting c r t).ask in let v : ℕ = found (ask_next a) t.words in let z : Ask = ask_fed_at a.stage a v in
+    let f : Fed a.stage a (ask_fed a v) (ask_told a v) = stepped a.stage a z (ask_told a v) (ask_fed a v).steps (fed a.stage a v refl free) in record {
+      value = ap (found (ask_next (posting c r t).ask)) ws;
+      words = ap (act (ask_next (posting c r t).ask)) ws;
+      limits = ls;
+      wiring = f.wiring ∙ w;
+      readings = ap counted rs;
+      rest = ap (λ (z : PlainState). with_asking z (post_or_soon None c r t).state) st;
+    }
 
 served_kept : (f : Bool) (s t : PlainState) (r : ℕ) (c : Asked) → t.words ≡ s.words → t.calls.limits ≡ s.calls.limits → t.calls.readings ≡ s.calls.readings → t.ask.wiring ≡ s.ask.wiring → t ≡ with_asking s t
     → t.ask.in_flight ≡ f → AskKept s (served f c r t)

@@ -29,7 +29,7 @@ use Rattle.channel_plain.specs.Holding.{calls_of}
 
 pub ready_made : (o : Option CallRefusal) (old new : CommandHistory) (r x : ReadyCommand) → ReadiedBy o old r new (Ok x) → (x ≡ r) × (new ≡ reserved old)
 ready_made None old new r x h = h
-ready_made (Some e) old new r x h = absurd h.0
+ready_made (Some e) old new r x h = let n : Ok x ≡ Err e = h.0 in absurd (cc n)
 
 pub none_made : (o : Option CallRefusal) (old new : CommandHistory) (r : ReadyCommand) (e : CallRefusal) → ReadiedBy o old r new (Err e) → new ≡ old
 none_made None old new r e h = h.1

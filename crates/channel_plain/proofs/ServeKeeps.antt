@@ -5,7 +5,8 @@ use Rattle.std.specs.List.{slice_get}
 use Rattle.std.proofs.lemmas.Bool.Decides.{nat_tests}
 use Rattle.pcc_history.specs.Devices.{Device}
 use Rattle.pcc_journal.specs.declared.record.Record.{Record}
-use Rattle.pcc_journal.specs.Records.{exchanges_of}
+use Rattle.std.proofs.lemmas.List.{length-map}
+use Rattle.pcc_journal.specs.Records.{exchange_of_record, exchanges_of}
 use Rattle.pcc_steps.specs.declared.wiring.Wiring.{Wiring}
 use Rattle.pcc_steps.specs.declared.ask.AskStage.{AskStage}
 use Rattle.pcc_steps.specs.declared.ask.AskStage.TheVariants.{AskRest, PostBlock, PostHeader, PostUpdateLoad, PostUpdateStore, PostMarkLoad, PostMarkStore, PostBellLoad, PostBellStore, PostLine, LookWord, LookError, LookBlock, LookLine, LookLineStore, LookAckLoad, LookAckStore}
@@ -22,14 +23,13 @@ use Rattle.pcc_journal.specs.declared.reserved.TheConstants.{MAX_ITEMS}
 use Rattle.channel_core.specs.declared.answers.CallRefusal.TheVariants as refusal
 use Rattle.channel_core.specs.Sendings.{is_given_up}
 use Rattle.channel_plain.specs.Picks.{refused_end, CallsState, PlainState, asks_by, ask_ended, ask_stepped, ask_picked_at, begins, call_begun, clear_ended, drained, drained_calls, from_rest, is_wide, next_reading, picked, picked_by, post_or_soon, posting, read_once, recorded, refusal_of, served, soon_end}
-use Rattle.channel_plain.specs.Standing.{IsServing, Serving, Stands, carried, carried_at, is_rest, owns}
-use Rattle.channel_plain.proofs.AskFed.{Fed, fed, stepped}
+use Rattle.pcc_steps.specs.Carrying.{carried, carried_at, is_rest}
+use Rattle.channel_plain.specs.Standing.{IsServing, Serving, Stands, owns}
+use Rattle.pcc_steps.proofs.AskFeeds.{Fed, fed, stepped}
+use Rattle.channel_plain.proofs.Tests.{not_false}
 
 serving_as : (calls : List Asked) (w w' : Wiring) (u u' n n' f f' : ℕ) (b : CallsState) → w' ≡ w → u' ≡ u → n' ≡ n → f' ≡ f → Serving calls w u n f b → Serving calls w' u' n' f' b
 serving_as calls w w' u u' n n' f f' b ew eu en ef h = subst (λ (z : Wiring × ℕ × ℕ × ℕ). Serving calls z.0 z.1 z.2 z.3 b) (λ i. (sym ew i, sym eu i, sym en i, sym ef i)) h
-
-not_false : (b : Bool) → b ≡ true → b ≡ false → ⊥
-not_false b t f = cc
 
 late_room : (sent : Option Sent) (rs : List Record) (e : Bool) (o : List ℕ) (r : ℕ) → is_given_up sent ≡ true → (owns sent ≡ false → length rs + 1 < 4096) → length (rs ++ recorded sent e o r) + 0 < 4096
 late_room None rs e o r h room = absurd (cc h)
@@ -107,12 +107,8 @@ rest_serving true (Some c) calls r s e at most h = served_serving s.ask.in_fligh
 rest_serving false (Some c) calls r s e at most h = begins_serving (refusal_of s.ask.wiring c (length s.calls.records) (flying s.ask.in_flight)) calls c r s refl most at
 
 module _ (exec : Device) (is_state : List ℕ → Type 0) (room_of : List ℕ → ℕ) where
-  lengths : (rs : List Record) → length (exchanges_of rs) ≡ length rs
-  lengths [] = refl
-  lengths (r ∷ rs) = ap suc (lengths rs)
-
   most_posts : (s : PlainState) → s.ask.stage ≡ AskRest → Stands exec is_state room_of s → length s.calls.records + flying s.ask.in_flight ≤ 4096
-  most_posts s rest k = let p = k.agree.1.2.posts in let l : s.ask.posts ≤ 4096 = subst (λ (st : AskStage). PostsLeft st s.ask.posts) rest k.agree.1.2.ask_ok.posts in let q = lengths s.calls.records in omega (arith, p, l, q)
+  most_posts s rest k = let p = k.agree.1.2.posts in let l : s.ask.posts ≤ 4096 = subst (λ (st : AskStage). PostsLeft st s.ask.posts) rest k.agree.1.2.ask_ok.posts in let q = length-map s.calls.records exchange_of_record in omega (arith, p, l, q)
 
   runs_serving : (calls : List Asked) (r : ℕ) (s : PlainState) (st : AskStage) → s.ask.stage ≡ st → is_rest st ≡ false → Stands exec is_state room_of s → IsServing calls s → IsServing calls (ask_stepped r s).state
   runs_serving calls r s st e n k h = step_serving calls r s (ap is_rest e ∙ n) k.agree.1.2.ask_ok.flies k.own h

@@ -12,13 +12,12 @@ use Rattle.pcc_steps.specs.Asking.{Ask, AskOk, IsNewAsk}
 use Rattle.pcc_steps.specs.Answering.{Answer, AnswerOk, IsNewAnswer}
 use Rattle.pcc_steps.specs.Laws.{StartsAgreed}
 use Rattle.pcc_steps.specs.Agree.{Agree}
+use Rattle.pcc_steps.proofs.Lists.{eight_more}
 use Rattle.channel_core.specs.Executions.{Executions}
 use Rattle.channel_plain.specs.Picks.{CallsState}
 use Rattle.channel_plain.specs.News.{no_calls, opening_of}
-use Rattle.channel_plain.specs.Standing.{Holds, IsCarried, carried_at, is_rest}
-
-eight : (a b c d e f g h : ℕ) (l : List ℕ) → length (a ∷ b ∷ c ∷ d ∷ e ∷ f ∷ g ∷ h ∷ l) ≡ 8 + length l
-eight a b c d e f g h l = omega arith
+use Rattle.pcc_steps.specs.Carrying.{carried_at, is_rest}
+use Rattle.channel_plain.specs.Standing.{Holds, IsCarried}
 
 module _ (exec : Device) (is_state : List ℕ → Type 0) (room_of : List ℕ → ℕ) where
   pub new_holds : StartsAgreed → (w : Wiring) (l : Limits) (d d' opening ws : List ℕ) (a : Ask) (b : Answer) (k : CallsState) (reg : Executions) → IsNewAsk a w opening → AskOk a → IsNewAnswer b w → AnswerOk b → IsBytes opening → opening ≡ opening_of w → ws ≡ opening_words w (words_of opening) → is_state d → room_of d ≡ w.room → d' ≡ d
@@ -31,7 +30,7 @@ module _ (exec : Device) (is_state : List ℕ → Type 0) (room_of : List ℕ �
         record {
           unkept = record { clears = 0; asked = [] };
           agree = subst (λ (o : List ℕ). Agree exec d (opening_words w (words_of opening)) (record { m = a; done = []; clears = 0; opening = o; asked = [] }) (record { m = b; device = d; done = [] })) (eo ∙ ap opening_of (sym new.0)) (law exec d w opening a b new new' ok ok' bytes);
-          long = eight (opening_word (style_of w) w) 0 0 0 0 0 0 0 (opening_header (style_of w) w ++ words_of opening) ∙ ap (λ (n : ℕ). 8 + n) (ap (λ (x : List ℕ). length x) (sym new.3) ∙ ok.sized.shown);
+          long = eight_more (opening_word (style_of w) w) 0 0 0 0 0 0 0 (opening_header (style_of w) w ++ words_of opening) ∙ ap (λ (n : ℕ). 8 + n) (ap (λ (x : List ℕ). length x) (sym new.3) ∙ ok.sized.shown);
           start = is;
           room = room ∙ ap (λ (w : Wiring). w.room) (sym new.0);
           carries = subst (λ (f : Bool). IsCarried f None a.code a.input) (sym rest) refl;

@@ -12,7 +12,7 @@ use Rattle.pcc_steps.specs.declared.wiring.Wiring.{Wiring}
 use Rattle.channel_core.specs.declared.sent.Sent.{Sent}
 use Rattle.channel_plain.specs.declared.trace.Asked.{Asked}
 use Rattle.channel_plain.specs.declared.trace.TraceLine.{TraceLine}
-use Rattle.channel_core.specs.Sendings.{is_late, record_of}
+use Rattle.channel_core.specs.Sendings.{first_looks, is_late, record_of}
 use Rattle.channel_plain.specs.WordRuns.{Calls, Serves, goes_on, begins, Turn, Turns, none, more, idles, refuses, delays, sends, looks_on, gives_up, takes, end_call, take_reading, from_opening, goes_on_if, replied, IsAsking}
 use Rattle.channel_plain.specs.Wholes.{Caller, no_call, one_more, IsWhole, bytes_asked, caller_of_call, caller_of_record}
 
@@ -30,7 +30,7 @@ abbrev late_by : Bool → ℕ
 late_by true = 1
 late_by false = 0
 
--- the call of the command in flight stands behind those that have records, and in front of the calls that have not begun
+-- the call of the command in flight is after those that have records, and before the calls that have not begun
 abbrev Flown : List Asked → ℕ → ℕ → List ℕ → Option Sent → Type 0
 Flown calls n ended space None = n ≤ ended
 Flown calls n ended space (Some p) = (j : ℕ) × (c : Asked) × (slice_get calls j ≡ Some c) × (p.command.input ≡ over space c.bytes) × (p.command.caller ≡ c.caller) × (p.command.code ≡ c.code) × (n ≤ j) × (j + late_by (is_late p) ≤ ended)
@@ -94,11 +94,13 @@ module _ (w : Wiring) (limits : Limits) (calls : List Asked) (opening : List ℕ
       record { whole = u.whole; space = u.space; flown = (s.ended, c, q.1, refl, refl, refl, below, omega arith) }
   turn_told x y ls' (looks_on _ s c p ls l sv es lt run e) t = let u = (served_told x s c sv t).0 in record { whole = u.whole; space = u.space; flown = u.flown }
   turn_told x y ls' (gives_up _ s c p ls l sv es lt run e) t = let u = (served_told x s c sv t).0 in let h = subst (λ (o : Option Sent). Flown calls u.whole.place s.ended s.space o) es u.flown in
-      record { whole = u.whole; space = u.space; flown = (h.0, h.1, h.2, h.3, h.4, h.5, h.6, late_more (is_late p) h.0 s.ended h.7) }
+      record { whole = u.whole; space = u.space; flown = (h.0, h.1, h.2, h.3, h.4, h.5, h.6, late_more (is_late p) (is_late (record p { note = record p.note { looks = first_looks p.note.looks c.polls } })) h.0 s.ended h.7) }
     where
-      late_more : (b : Bool) (j n : ℕ) → j + late_by b ≤ n → j + 1 ≤ n + 1
-      late_more true j n h = omega (arith, h)
-      late_more false j n h = omega (arith, h)
+      late_more : (b c : Bool) (j n : ℕ) → j + late_by b ≤ n → j + late_by c ≤ n + 1
+      late_more true true j n h = omega (arith, h)
+      late_more true false j n h = omega (arith, h)
+      late_more false true j n h = omega (arith, h)
+      late_more false false j n h = omega (arith, h)
   turn_told x y ls' (takes _ s c p r error block ls l sv es run e) t = drained_told (is_late p) s p r error block (replied w block) refl (served_told x s c sv t).0 es
 
   turns_told : (x y : Calls) (ls : List TraceLine) → Turns w limits calls x ls y → Told opening calls x → Told opening calls y

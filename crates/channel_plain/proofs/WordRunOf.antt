@@ -25,14 +25,17 @@ use Rattle.channel_plain.specs.Picks.{CallsState, PlainState, Picked, answer_pic
 use Rattle.channel_core.specs.Readings.{count_of, counted}
 use Rattle.channel_plain.specs.Holding.{Takes}
 use Rattle.channel_plain.specs.News.{opening_of}
-use Rattle.channel_plain.specs.Standing.{HavePolls, IsCarried, IsServing, Stands, carried, carried_at, is_rest}
+use Rattle.pcc_steps.specs.Carrying.{carried, carried_at, is_rest}
+use Rattle.channel_plain.specs.Standing.{HavePolls, IsCarried, IsServing, Stands}
 use Rattle.channel_plain.specs.Weaving.{IsFresh, Readings, unread, reads, Wove, unpicked, picks, reading_of}
 use Rattle.channel_plain.specs.WordRuns.{Answers, unanswered, Calls, Cut, from_opening, IsAnswering, IsAsking, Remembers, Serves, goes_on, begins, Turns, none, Walks, WordRun, posts_call, answer_from, asked_line, answered_line, flown, looking, sending, side_of_line, whole, IsUnfinished}
-use Rattle.channel_plain.proofs.AskFed.{rest_is}
+use Rattle.pcc_steps.proofs.AskFeeds.{rest_is}
 use Rattle.channel_plain.proofs.WordSteps.{takes_next, AskTie, resting, running, Running, posts_run, looks_run, block_by, calls_at}
 use Rattle.channel_plain.proofs.AskTurns.{pick_tie}
-use Rattle.channel_plain.proofs.AnswerTurns.{AnswerTie, between_run, is_rest as is_rest_a, is_run, a_resting, a_running, answer_tie}
+use Rattle.channel_plain.proofs.AnswerTurns.{AnswerTie, between_run, a_resting, a_running, answer_tie}
+use Rattle.pcc_steps.proofs.AnswerFeeds.{is_rest as is_rest_a, is_run}
 use Rattle.channel_plain.proofs.PickKeeps.{asks_kept, counted_if, picked_kept}
+use Rattle.channel_plain.proofs.Tests.{not_false}
 
 -- ---- lists
 
@@ -61,9 +64,6 @@ filter_one p l = by_test (p l)
 
 filter_more : (p : TraceLine → Bool) (ls : List TraceLine) (l : TraceLine) (b : Bool) → p l ≡ b → filter p (ls ++ l ∷ []) ≡ filter p ls ++ kept_by b l
 filter_more p ls l b e = filter-append p ls (l ∷ []) ∙ ap (λ (x : List TraceLine). filter p ls ++ x) (filter_one p l ∙ ap (λ (b : Bool). kept_by b l) e)
-
-not_false : (b : Bool) → b ≡ true → b ≡ false → ⊥
-not_false b t f = cc
 
 -- ---- what one side does is beside the other
 
@@ -200,7 +200,7 @@ module _ {K : Type 0} (taken : K → ℕ) (tells : K → ℕ → Option ℕ) (ex
     start = refl;
     numbered = ap (λ (k : CallsState). k.readings) new.calls;
     ask = resting (ap is_rest new.ask.1) (subst (λ (z : Calls). Turns s.ask.wiring s.calls.limits calls (from_opening s.ask.wiring s.calls.limits calls (opening_of s.ask.wiring)) [] z)
-        (λ i. record { ended = (sym new.calls i).ended; begun = (sym new.calls i).begun; looks = sym new.ask.8 i; sent = (sym new.calls i).sent; block = (sym new.ask.3 ∙ ap (λ (k : CallsState). block_by k.sent s.ask) (sym new.calls)) i; space = sym new.ask.4 i; records = (sym new.calls i).records; readings = [] }) none);
+        (λ i. record { ended = (sym new.calls i).ended; begun = (sym new.calls i).begun; looks = sym new.ask.8 i; sent = (sym new.calls i).sent; block = (sym new.ask.3 ∙ ap (λ (k : CallsState). block_by k.sent s.ask.sent s.ask.shown) (sym new.calls)) i; space = sym new.ask.4 i; records = (sym new.calls i).records; readings = [] }) none);
     answer = a_resting (ap (λ (st : _). is_rest_a st) new.answer.1) (subst (λ (z : List ℕ × List Exchange). Answers exec s.ask.wiring s.start [] z.0 z.1) (λ i. (sym new.device i, exchanges_of_commands (sym new.executed i))) unanswered);
   }
   tied posts looks asks table law turn polls s k sides trace rs t m new (picks sides' ls rs' t' m' m'' side r before k1 k2 serving takes) =

@@ -19,11 +19,12 @@ use Rattle.channel_plain.specs.declared.trace.Side.{Side}
 use Rattle.channel_plain.specs.declared.trace.TraceEnd.TheVariants as end
 use Rattle.channel_plain.specs.declared.trace.TraceLine.{TraceLine}
 use Rattle.channel_plain.specs.Picks.{CallsState, PlainState, ask_ended, call_ended, clear_ended, drain_ended, drained, drained_calls, drained_end, given_up_end, next_reading, read_once, sent_by, takes_reading}
-use Rattle.channel_plain.specs.Standing.{is_rest}
+use Rattle.pcc_steps.specs.Carrying.{is_rest}
 use Rattle.channel_plain.specs.Weaving.{reading_of}
 use Rattle.channel_plain.specs.WordRuns.{Walks, Calls, Serves, Turn, Turns, more, sends, looks_on, gives_up, takes, end_call, take_reading, goes_on_if, block_after, posts_call, reading_at, earliest_at, replied, next_of, rest_of}
-use Rattle.channel_plain.proofs.AskFed.{Fed}
+use Rattle.pcc_steps.proofs.AskFeeds.{Fed}
 use Rattle.channel_plain.proofs.Blocks.{BlocksAfter}
+use Rattle.channel_plain.proofs.Tests.{below, not_false}
 
 -- ---- runs
 
@@ -48,24 +49,18 @@ walks_more run rest (m ∷ ms) l w n e = (w.0, w.1, walks_more (rest_of run m.va
 walks_to : {E : Type 0} (run rest rest' : Run E) (ls : List TraceLine) → rest ≡ rest' → Walks run ls rest → Walks run ls rest'
 walks_to run rest rest' ls e w = subst (λ (r : _). Walks run ls r) e w
 
-pub not_false : (b : Bool) → b ≡ true → b ≡ false → ⊥
-not_false b t f = cc
-
-below : (looks budget : ℕ) → looks ≤ budget → nat_eq looks budget ≡ false → looks < budget
-below looks budget le ne = grind (arith, nat_tests)
-
 level : (looks budget : ℕ) → nat_eq looks budget ≡ true → looks ≡ budget
 level looks budget e = grind (arith, nat_tests)
 
 -- ---- the calls of a trace, by the channel
 
 -- the block that was loaded last, or the one that was stored for the command in flight
-abbrev pub block_by : Option Sent → Ask → List ℕ
-block_by None a = a.shown
-block_by (Some p) a = a.sent
+abbrev pub block_by : Option Sent → List ℕ → List ℕ → List ℕ
+block_by None stored loaded = loaded
+block_by (Some p) stored loaded = stored
 
 abbrev pub calls_at : PlainState → Option Sent → List ℕ → Calls
-calls_at s sent rs = record { ended = s.calls.ended; begun = s.calls.begun; looks = s.ask.looks; sent = sent; block = block_by sent s.ask; space = s.ask.space; records = s.calls.records; readings = rs }
+calls_at s sent rs = record { ended = s.calls.ended; begun = s.calls.begun; looks = s.ask.looks; sent = sent; block = block_by sent s.ask.sent s.ask.shown; space = s.ask.space; records = s.calls.records; readings = rs }
 
 module _ (w : Wiring) (limits : Limits) (calls : List Asked) where
   -- a run under way, for a call that is served since the calls stood so; it took these readings
@@ -98,7 +93,7 @@ module _ (w : Wiring) (limits : Limits) (calls : List Asked) where
       let l : TraceLine = record { side = side; action = action; value = v; end = end.Posted } in let t : PlainState = record s { words = ws; ask = b } in let y : Calls = calls_at s None x.readings in
       turned from x (record (take_reading y q) { sent = Some (sent_by c y.space (reading_at y.readings q)); block = block_after w c y.block; looks = 0 }) t past (ls ++ l ∷ []) (past ++ (ls ++ l ∷ [])) ((x.readings ++ q ∷ []) ++ []) f.rests before
       (sends x y c q ls l sv refl le (record { rest = ask_left s.ask; walks = walks; last = next; ends = rest }) refl)
-      (λ i. record { ended = s.calls.ended; begun = s.calls.begun; looks = sym f.looks i; sent = sym sent i; block = (sym blk ∙ (sym k.0 ∙ ap (λ (o : Option Sent). block_by o b) (sym sent))) i; space = sym f.space i; records = s.calls.records; readings = sym (append-nil (x.readings ++ q ∷ [])) i }) refl
+      (λ i. record { ended = s.calls.ended; begun = s.calls.begun; looks = sym f.looks i; sent = sym sent i; block = (sym blk ∙ (sym k.0 ∙ ap (λ (o : Option Sent). block_by o b.sent b.shown) (sym sent))) i; space = sym f.space i; records = s.calls.records; readings = sym (append-nil (x.readings ++ q ∷ [])) i }) refl
   post_turn (Some Clear) st s b ws side action v r f k next rest from x past ls c q before free sv sent blk le walks polls = absurd (not_false s.ask.in_flight f.sure.1 free)
   post_turn (Some (Drained e)) st s b ws side action v r f k next rest from x past ls c q before free sv sent blk le walks polls = absurd (not_false s.ask.in_flight f.sure.1 free)
 
@@ -121,8 +116,8 @@ module _ (w : Wiring) (limits : Limits) (calls : List Asked) where
 
   -- a look that took the reply
   goes_on_at : (late : Bool) (y : Calls) (k : CallsState) (b : Ask) (rs : List ℕ) (s : PlainState) → y ≡ record { ended = k.ended; begun = k.begun; looks = b.looks; sent = None; block = b.shown; space = b.space; records = k.records; readings = rs } → k.sent ≡ None → goes_on_if late y ≡ calls_at (record s { ask = b; calls = drained_calls late k }) (drained_calls late k).sent rs
-  goes_on_at true y k b rs s e n = e ∙ ap (λ (o : Option Sent). record { ended = k.ended; begun = k.begun; looks = b.looks; sent = o; block = block_by o b; space = b.space; records = k.records; readings = rs }) (sym n)
-  goes_on_at false y k b rs s e n = ap end_call e ∙ ap (λ (o : Option Sent). record { ended = k.ended + 1; begun = false; looks = b.looks; sent = o; block = block_by o b; space = b.space; records = k.records; readings = rs }) (sym n)
+  goes_on_at true y k b rs s e n = e ∙ ap (λ (o : Option Sent). record { ended = k.ended; begun = k.begun; looks = b.looks; sent = o; block = block_by o b.sent b.shown; space = b.space; records = k.records; readings = rs }) (sym n)
+  goes_on_at false y k b rs s e n = ap end_call e ∙ ap (λ (o : Option Sent). record { ended = k.ended + 1; begun = false; looks = b.looks; sent = o; block = block_by o b.sent b.shown; space = b.space; records = k.records; readings = rs }) (sym n)
 
   drain_turn : (st : AskStage) (s : PlainState) (b : Ask) (ws : List ℕ) (side : Side) (action : Action) (v r : ℕ) (e : Bool) (p : Sent) (k : CallsState) → s.calls ≡ record k { sent = Some p } → Fed st s.ask b (Some (Drained e)) → b.wiring ≡ w → next_of (ask_left s.ask) ≡ Some action → rest_of (ask_left s.ask) v ≡ ends (drains e b.shown)
       → (from x : Calls) (past ls : List TraceLine) (c : Asked) → Turns w limits calls from past x → Serves w limits calls x c (calls_at s (Some p) x.readings) → Walks (look_run w) ls (ask_left s.ask)

@@ -28,7 +28,7 @@ calls_of limits h readings ended begun = record {
   begun = begun;
 }
 
--- the calls, with the clock that their readings come from
+-- the calls, with the clock of their readings
 pub record ClockedCalls (K : Type 0) : Type 0 where
   pub calls : CallsState
   pub clock : K

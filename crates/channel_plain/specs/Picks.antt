@@ -103,7 +103,7 @@ abbrev pub given_up_end : Bool → ℕ → TraceEnd
 given_up_end true looks = end.StillPending looks
 given_up_end false looks = end.TimedOut looks
 
--- a look saw the command incomplete, after so many: was it the last that the call has?
+-- a look saw the command incomplete, after N looks: was it the last that the call has?
 abbrev pub clear_ended : Bool → ℕ → CallsState → Ended
 clear_ended true looks b = record { calls = call_ended (record b { sent = given_up_after looks b.sent }); end = given_up_end (is_given_up b.sent) looks }
 clear_ended false looks b = record { calls = b; end = end.Clear looks }

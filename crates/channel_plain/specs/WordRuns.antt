@@ -1,5 +1,5 @@
--- What a trace of single word steps tells: which words it moves, the runs of each side, the calls with their ends, the readings, and the
--- journal that comes of it. It speaks of whole runs, and of no machine.
+-- What a trace of single word steps says: which words it moves, the runs of each side, the calls with their ends, the readings, and the
+-- journal that it leaves. It speaks of whole runs, and of no machine.
 use Rattle.std.specs.Prelude.{◌≡◌, ◌≤◌, ◌<◌, ℕ, ◌+◌, Bool, true, false, not, List, [], ◌∷◌, ◌++◌, length, map, drop, Option, Some, None}
 use Rattle.std.specs.List.{slice_get, filter}
 use Rattle.pcc_history.specs.Devices.{Device}
@@ -35,7 +35,7 @@ Remembers words (l ∷ ls) = (l.value ≡ found l.action words) × Remembers (ac
 
 -- ---- the steps of a run
 
--- the step that comes next; executing is no word step
+-- the next step; executing is no word step
 abbrev pub next_of : {E : Type 0} → Run E → Option Action
 next_of (ends e) = None
 next_of (loads place k) = Some (Load place)
@@ -43,7 +43,7 @@ next_of (stores place word k) = Some (Store place word)
 next_of (swaps place word k) = Some (Swap place word)
 next_of (executes code space k) = None
 
--- the rest of the run behind that step, by the value that it found
+-- the rest of the run after that step, by the value that it found
 abbrev pub rest_of : {E : Type 0} → Run E → ℕ → Run E
 rest_of (ends e) value = ends e
 rest_of (loads place k) value = k value
@@ -207,14 +207,14 @@ module _ (w : Wiring) (limits : Limits) (calls : List Asked) where
 
 -- ---- the answering side
 
--- a run with the device behind it, and what the device has executed
+-- a run with its device, and what the device has executed
 pub record Answered : Type 0 where
   pub device : List ℕ
   pub executed : List Exchange
   pub run : Run AnswerEnd
 
 module _ (exec : Device) (w : Wiring) where
-  -- the device executes a command as soon as the run has come to it
+  -- the device executes a command as soon as the run has loaded it
   abbrev pub execute : Run AnswerEnd → List ℕ → List Exchange → Answered
   execute (executes code space k) device es = let x = exec device code space in
       record { device = x.state; executed = es ++ exchange_of exec w.reports device code space ∷ []; run = k x.bad x.space }
@@ -269,7 +269,8 @@ answered_line kind l = not (asks_by kind l.side)
 abbrev pub side_of_line : TraceLine → Side
 side_of_line l = l.side
 
--- the trace of the picks, for the calls, with the readings that it took, and the records, the command in flight and the executed commands that come of it
+-- the trace of the picks, for the calls, with the readings that it took, and the records, the command in flight and the executed commands that
+-- it leaves
 pub record WordRun (exec : Device) (w : Wiring) (limits : Limits) (start opening : List ℕ) (calls : List Asked) (picks : List Side)
     (trace : List TraceLine) (readings : List ℕ) (records : List Record) (sent : Option Sent) (executed : List Exchange) : Type 0 where
   pub sides : map side_of_line trace ≡ picks

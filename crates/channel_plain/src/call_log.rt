@@ -138,18 +138,18 @@ impl<K: Clock> CallLog<K> {
     {
         let ready = ready_for(&mut self.history, alloc, wiring, call)?;
         let post = self.caller.read();
-        let soon = too_soon(
-            &self.caller.limits,
-            self.history.journal().times(),
-            post.at,
-        );
-        if let Some(end) = refused_end(soon) {
-            self.end_call();
-            return Ok(Some(end));
+        let soon = too_soon(&self.caller.limits, self.history.journal().times(), post.at);
+        match refused_end(soon) {
+            Some(end) => {
+                self.end_call();
+                Ok(Some(end))
+            }
+            None => {
+                self.history.mark_post(ready.fly(call.caller, &post, space));
+                self.begun = true;
+                Ok(None)
+            }
         }
-        self.history.mark_post(ready.fly(call.caller, &post, space));
-        self.begun = true;
-        Ok(None)
     }
 
     /// Records what a step of the asking machine reported.

@@ -21,8 +21,8 @@ use crate::pick::Pick;
 use crate::step::{fit_code, settle, start};
 use crate::trace::{Asked, TraceEnd};
 use channel_core::{Executed, zeros};
-use pcc_exec::Executor;
 use pcc_bytes::are_bytes;
+use pcc_exec::Executor;
 use pcc_io::{Clock, NoMemory};
 use pcc_journal::{Commands, Journal, Notes, Pending};
 use pcc_steps::{
@@ -218,7 +218,8 @@ impl<E: Executor, K: Clock> Ends<E, K> {
         requires code { CodeFits (style_of self.old.channel.ask.wiring) call.now.code }
         requires posts { self.old.channel.ask.in_flight ≡ false → self.old.channel.ask.posts < 4096 }
         requires budget { 0 < self.old.channel.ask.budget }
-        ensures ok { IfOk result (λ pick. IsPickAt K.taken K.tells self.old.clock self.new.clock (λ r. served self.old.channel.ask.in_flight call.now r self.old.channel) self.new.channel pick) }
+        ensures ok { IfOk result (λ pick. IsPickAt K.taken K.tells self.old.clock self.new.clock
+            (λ r. served self.old.channel.ask.in_flight call.now r self.old.channel) self.new.channel pick) }
         ensures err { OnErr result (self.new ≡ self.old) }
     {
         let waits = self.ask.in_flight();
@@ -236,7 +237,8 @@ impl<E: Executor, K: Clock> Ends<E, K> {
         requires code { CodeFits (style_of self.old.channel.ask.wiring) call.now.code }
         requires posts { self.old.channel.ask.in_flight ≡ false → self.old.channel.ask.posts < 4096 }
         requires polls { 0 < call.now.polls }
-        ensures ok { IfOk result (λ pick. IsPickAt K.taken K.tells self.old.clock self.new.clock (λ r. begins None call.now r self.old.channel) self.new.channel pick) }
+        ensures ok { IfOk result (λ pick. IsPickAt K.taken K.tells self.old.clock self.new.clock
+            (λ r. begins None call.now r self.old.channel) self.new.channel pick) }
         ensures err { OnErr result (self.new ≡ self.old) }
     {
         if self.ask.in_flight() {
@@ -249,11 +251,7 @@ impl<E: Executor, K: Clock> Ends<E, K> {
     }
 
     // Takes all memory of the command, before it touches anything.
-    fn post(
-        &mut self,
-        call: &Asked,
-        begins: bool,
-    ) -> Result<Pick, NoMemory>
+    fn post(&mut self, call: &Asked, begins: bool) -> Result<Pick, NoMemory>
         requires rests { self.old.channel.ask.stage ≡ AskRest }
         requires free { self.old.channel.ask.in_flight ≡ false }
         requires counted { self.old.channel.calls.ended < 2 ^ 64 - 1 }

@@ -42,7 +42,8 @@ module _ (exec : Device) (w : Wiring) (limits : Limits) (start opening : List �
   no_open : (g : TraceLog) → g.unended ≡ false → lines_in w calls g ≡ g.calls
   no_open g e = ap (λ (b : Bool). g.calls ++ open_line w calls b (slice_get calls (length g.calls))) e ∙ append-nil g.calls
 
-  keeps : (s : Calls) (g : TraceLog) → Legal exec w.reports start (exchanges_of s.records) → Holds exec w limits start opening calls s g → Flies exec w limits start opening calls s g → Keeps s g s.sent g.flight (lines_in w calls g)
+  keeps : (s : Calls) (g : TraceLog) → Legal exec w.reports start (exchanges_of s.records) → Holds exec w limits start opening calls s g
+      → Flies exec w limits start opening calls s g → Keeps s g s.sent g.flight (lines_in w calls g)
   keeps s g legal h (quiet a f u p) =
       let one : Keeps s g None None g.calls = headline_at exec w limits start opening s.space s.readings s.records g.notes None g.calls legal (all_ended g.calls h.replies) p in
       subst (λ (o : Option Sent). Keeps s g o g.flight (lines_in w calls g)) (sym a) (subst (λ (o : Option Note). Keeps s g None o (lines_in w calls g)) (sym f) (subst (λ (v : List CallLine). Keeps s g None None v) (sym (no_open g u)) one))
@@ -114,7 +115,8 @@ module _ (exec : Device) (w : Wiring) (limits : Limits) (start opening : List �
       subst G (sym logged) (subst S (sym a.flies) (subst R (sym a.kept) (subst H (sym front) kept, least, most)))
 
   pub word_headline : (picks : List Side) (trace : List TraceLine) (readings : List ℕ) (records : List Record) (sent : Option Sent) (executed : List Exchange)
-      → WordRun exec w limits start opening calls picks trace readings records sent executed → Legal exec w.reports start (exchanges_of records) → WordHeadline exec w limits start opening calls trace readings records sent
+      → WordRun exec w limits start opening calls picks trace readings records sent executed → Legal exec w.reports start (exchanges_of records)
+      → WordHeadline exec w limits start opening calls trace readings records sent
   word_headline picks trace readings records sent executed run legal =
       let t = asking_told (filter (asked_line w.kind) trace) readings records sent legal run.asking in
       record { kept = t.0; more = (t.1, t.2) }

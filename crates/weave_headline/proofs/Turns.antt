@@ -55,7 +55,8 @@ walk_rest run rest [] h = h
 walk_rest run rest (l ∷ ls) h = walk_rest (rest_of run l.value) rest ls h.2
 
 -- what the steps of a whole look have drained
-look_output : (w : Wiring) (ls : List TraceLine) (l : TraceLine) (error : Bool) (block : List ℕ) → IsRun (look_run w) ls l (drains error block) → output_of w (ls ++ l ∷ []) ≡ replied w block
+look_output : (w : Wiring) (ls : List TraceLine) (l : TraceLine) (error : Bool) (block : List ℕ) → IsRun (look_run w) ls l (drains error block)
+    → output_of w (ls ++ l ∷ []) ≡ replied w block
 look_output w ls l error block h =
     ap (output_by w) (rest_append (look_run w) ls (l ∷ []) ∙ ap (λ (r : Run AskEnd). rest_of r l.value) (walk_rest (look_run w) h.rest ls h.walks) ∙ h.ends)
 
@@ -112,7 +113,8 @@ module _ (exec : Device) (w : Wiring) (limits : Limits) (start opening : List �
     quiet : s.sent ≡ None → g.flight ≡ None → g.unended ≡ false → At s.space s.readings s.records g.notes None g.calls → Flies s g
     late : (p : Sent) (n : Note) → s.sent ≡ Some p → is_late p ≡ true → g.flight ≡ Some n → g.unended ≡ false
         → At s.space s.readings s.records g.notes (Some (noted_sent p n)) g.calls → Flies s g
-    owned : (c : Asked) (rs : List ℕ) (r : ℕ) → s.sent ≡ Some (sent_by c s.space (reading_at rs r)) → g.flight ≡ Some (note_of (length rs) 0 0) → g.unended ≡ true → s.readings ≡ rs ++ r ∷ []
+    owned : (c : Asked) (rs : List ℕ) (r : ℕ) → s.sent ≡ Some (sent_by c s.space (reading_at rs r)) → g.flight ≡ Some (note_of (length rs) 0 0)
+        → g.unended ≡ true → s.readings ≡ rs ++ r ∷ []
         → s.begun ≡ true → slice_get calls s.ended ≡ Some c → Passes c → length s.records < MAX_ITEMS → earliest_of limits (times_of s.records) ≤ r
         → At s.space rs s.records g.notes None g.calls → Flies s g
 
@@ -120,7 +122,8 @@ module _ (exec : Device) (w : Wiring) (limits : Limits) (start opening : List �
     pub ended : length g.calls ≡ s.ended
     pub taken : g.taken ≡ length s.readings
     pub replies : AllByRecursion (λ l. HasReply l.reply) g.calls
-    pub serves : s.begun ≡ true → (c : Asked) → slice_get calls s.ended ≡ Some c → Passes c × (g.unended ≡ false → length s.records + count_flying s.sent < MAX_ITEMS)
+    pub serves : s.begun ≡ true → (c : Asked) → slice_get calls s.ended ≡ Some c
+        → Passes c × (g.unended ≡ false → length s.records + count_flying s.sent < MAX_ITEMS)
     pub flies : Flies s g
 
   -- ---- a call is served
@@ -128,7 +131,8 @@ module _ (exec : Device) (w : Wiring) (limits : Limits) (start opening : List �
   abbrev Free : Calls → TraceLog → Asked → Type 0
   Free s g d = Passes d × (g.unended ≡ false → length s.records + count_flying s.sent < MAX_ITEMS)
 
-  served : (s s' : Calls) (c : Asked) (g : TraceLog) → Serves w limits calls s c s' → Holds s g → Holds s' g × (s'.begun ≡ true) × (slice_get calls s'.ended ≡ Some c)
+  served : (s s' : Calls) (c : Asked) (g : TraceLog) → Serves w limits calls s c s' → Holds s g
+      → Holds s' g × (s'.begun ≡ true) × (slice_get calls s'.ended ≡ Some c)
   served s s' c g (goes_on _ _ b at) h = (h, b, at)
   served s s' c g (begins _ _ b at free) h =
       (record { ended = h.ended; taken = h.taken; replies = h.replies; serves = λ begun d at'. subst (Free s g) (same_Some c d (sym at ∙ at')) fits; flies = on h.flies }, refl, at)
@@ -156,7 +160,8 @@ module _ (exec : Device) (w : Wiring) (limits : Limits) (start opening : List �
   abbrev closed : Asked → Reply → ℕ → TraceLog → TraceLog
   closed c reply number g = record g { unended = false; calls = g.calls ++ line_of c (Some reply) number ∷ []; run = [] }
 
-  ended_is : (c : Asked) (reply : Reply) (number : ℕ) (g : TraceLog) → slice_get calls (length g.calls) ≡ Some c → rested (ended_with w calls reply number g) ≡ closed c reply number g
+  ended_is : (c : Asked) (reply : Reply) (number : ℕ) (g : TraceLog) → slice_get calls (length g.calls) ≡ Some c
+      → rested (ended_with w calls reply number g) ≡ closed c reply number g
   ended_is c reply number g at = ap (λ (o : Option Asked). rested (with_line o reply number g)) at
 
   one_longer : (ls : List CallLine) (l : CallLine) (n : ℕ) → length ls ≡ n → length (ls ++ l ∷ []) ≡ n + 1
@@ -166,7 +171,8 @@ module _ (exec : Device) (w : Wiring) (limits : Limits) (start opening : List �
   Caused s g c reply = (pn : Option NotedPending) → pending_count pn ≡ count_flying s.sent → (h : At s.space s.readings s.records g.notes pn g.calls)
       → HasCause (T exec w limits start opening) s.readings h.events g.calls (line_of c (Some reply) 0) (Some reply)
 
-  ends_refused : (s : Calls) (g : TraceLog) (c : Asked) (reply : Reply) → slice_get calls s.ended ≡ Some c → g.unended ≡ false → is_post reply ≡ false → is_too_soon reply ≡ false → Caused s g c reply
+  ends_refused : (s : Calls) (g : TraceLog) (c : Asked) (reply : Reply) → slice_get calls s.ended ≡ Some c → g.unended ≡ false → is_post reply ≡ false
+      → is_too_soon reply ≡ false → Caused s g c reply
       → Holds s g → Holds (end_call s) (rested (ended_with w calls reply 0 g))
   unfolding Caused
   ends_refused s g c reply at un unposted unsoon cause h =
@@ -194,7 +200,8 @@ module _ (exec : Device) (w : Wiring) (limits : Limits) (start opening : List �
       not_both : (x : Bool) → x ≡ false → x ≡ true → ⊥
       not_both x e f = cc
 
-  refused_by : (s : Calls) (g : TraceLog) (c : Asked) (e : TraceEnd) (l : TraceLine) (bad long full : Bool) → slice_get calls s.ended ≡ Some c → g.unended ≡ false
+  refused_by : (s : Calls) (g : TraceLog) (c : Asked) (e : TraceEnd) (l : TraceLine) (bad long full : Bool) → slice_get calls s.ended ≡ Some c
+      → g.unended ≡ false
       → refusals.refusal_of w.kind w.room c.code (length c.bytes) 0 ≡ cond bad (Some (refusal.BadCode c.code)) (cond long (Some (refusal.TooLong (length c.bytes) w.room)) None)
       → (full ≡ true → MAX_ITEMS ≤ length s.records + count_flying s.sent)
       → refused_end (cond bad (Some (refusal.BadCode c.code)) (cond long (Some (refusal.TooLong (length c.bytes) w.room)) (cond full (Some refusal.JournalFull) None))) ≡ Some e
@@ -208,7 +215,8 @@ module _ (exec : Device) (w : Wiring) (limits : Limits) (start opening : List �
   refused_by s g c e l false false true at un by most is h =
       subst (λ (x : TraceEnd). Holds (end_call s) (log_end w calls x l g)) (same_Some end.JournalFull e is) (ends_refused s g c JournalFull at un refl refl (λ pn n p. (by, cause pn n p)) h)
     where
-      cause : (pn : Option NotedPending) → pending_count pn ≡ count_flying s.sent → (p : At s.space s.readings s.records g.notes pn g.calls) → IsFull p.events g.calls (line_of c (Some JournalFull) 0)
+      cause : (pn : Option NotedPending) → pending_count pn ≡ count_flying s.sent → (p : At s.space s.readings s.records g.notes pn g.calls)
+          → IsFull p.events g.calls (line_of c (Some JournalFull) 0)
       cause pn n p =
           let at_least : MAX_ITEMS ≤ length s.records + count_flying s.sent = most refl in
           let posts : post_count p.events ≡ length s.records + pending_count pn = p.posts in
@@ -224,7 +232,8 @@ module _ (exec : Device) (w : Wiring) (limits : Limits) (start opening : List �
   abbrev one_taken : TraceLog → TraceLog
   one_taken g = record g { taken = g.taken + 1 }
 
-  soon_holds : (s : Calls) (g : TraceLog) (c : Asked) (r : ℕ) (l : TraceLine) → Holds s g → s.begun ≡ true → slice_get calls s.ended ≡ Some c → s.sent ≡ None → r < earliest_of limits (times_of s.records)
+  soon_holds : (s : Calls) (g : TraceLog) (c : Asked) (r : ℕ) (l : TraceLine) → Holds s g → s.begun ≡ true → slice_get calls s.ended ≡ Some c → s.sent ≡ None
+      → r < earliest_of limits (times_of s.records)
       → Holds (end_call (take_reading s r)) (log_end w calls (end.TooSoon r (earliest_of limits (times_of s.records))) l g)
   soon_holds s g c r l h b at free below =
       subst (Holds (end_call (take_reading s r))) (sym (ended_is c (soon_reply s r) g.taken (one_taken g) (next_call s g c h.ended at)))
@@ -247,7 +256,8 @@ module _ (exec : Device) (w : Wiring) (limits : Limits) (start opening : List �
       on (late p n a x f u q) = absurd (none_some s.sent p free a)
       on (owned d rs q a f u e begun at' pass room le p) = absurd (none_some s.sent (sent_by d s.space (reading_at rs q)) free a)
 
-  posted_holds : (s : Calls) (g : TraceLog) (c : Asked) (r : ℕ) (l : TraceLine) → Holds s g → s.begun ≡ true → slice_get calls s.ended ≡ Some c → s.sent ≡ None → earliest_of limits (times_of s.records) ≤ r
+  posted_holds : (s : Calls) (g : TraceLog) (c : Asked) (r : ℕ) (l : TraceLine) → Holds s g → s.begun ≡ true → slice_get calls s.ended ≡ Some c
+      → s.sent ≡ None → earliest_of limits (times_of s.records) ≤ r
       → Holds (record (take_reading s r) { sent = Some (sent_by c s.space (reading_at s.readings r)); block = block_after w c s.block; looks = 0 }) (log_end w calls end.Posted l g)
   posted_holds s g c r l h b at free le =
       record {
@@ -288,8 +298,10 @@ module _ (exec : Device) (w : Wiring) (limits : Limits) (start opening : List �
   GivenUp s g c looks l p = Holds (end_call (record s { looks = looks; sent = given_up c.polls (Some p) })) (log_end w calls (given_up_end (is_late p) c.polls) l g)
 
   -- it is that of the call
-  lost_holds : (s : Calls) (g : TraceLog) (c : Asked) (rs : List ℕ) (r looks : ℕ) (l : TraceLine) → Holds s g → slice_get calls s.ended ≡ Some c → g.flight ≡ Some (note_of (length rs) 0 0) → s.readings ≡ rs ++ r ∷ []
-      → Passes c → length s.records < MAX_ITEMS → earliest_of limits (times_of s.records) ≤ r → At s.space rs s.records g.notes None g.calls → 0 < c.polls → GivenUp s g c looks l (sent_by c s.space (reading_at rs r))
+  lost_holds : (s : Calls) (g : TraceLog) (c : Asked) (rs : List ℕ) (r looks : ℕ) (l : TraceLine) → Holds s g → slice_get calls s.ended ≡ Some c
+      → g.flight ≡ Some (note_of (length rs) 0 0) → s.readings ≡ rs ++ r ∷ []
+      → Passes c → length s.records < MAX_ITEMS → earliest_of limits (times_of s.records) ≤ r → At s.space rs s.records g.notes None g.calls → 0 < c.polls
+      → GivenUp s g c looks l (sent_by c s.space (reading_at rs r))
   lost_holds s g c rs r looks l h at f e pass room le p some =
       let k : CallLine = line_of c (Some (TimedOut c.polls)) 0 in
       let up : TraceLog = record g { flight = Some (note_of (length rs) 0 c.polls) } in
@@ -313,7 +325,8 @@ module _ (exec : Device) (w : Wiring) (limits : Limits) (start opening : List �
       no e = cc
 
   -- it is an earlier one
-  blocked_holds : (s : Calls) (g : TraceLog) (c : Asked) (p : Sent) (n : Note) (looks : ℕ) (l : TraceLine) → Holds s g → s.begun ≡ true → slice_get calls s.ended ≡ Some c → s.sent ≡ Some p → is_late p ≡ true
+  blocked_holds : (s : Calls) (g : TraceLog) (c : Asked) (p : Sent) (n : Note) (looks : ℕ) (l : TraceLine) → Holds s g → s.begun ≡ true
+      → slice_get calls s.ended ≡ Some c → s.sent ≡ Some p → is_late p ≡ true
       → g.flight ≡ Some n → g.unended ≡ false → At s.space s.readings s.records g.notes (Some (noted_sent p n)) g.calls → GivenUp s g c looks l p
   unfolding Caused
   blocked_holds s g c p n looks l h b at a x f u q =
@@ -330,11 +343,13 @@ module _ (exec : Device) (w : Wiring) (limits : Limits) (start opening : List �
       let G : Option Sent × Bool → Type 0 = λ z. Holds (end_call (record s { looks = looks; sent = z.0 })) (log_end w calls (given_up_end z.1 c.polls) l g) in
       subst G (λ i. (sym kept i, sym x i)) (ends_refused up g c (StillPending c.polls) at u refl refl (λ pn m y. ((h.serves b c at).0, refl, cause pn m y)) held)
     where
-      cause : (pn : Option NotedPending) → pending_count pn ≡ 1 → (y : At s.space s.readings s.records g.notes pn g.calls) → IsBlocked opening y.events g.calls (line_of c (Some (StillPending c.polls)) 0)
+      cause : (pn : Option NotedPending) → pending_count pn ≡ 1 → (y : At s.space s.readings s.records g.notes pn g.calls)
+          → IsBlocked opening y.events g.calls (line_of c (Some (StillPending c.polls)) 0)
       cause None m y = absurd cc
       cause (Some z) m y = record { moment = now_past exec w limits start opening s.space s.readings s.records g.notes (Some z) g.calls (line_of c (Some (StillPending c.polls)) 0) y; post = z.command.post; flies = ap (λ (v : After). v.flight) y.after }
 
-  given_up_holds : (s : Calls) (g : TraceLog) (c : Asked) (p : Sent) (looks : ℕ) (l : TraceLine) → Holds s g → s.begun ≡ true → slice_get calls s.ended ≡ Some c → s.sent ≡ Some p → 0 < c.polls → Flies s g → GivenUp s g c looks l p
+  given_up_holds : (s : Calls) (g : TraceLog) (c : Asked) (p : Sent) (looks : ℕ) (l : TraceLine) → Holds s g → s.begun ≡ true
+      → slice_get calls s.ended ≡ Some c → s.sent ≡ Some p → 0 < c.polls → Flies s g → GivenUp s g c looks l p
   given_up_holds s g c p looks l h b at es some (quiet a f u q) = absurd (none_some s.sent p a es)
     where
       none_some : (o : Option Sent) (p : Sent) → o ≡ None → o ≡ Some p → ⊥
@@ -359,8 +374,10 @@ module _ (exec : Device) (w : Wiring) (limits : Limits) (start opening : List �
   Drains s g r error block output l p = DrainsIf (is_late p) s g r error block output l p
 
   -- it is that of the call
-  done_holds : (s : Calls) (g : TraceLog) (c : Asked) (rs : List ℕ) (r d : ℕ) (error : Bool) (block output : List ℕ) (l : TraceLine) → Holds s g → output_of w (g.run ++ l ∷ []) ≡ output → slice_get calls s.ended ≡ Some c
-      → g.flight ≡ Some (note_of (length rs) 0 0) → s.readings ≡ rs ++ r ∷ [] → Passes c → length s.records < MAX_ITEMS → earliest_of limits (times_of s.records) ≤ r → At s.space rs s.records g.notes None g.calls
+  done_holds : (s : Calls) (g : TraceLog) (c : Asked) (rs : List ℕ) (r d : ℕ) (error : Bool) (block output : List ℕ) (l : TraceLine) → Holds s g
+      → output_of w (g.run ++ l ∷ []) ≡ output → slice_get calls s.ended ≡ Some c
+      → g.flight ≡ Some (note_of (length rs) 0 0) → s.readings ≡ rs ++ r ∷ [] → Passes c → length s.records < MAX_ITEMS
+      → earliest_of limits (times_of s.records) ≤ r → At s.space rs s.records g.notes None g.calls
       → Drains s g d error block output l (sent_by c s.space (reading_at rs r))
   done_holds s g c rs r d error block output l h out at f e pass room le p =
       let x : Record = record_of (sent_by c s.space (reading_at rs r)) error output d in
@@ -391,7 +408,8 @@ module _ (exec : Device) (w : Wiring) (limits : Limits) (start opening : List �
       no e = cc
 
   -- it is one that was given up
-  late_holds : (s : Calls) (g : TraceLog) (p : Sent) (n : Note) (d : ℕ) (error : Bool) (block output : List ℕ) (l : TraceLine) → Holds s g → s.begun ≡ true → s.sent ≡ Some p → is_late p ≡ true → g.flight ≡ Some n → g.unended ≡ false
+  late_holds : (s : Calls) (g : TraceLog) (p : Sent) (n : Note) (d : ℕ) (error : Bool) (block output : List ℕ) (l : TraceLine) → Holds s g → s.begun ≡ true
+      → s.sent ≡ Some p → is_late p ≡ true → g.flight ≡ Some n → g.unended ≡ false
       → At s.space s.readings s.records g.notes (Some (noted_sent p n)) g.calls → Drains s g d error block output l p
   late_holds s g p n d error block output l h b a late f u q =
       let x : Record = record_for p.command error output d true in
@@ -411,7 +429,8 @@ module _ (exec : Device) (w : Wiring) (limits : Limits) (start opening : List �
         flies = quiet refl refl u (subst N (sym h.taken) point);
       }))
 
-  drained_holds : (s : Calls) (g : TraceLog) (c : Asked) (p : Sent) (d : ℕ) (error : Bool) (block output : List ℕ) (l : TraceLine) → Holds s g → s.begun ≡ true → output_of w (g.run ++ l ∷ []) ≡ output → slice_get calls s.ended ≡ Some c
+  drained_holds : (s : Calls) (g : TraceLog) (c : Asked) (p : Sent) (d : ℕ) (error : Bool) (block output : List ℕ) (l : TraceLine) → Holds s g
+      → s.begun ≡ true → output_of w (g.run ++ l ∷ []) ≡ output → slice_get calls s.ended ≡ Some c
       → s.sent ≡ Some p → Flies s g → Drains s g d error block output l p
   drained_holds s g c p d error block output l h b out at es (quiet a f u q) = absurd (none_some s.sent p a es)
     where
@@ -426,7 +445,8 @@ module _ (exec : Device) (w : Wiring) (limits : Limits) (start opening : List �
 
   -- ---- a turn, and turns
 
-  refuse_holds : (s : Calls) (g : TraceLog) (c : Asked) (e : TraceEnd) (l : TraceLine) → Holds s g → s.begun ≡ false → slice_get calls s.ended ≡ Some c → refusal_at w c s ≡ Some e → Holds (end_call s) (log_end w calls e l g)
+  refuse_holds : (s : Calls) (g : TraceLog) (c : Asked) (e : TraceEnd) (l : TraceLine) → Holds s g → s.begun ≡ false → slice_get calls s.ended ≡ Some c
+      → refusal_at w c s ≡ Some e → Holds (end_call s) (log_end w calls e l g)
   refuse_holds s g c e l h b at is =
       let n : ℕ = length s.records + count_flying s.sent in
       refused_by s g c e l (refusals.has_byte_codes w.kind && nat_lt 255 c.code) (nat_lt w.room (length c.bytes)) (nat_le MAX_ITEMS n) at (settled s g b h.flies) refl (λ full. leb-true MAX_ITEMS n full) is h
@@ -453,7 +473,8 @@ module _ (exec : Device) (w : Wiring) (limits : Limits) (start opening : List �
   drained_rest false e l g = refl
 
   refused_rest : (e : TraceEnd) (bad long full : Bool) (code len room : ℕ) (l : TraceLine) (g : TraceLog)
-      → refused_end (cond bad (Some (refusal.BadCode code)) (cond long (Some (refusal.TooLong len room)) (cond full (Some refusal.JournalFull) None))) ≡ Some e → (log_end w calls e l g).run ≡ []
+      → refused_end (cond bad (Some (refusal.BadCode code)) (cond long (Some (refusal.TooLong len room)) (cond full (Some refusal.JournalFull) None))) ≡ Some e
+      → (log_end w calls e l g).run ≡ []
   refused_rest e true long full code len room l g h = ap (λ (x : TraceEnd). (log_end w calls x l g).run) (sym (same_Some (end.BadCode code) e h))
   refused_rest e false true full code len room l g h = ap (λ (x : TraceEnd). (log_end w calls x l g).run) (sym (same_Some (end.TooLong len room) e h))
   refused_rest e false false true code len room l g h = ap (λ (x : TraceEnd). (log_end w calls x l g).run) (sym (same_Some end.JournalFull e h))
