@@ -49,6 +49,7 @@ impl History {
         ensures spare { result.now.spare ≡ self.now.spare }
         ensures most { length result.now.items + result.now.spare ≤ MAX_ITEMS }
     {
+        // Its clause says that there are at most 4,096 records with the spare ones.
         self.journal.len();
         &self.journal
     }

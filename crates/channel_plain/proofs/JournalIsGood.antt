@@ -7,7 +7,7 @@ use Rattle.rate_limit.specs.RateLimits.{WithinLimits}
 use Rattle.pcc_journal.specs.Records.{exchanges_of, exchanges_of_commands, times_of}
 use Rattle.pcc_steps.specs.Laws.{HistoriesAgree}
 use Rattle.channel_plain.specs.Picks.{PlainState}
-use Rattle.channel_plain.specs.Holding.{post_of}
+use Rattle.channel_core.specs.Sendings.{post_of}
 use Rattle.channel_plain.specs.Standing.{Stands, asker_of, answerer_of}
 use Rattle.channel_plain.specs.Good.{IsGood}
 

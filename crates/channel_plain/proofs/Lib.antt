@@ -1,4 +1,6 @@
-pub mod AskFed
+pub mod Tests
+pub mod Readied
+pub mod Blocks
 pub mod Keeps
 pub mod AnswerHolds
 pub mod Posts

@@ -4,7 +4,7 @@ use Rattle.std.proofs.lemmas.List.{append_assoc, append-nil, drop_more, drop_all
 use Rattle.channel_plain.specs.declared.trace.TraceLine.{TraceLine}
 use Rattle.channel_plain.specs.TraceText.{trace_line_text, trace_text}
 
--- the first i lines are written behind what was there first
+-- the first i lines are written after what was there first
 pub record Written (first out : List ℕ) (ls : List TraceLine) (i : ℕ) : Type 0 where
   pub whole : out ++ trace_text (drop i ls) ≡ first ++ trace_text ls
 
