@@ -366,7 +366,7 @@ opens_apart t (o ∷ os) h = (all_map (λ m. o.id ≢ m) (λ (p : OpenLine). p.i
 pub set_up_ids : (clock : ScriptClock) (t : Table) (opens : List OpenLine) → AllOpen t opens (length opens) → map id_of (flat_map (λ o. channels_of clock o.id (slice_get t.subspaces o.id)) opens) ≡ map (λ o. o.id) opens
 set_up_ids clock t [] h = refl
 set_up_ids clock t (o ∷ os) h =
-    let there : (u : Subspace) × (slice_get t.subspaces o.id ≡ Some u) = has_structure false (slice_get t.subspaces o.id) (h zero o (omega arith) refl) in
+    let there : (u : Subspace) × (slice_get t.subspaces o.id ≡ Some u) = has_structure o.device false (slice_get t.subspaces o.id) (h zero o (omega arith) refl) in
     rw there.1 (ap (λ (v : List ℕ). o.id ∷ v) (set_up_ids clock t os (open_rest t o os h)))
 
 -- the channel of what is opened
