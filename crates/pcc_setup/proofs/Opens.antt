@@ -1,5 +1,5 @@
 -- `open` lines and actions, one after the other.
-use Rattle.std.proofs.Common.{◌≡◌, ℕ, ◌+◌, ◌<◌, ◌≤◌, List, [], ◌∷◌, ◌++◌, length, get_or, take, refl, sym, ap, ◌∙◌, subst, inl, inr, arith, Bool, false, Ok, Err}
+use Rattle.std.proofs.Common.{◌≡◌, ℕ, ◌+◌, ◌<◌, ◌≤◌, List, [], ◌∷◌, ◌++◌, length, get_or, take, refl, sym, ap, ◌∙◌, subst, inl, inr, arith, Bool, false, Result, Ok, Err}
 use Rattle.std.specs.Prelude.{Option, Some, None, slice_get}
 use Rattle.std.specs.List.{flat_map}
 use Rattle.std.proofs.lemmas.Bool.{cases_lt}
@@ -8,13 +8,13 @@ use Rattle.std.proofs.lemmas.List.Concat.{flat_map-append}
 use Rattle.std.proofs.lemmas.Option.{slice_get-get_or}
 use Rattle.pcct_table.specs.declared.subspace.Subspace.{Subspace}
 use Rattle.pcct_table.specs.declared.table.Table.{Table}
-use Rattle.pcct_table.specs.Subspaces.{base_of, memory_len_of}
+use Rattle.pcct_table.specs.Subspaces.{base_of, kind_of, memory_len_of}
 use Rattle.pcc_script.specs.declared.scenario.Line.{Line}
 use Rattle.pcc_script.specs.declared.scenario.OpenLine.{OpenLine}
 use Rattle.pcc_script.specs.declared.scenario.Scenario.{Scenario}
 use Rattle.pcc_journal.specs.declared.text.JournalHead.{JournalHead}
 use Rattle.pcc_steps.specs.declared.wiring.Wiring.{Wiring}
-use Rattle.pcc_wiring.specs.declared.fault.Asks.TheVariants.{System}
+use Rattle.pcc_wiring.specs.declared.fault.Asks.{Asks}
 use Rattle.pcc_wiring.specs.declared.fault.WiringFault.{WiringFault}
 use Rattle.pcc_wiring.specs.Faults.{fault_of, opened_as}
 use Rattle.pcc_wiring.specs.Wirings.{wiring_with}
@@ -22,7 +22,7 @@ use Rattle.pcc_setup.specs.declared.opening.Opened.{Opened}
 use Rattle.pcc_setup.specs.declared.opening.OpenFault.TheVariants.{Unwired}
 use Rattle.pcc_setup.specs.declared.opening.OpenFault.{OpenFault}
 use Rattle.pcc_setup.specs.declared.refusal.Refusal.TheVariants as refusal
-use Rattle.pcc_setup.specs.Openings.{AllOpen, fault_by, head_by, head_of, line_fault, opens_id, structure_fault, memories_by, memory_with, opened_by, opened_with}
+use Rattle.pcc_setup.specs.Openings.{AllOpen, asks_on, fault_by, head_by, head_of, line_fault, opens_id, structure_fault, memories_by, memory_with, opened_by, opened_with}
 use Rattle.pcc_setup.specs.SetUps.{AllNamed, FirstWrong, OpenRefused, action_fault}
 
 -- ---- lists
@@ -95,26 +95,44 @@ first_wrong t opens i id line x fault before at wrong lt is named =
     let P : ℕ → Type 0 = λ n. OpenRefused t opens (refusal.Open n fault) in
     subst P (sym (named ∙ ap (λ (o : OpenLine). o.id) same)) (FirstWrong i line fault at before wrong)
 
+-- the first fault of a line's structure, for the side that asks on it
+abbrev asked_fault : OpenLine → Subspace → Option WiringFault
+asked_fault o s = fault_of (asks_on o.device (kind_of s)) s
+
+-- what the wiring of the structure answers, for the side that was found to ask
+by_side : (x : OpenLine) (s : Subspace) (v : Wiring) (answer : Result Wiring WiringFault) (kind : ℕ) (asks : Asks) → kind ≡ kind_of s → asks ≡ asks_on x.device kind
+    → answer ≡ opened_as v (fault_of asks s) → answer ≡ opened_as v (asked_fault x s)
+by_side x s v answer kind asks kind_is asks_is e = e ∙ ap (λ (a : Asks). opened_as v (fault_of a s)) (asks_is ∙ ap (asks_on x.device) kind_is)
+
 -- a line opens its structure
-pub opens_line : (t : Table) (opens : List OpenLine) (i : ℕ) (x : OpenLine) (s : Subspace) (w : Wiring) (head : JournalHead) (image : List ℕ) → i < length opens → x ≡ get_or opens i x
-    → slice_get t.subspaces x.id ≡ Some s → opens_id x.id (take i opens) ≡ false → Ok w ≡ opened_as (wiring_with x.id t.flags s) (fault_of System s) → head ≡ head_by w s → image ≡ []
-    → (line : OpenLine) × (slice_get opens i ≡ Some line) × (line_fault t (take i opens) line ≡ None) × (opened_with line.id t.flags (slice_get t.subspaces line.id) ≡ record { head = head; wiring = w; image = image } ∷ [])
-opens_line t opens i x s w head image lt is at once wired headed empty =
-    let same : w ≡ wiring_with x.id t.flags s = same_wiring (wiring_with x.id t.flags s) w (fault_of System s) wired in
-    let none : fault_of System s ≡ None = no_fault (wiring_with x.id t.flags s) w (fault_of System s) wired in
+pub opens_line : (t : Table) (opens : List OpenLine) (i : ℕ) (x : OpenLine) (s : Subspace) (w : Wiring) (head : JournalHead) (image : List ℕ) (kind : ℕ) (asks : Asks)
+    → i < length opens → x ≡ get_or opens i x → slice_get t.subspaces x.id ≡ Some s → opens_id x.id (take i opens) ≡ false
+    → kind ≡ kind_of s → asks ≡ asks_on x.device kind → Ok w ≡ opened_as (wiring_with x.id t.flags s) (fault_of asks s) → head ≡ head_by w s → image ≡ []
+    → (line : OpenLine) × (slice_get opens i ≡ Some line) × (line_fault t (take i opens) line ≡ None)
+    × (opened_with line.id t.flags (slice_get t.subspaces line.id) ≡ record { head = head; wiring = w; image = image } ∷ [])
+opens_line t opens i x s w head image kind asks lt is at once kind_is asks_is answered headed empty =
+    let wired : Ok w ≡ opened_as (wiring_with x.id t.flags s) (asked_fault x s) = by_side x s (wiring_with x.id t.flags s) (Ok w) kind asks kind_is asks_is answered in
+    let same : w ≡ wiring_with x.id t.flags s = same_wiring (wiring_with x.id t.flags s) w (asked_fault x s) wired in
+    let none : asked_fault x s ≡ None = no_fault (wiring_with x.id t.flags s) w (asked_fault x s) wired in
     let head_is : head_of x.id s ≡ head = sym (headed ∙ ap (λ (v : Wiring). head_by v s) same) in (
       x,
       found opens i x lt is,
-      ap (structure_fault (opens_id x.id (take i opens))) at ∙ ap (λ (b : Bool). structure_fault b (Some s)) once ∙ ap fault_by none,
+      ap (structure_fault x.device (opens_id x.id (take i opens))) at ∙ ap (λ (b : Bool). structure_fault x.device b (Some s)) once ∙ ap fault_by none,
       ap (opened_with x.id t.flags) at ∙ (λ k. record { head = head_is k; wiring = sym same k; image = sym empty k } ∷ []),
     )
 
 -- its structure has a fault
-pub opens_nothing : (t : Table) (opens : List OpenLine) (i : ℕ) (x : OpenLine) (s : Subspace) (fault : WiringFault) → i < length opens → x ≡ get_or opens i x
-    → slice_get t.subspaces x.id ≡ Some s → opens_id x.id (take i opens) ≡ false → Err fault ≡ opened_as (wiring_with x.id t.flags s) (fault_of System s)
+pub opens_nothing : (t : Table) (opens : List OpenLine) (i : ℕ) (x : OpenLine) (s : Subspace) (fault : WiringFault) (kind : ℕ) (asks : Asks)
+    → i < length opens → x ≡ get_or opens i x → slice_get t.subspaces x.id ≡ Some s → opens_id x.id (take i opens) ≡ false
+    → kind ≡ kind_of s → asks ≡ asks_on x.device kind → Err fault ≡ opened_as (wiring_with x.id t.flags s) (fault_of asks s)
     → (line : OpenLine) × (slice_get opens i ≡ Some line) × (line_fault t (take i opens) line ≡ Some (Unwired fault))
-opens_nothing t opens i x s fault lt is at once wired =
-    (x, found opens i x lt is, ap (structure_fault (opens_id x.id (take i opens))) at ∙ ap (λ (b : Bool). structure_fault b (Some s)) once ∙ ap fault_by (a_fault (wiring_with x.id t.flags s) (fault_of System s) fault wired))
+opens_nothing t opens i x s fault kind asks lt is at once kind_is asks_is answered =
+    let wired : Err fault ≡ opened_as (wiring_with x.id t.flags s) (asked_fault x s) = by_side x s (wiring_with x.id t.flags s) (Err fault) kind asks kind_is asks_is answered in
+    let wrong : asked_fault x s ≡ Some fault = a_fault (wiring_with x.id t.flags s) (asked_fault x s) fault wired in (
+      x,
+      found opens i x lt is,
+      ap (structure_fault x.device (opens_id x.id (take i opens))) at ∙ ap (λ (b : Bool). structure_fault x.device b (Some s)) once ∙ ap fault_by wrong,
+    )
 
 -- ---- memories
 

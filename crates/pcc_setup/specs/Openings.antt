@@ -2,15 +2,17 @@
 use Rattle.std.specs.Prelude.{◌≡◌, ◌<◌, ℕ, ◌==◌, Bool, false, if◌then◌else◌, List, [], ◌∷◌, take, Option, Some, None, slice_get}
 use Rattle.std.specs.List.{flat_map, list_any}
 use Rattle.pcc_journal.specs.declared.text.JournalHead.{JournalHead}
+use Rattle.pcc_script.specs.declared.scenario.Device.{Device}
 use Rattle.pcc_script.specs.declared.scenario.OpenLine.{OpenLine}
 use Rattle.pcc_steps.specs.declared.wiring.Wiring.{Wiring}
+use Rattle.pcc_wiring.specs.declared.fault.Asks.{Asks}
 use Rattle.pcc_wiring.specs.declared.fault.Asks.TheVariants.{System}
 use Rattle.pcc_wiring.specs.declared.fault.WiringFault.{WiringFault}
 use Rattle.pcc_wiring.specs.Faults.{fault_of}
 use Rattle.pcc_wiring.specs.Wirings.{wiring_with}
 use Rattle.pcct_table.specs.declared.subspace.Subspace.{Subspace}
 use Rattle.pcct_table.specs.declared.table.Table.{Table}
-use Rattle.pcct_table.specs.Subspaces.{base_of, memory_len_of, rate_of, turnaround_of}
+use Rattle.pcct_table.specs.Subspaces.{base_of, kind_of, memory_len_of, rate_of, turnaround_of}
 use Rattle.pcc_setup.specs.declared.opening.OpenFault.{OpenFault}
 use Rattle.pcc_setup.specs.declared.opening.OpenFault.TheVariants.{NoSubspace, OpenedTwice, Unwired}
 use Rattle.pcc_setup.specs.declared.opening.Opened.{Opened}
@@ -25,13 +27,17 @@ abbrev pub fault_by : Option WiringFault → Option OpenFault
 fault_by None = None
 fault_by (Some fault) = Some (Unwired fault)
 
-abbrev pub structure_fault : Bool → Option Subspace → Option OpenFault
-structure_fault twice None = Some NoSubspace
-structure_fault twice (Some s) = if twice then Some OpenedTwice else fault_by (fault_of System s)
+-- the side that asks on a structure of this type, opened as this device: so far the operating system on each
+abbrev pub asks_on : Device → ℕ → Asks
+asks_on device kind = System
 
--- why a line behind these lines opens nothing, if it doesn't; an ID is a place in the table, and the operating system is to ask
+abbrev pub structure_fault : Device → Bool → Option Subspace → Option OpenFault
+structure_fault device twice None = Some NoSubspace
+structure_fault device twice (Some s) = if twice then Some OpenedTwice else fault_by (fault_of (asks_on device (kind_of s)) s)
+
+-- why a line after these lines opens nothing, if it doesn't; an ID is a place in the table
 abbrev pub line_fault : Table → List OpenLine → OpenLine → Option OpenFault
-line_fault t before o = structure_fault (opens_id o.id before) (slice_get t.subspaces o.id)
+line_fault t before o = structure_fault o.device (opens_id o.id before) (slice_get t.subspaces o.id)
 
 -- each of the first `count` lines opens its structure
 abbrev pub AllOpen : Table → List OpenLine → ℕ → Type 0

@@ -85,6 +85,28 @@ pub data SetUpRefused (s : Scenario) : Refusal → Type 0 where
   WrongAction : (t : Table) → TableBytes s.table t → AllOpen t s.opens (length s.opens) → AreApart (memories_by t s.opens) → (i : ℕ) → (l : Line) → (fault : ActionFault)
       → slice_get s.actions i ≡ Some l → AllNamed s i → action_fault s l ≡ Some fault → SetUpRefused s (refusal.Action (first_action s + i) fault)
 
+-- ---- right, or refused
+
+-- bytes are those of a table, and nothing else
+pub record IsWholeTable (bytes : List ℕ) : Type 0 where
+  pub table : Table
+  pub spelled : TableBytes bytes table
+
+-- bytes are refused as a table
+pub record HasTableRefusal (bytes : List ℕ) : Type 0 where
+  pub cause : Refusal
+  pub refused : TableRefused bytes cause
+
+-- a script passes each check, with some table
+pub record HasSetUp (s : Scenario) : Type 0 where
+  pub table : Table
+  pub checked : IsSetUp s table
+
+-- a script fails a check
+pub record HasRefusal (s : Scenario) : Type 0 where
+  pub cause : Refusal
+  pub refused : SetUpRefused s cause
+
 -- ---- what a caller gets
 
 -- a script opens Banks alone, and has no processors and no caps

@@ -12,7 +12,7 @@ pub use action::{ActionFault, are_banks, opens_banks};
 pub use opening::{OpenFault, Opened, OpenedList};
 pub use refusal::{InputError, Refusal, UseFault};
 pub use setup::{SetUp, SetUpError, first_action, set_up, set_up_laws};
-pub use table::whole_table;
+pub use table::{whole_table, whole_table_laws};
 pub use text::refused_line;
 
 #[cfg(test)]

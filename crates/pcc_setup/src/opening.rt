@@ -1,14 +1,14 @@
 //! The structure that an `open` line names is wired, or refused.
 ghost use Rattle.std.specs.Prelude.{◌≡◌, ◌<◌, ◌∷◌, [], None, Some, IfOk, MatchResult, length, slice_get, take};
 ghost use Rattle.pcc_script.specs.declared.scenario.OpenLine.{OpenLine};
-ghost use Rattle.pcc_setup.specs.Openings.{AllOpen, head_by, line_fault, memories_by, opened_by, opened_with, opens_id};
+ghost use Rattle.pcc_setup.specs.Openings.{AllOpen, asks_on, head_by, line_fault, memories_by, opened_by, opened_with, opens_id};
 ghost use Rattle.pcc_setup.specs.RefusalText.{IsRefusedFor};
 ghost use Rattle.pcc_setup.specs.SetUps.{OpenRefused};
 
 use crate::refusal::{InputError, Refusal};
 use pcc_io::{Bytes, Items, NoMemory};
 use pcc_journal::JournalHead;
-use pcc_script::{OpenLine, Opens};
+use pcc_script::{Device, OpenLine, Opens};
 use pcc_steps::Wiring;
 use pcc_wiring::{Asks, WiringFault, wiring_of};
 use pcct_table::{Subspace, Table};
@@ -73,6 +73,13 @@ fn opens_id(opens: &[OpenLine], id: u8) -> bool
     opens.iter().any(|o| o.id == id)
 }
 
+// The side that asks on a structure of this type, opened as this device: so far the operating system on each.
+fn asks_on(_device: &Device, _kind: u8) -> Asks
+    ensures { result ≡ asks_on _device.now _kind }
+{
+    Asks::System
+}
+
 // What the line at a place opens, or why it opens nothing.
 fn open_line(alloc: Global, table: &Table, opens: &Opens, place: usize) -> Result<Opened, OpenFault>
     requires { place < length opens.now }
@@ -80,14 +87,16 @@ fn open_line(alloc: Global, table: &Table, opens: &Opens, place: usize) -> Resul
         (λ o. (line : OpenLine) × (slice_get opens.now place ≡ Some line) × (line_fault table.now (take place opens.now) line ≡ None) × (opened_with line.id table.now.flags (slice_get table.now.subspaces line.id) ≡ o ∷ []))
         (λ fault. (line : OpenLine) × (slice_get opens.now place ≡ Some line) × (line_fault table.now (take place opens.now) line ≡ Some fault)) }
 {
-    let id = opens.at(place).id;
+    let line = opens.at(place);
+    let id = line.id;
     let Some(subspace) = structure_of(table, id) else {
         return Err(OpenFault::NoSubspace);
     };
     if opens_id(&opens.as_slice()[..place], id) {
         return Err(OpenFault::OpenedTwice);
     }
-    match wiring_of(&subspace, id, table.flags, Asks::System) {
+    let asks = asks_on(&line.device, subspace.kind());
+    match wiring_of(&subspace, id, table.flags, asks) {
         Ok(wiring) => Ok(Opened {
             head: head_by(&wiring, &subspace),
             wiring,

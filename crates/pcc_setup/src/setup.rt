@@ -1,12 +1,13 @@
 //! The checks of a script's set-up, one after the other.
-ghost use Rattle.std.specs.Prelude.{◌≡◌, ◌<◌, ◌^◌, true, MatchResult, length};
+ghost use Rattle.std.specs.Prelude.{◌≡◌, ◌⊎◌, ◌<◌, ◌^◌, List, true, MatchResult, length};
 ghost use Rattle.pcc_script.specs.declared.scenario.Scenario.{Scenario};
 ghost use Rattle.pcct_table.specs.declared.table.Table.{Table};
+ghost use Rattle.pcc_setup.specs.declared.opening.Opened.{Opened};
 ghost use Rattle.pcc_setup.specs.declared.refusal.Refusal.{Refusal};
 ghost use Rattle.pcct_codec.specs.Tables.{TableBytes};
 ghost use Rattle.pcc_setup.specs.Openings.{AllOpen, opened_by};
 ghost use Rattle.pcc_setup.specs.RefusalText.{IsRefusedFor};
-ghost use Rattle.pcc_setup.specs.SetUps.{IfLine, IsSetUp, Opens, SetUpRefused, first_action, opens_banks};
+ghost use Rattle.pcc_setup.specs.SetUps.{HasRefusal, HasSetUp, IfLine, IsSetUp, Opens, SetUpRefused, first_action, opens_banks};
 ghost use Rattle.pcc_setup.specs.declared.setup.SetUpError.TheVariants.{NoMemory as Exhausted};
 
 use crate::action::{WrongAction, first_wrong};
@@ -122,7 +123,12 @@ pub fn set_up(alloc: Global, scenario: &Scenario) -> Result<SetUp, SetUpError>
     }
 }
 
-/// A script that passes all checks with a table isn't refused for one. It does nothing.
+/// Each script is set up or refused, by one line: it passes all checks, with one table and one list of opened subspaces, or one refusal reports the
+/// first check that fails. It does nothing.
 pub fn set_up_laws()
-    ensures { (s : Scenario) (t : Table) (r : Refusal) → IsSetUp s t → SetUpRefused s r → ⊥ }
+    ensures some { (s : Scenario) → HasSetUp s ⊎ HasRefusal s }
+    ensures not_both { (s : Scenario) (t : Table) (r : Refusal) → IsSetUp s t → SetUpRefused s r → ⊥ }
+    ensures one_refusal { (s : Scenario) (r q : Refusal) → SetUpRefused s r → SetUpRefused s q → r ≡ q }
+    ensures one_table { (s : Scenario) (t u : Table) → IsSetUp s t → IsSetUp s u → t ≡ u }
+    ensures one_set_up { (s : Scenario) (opened other : List Opened) → Opens s opened → Opens s other → opened ≡ other }
 {}

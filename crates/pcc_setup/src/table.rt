@@ -1,8 +1,9 @@
 //! The table of a script, or of the program's whole input.
-ghost use Rattle.std.specs.Prelude.{MatchResult};
+ghost use Rattle.std.specs.Prelude.{◌≡◌, ◌⊎◌, ℕ, List, MatchResult};
 ghost use Rattle.pcct_codec.specs.Tables.{TableBytes};
 ghost use Rattle.pcc_setup.specs.RefusalText.{IsRefusedFor};
-ghost use Rattle.pcc_setup.specs.SetUps.{TableRefused};
+ghost use Rattle.pcc_setup.specs.SetUps.{HasTableRefusal, IsWholeTable, TableRefused};
+ghost use Rattle.pcc_setup.specs.declared.refusal.Refusal.{Refusal};
 
 use crate::refusal::{InputError, Refusal};
 use pcct_codec::{TableFault, table_of_bytes};
@@ -30,3 +31,10 @@ pub fn whole_table(alloc: Global, bytes: &[u8]) -> Result<Table, InputError>
         }
     }
 }
+
+/// Bytes are those of a table and nothing else, or are refused, by one line. It does nothing.
+pub fn whole_table_laws()
+    ensures some { (bytes : List ℕ) → IsWholeTable bytes ⊎ HasTableRefusal bytes }
+    ensures not_both { (bytes : List ℕ) → IsWholeTable bytes → HasTableRefusal bytes → ⊥ }
+    ensures one_refusal { (bytes : List ℕ) (r q : Refusal) → TableRefused bytes r → TableRefused bytes q → r ≡ q }
+{}

@@ -1,3 +1,4 @@
 mod Rights
 mod Overlapping
 mod Held
+pub mod FirstOverlaps

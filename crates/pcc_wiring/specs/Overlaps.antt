@@ -37,3 +37,8 @@ pub record IsFirstOverlap (opened : List (ℕ × ℕ × ℕ)) (found : Overlap) 
   pub before_b : (i j : ℕ) → i < j → j < b → Meet (at opened i) (at opened j) → ⊥
   pub before_a : (i : ℕ) → i < a → Meet (at opened i) (at opened b) → ⊥
   pub ids : (found.a ≡ id_of (at opened a)) × (found.b ≡ id_of (at opened b))
+
+-- some two of them meet
+pub record HasOverlap (opened : List (ℕ × ℕ × ℕ)) : Type 0 where
+  pub found : Overlap
+  pub first : IsFirstOverlap opened found

@@ -1,6 +1,7 @@
 //! Whether the shared memories of opened subspaces lie apart.
-ghost use Rattle.std.specs.Prelude.{◌≡◌, ◌↔◌, ◌<◌, ◌≤◌, ℕ, IfNone, IfSome, IsTrue, MatchOption, MatchResult, length};
-ghost use Rattle.pcc_wiring.specs.Overlaps.{AreApart, IsFirstOverlap, Meet, at, end_of};
+ghost use Rattle.std.specs.Prelude.{◌≡◌, ◌↔◌, ◌⊎◌, ◌<◌, ◌≤◌, ℕ, List, IfNone, IfSome, IsTrue, MatchOption, MatchResult, length};
+ghost use Rattle.pcc_wiring.specs.Overlaps.{AreApart, HasOverlap, IsFirstOverlap, Meet, at, end_of};
+ghost use Rattle.pcc_wiring.specs.declared.overlap.Overlap.{Overlap};
 
 /// Two opened subspaces, by their IDs, whose shared memories meet.
 #[derive(Clone, Copy, Debug, PartialEq, Eq)]
@@ -53,3 +54,10 @@ pub fn opened_apart(opened: &[(u8, u64, u64)]) -> Result<(), Overlap>
     }
     Ok(())
 }
+
+/// Memories lie apart, or one pair of them is the first that meets. It does nothing.
+pub fn overlap_laws()
+    ensures some { (opened : List (ℕ × ℕ × ℕ)) → AreApart opened ⊎ HasOverlap opened }
+    ensures not_both { (opened : List (ℕ × ℕ × ℕ)) → AreApart opened → HasOverlap opened → ⊥ }
+    ensures one_overlap { (opened : List (ℕ × ℕ × ℕ)) (found other : Overlap) → IsFirstOverlap opened found → IsFirstOverlap opened other → found ≡ other }
+{}

@@ -12,7 +12,7 @@ use Rattle.pccrun_core.proofs.Tops.{makes_alone, same_command}
 use Rattle.script_run.specs.Summaries.{IsSummary}
 
 -- words ask for one number of calls
-same_number : (words : List (List ℕ)) (m n : ℕ) → AsksToMake words m → AsksToMake words n → m ≡ n
+pub same_number : (words : List (List ℕ)) (m n : ℕ) → AsksToMake words m → AsksToMake words n → m ≡ n
 same_number words m n a b =
     let both : codes "make" ∷ decimal m ∷ [] ≡ codes "make" ∷ decimal n ∷ [] = sym a.words_are ∙ b.words_are in
     let few : m ≤ MAX_MADE_CALLS = a.few in

@@ -3,4 +3,6 @@ mod Weavable
 mod Refused
 mod Packaged
 mod Tops
+mod OneLine
+mod OneAnswer
 pub mod Headlined

@@ -72,11 +72,11 @@ too_long words left left' text c asked found e =
 
 -- ---- completeness
 
-all_consumed : (xs bytes : List ℕ) (left' : Option (List ℕ)) → Consumes (Some xs) left' bytes → (ys : List ℕ) × (left' ≡ Some ys) × (xs ≡ bytes ++ ys)
+pub all_consumed : (xs bytes : List ℕ) (left' : Option (List ℕ)) → Consumes (Some xs) left' bytes → (ys : List ℕ) × (left' ≡ Some ys) × (xs ≡ bytes ++ ys)
 all_consumed xs bytes None h = absurd h
 all_consumed xs bytes (Some ys) h = (ys, refl, h)
 
-all_read : (left left' : Option (List ℕ)) (xs bytes : List ℕ) → left ≡ Some xs → Consumes left left' bytes → IsAtEnd left' → bytes ≡ xs
+pub all_read : (left left' : Option (List ℕ)) (xs bytes : List ℕ) → left ≡ Some xs → Consumes left left' bytes → IsAtEnd left' → bytes ≡ xs
 all_read left left' xs bytes told read end =
     let P : Option (List ℕ) → Type 0 = λ o. Consumes o left' bytes in
     let found = all_consumed xs bytes left' (subst P told read) in
@@ -137,7 +137,7 @@ pub same_command : (words : List (List ℕ)) (c d : Command) → AsksFor words c
 same_command words c d a b = one_command c d (same_head (word_of c) (word_of d) (sym a ∙ b))
 
 -- what is made is not refused
-kept : (c : Command) (input : List ℕ) (r : Refusal) → IsMade c input → Refuses c input r → ⊥
+pub kept : (c : Command) (input : List ℕ) (r : Refusal) → IsMade c input → Refuses c input r → ⊥
 kept command.Step input r h k = script_kept command.Step input h.0 h.1 r h.2.script h.2.served k
 kept command.Weave input r h k = script_kept command.Weave input h.0 h.1 r h.2.script h.2.served k
 kept command.Show input r h k = table_kept input h.0 r h.1 k

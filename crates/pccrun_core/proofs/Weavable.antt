@@ -61,7 +61,7 @@ alone input s os h =
     let at : slice_get s.opens 0 ≡ Some o = ap (λ (v : List OpenLine). slice_get v 0) one.1 in
     let some : 0 < length s.opens = let n : length s.opens ≡ 1 = ap length one.1 in omega (arith, n) in
     let first : line_fault t (take 0 s.opens) o ≡ None = h.opens_for.opens.checked.all_open 0 o some at in
-    let u = there (slice_get t.subspaces o.id) first in
+    let u = there o.device (slice_get t.subspaces o.id) first in
     let x : Opened = record { head = head_of o.id u.0; wiring = wiring_with o.id t.flags u.0; image = [] } in
     let is : os ≡ x ∷ [] = h.opens_for.opens.list_is ∙ ap (opened_by t) one.1 ∙ ap (λ (m : Option Subspace). opened_with o.id t.flags m ++ []) u.1 in
     (x, is, record { open_line = o; opens = one.1; subspace = u.0; structure = u.1; head = refl; wiring = refl }, u.2)

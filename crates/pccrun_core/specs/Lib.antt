@@ -3,6 +3,7 @@ pub mod Weaving
 pub mod Packages
 pub mod Refusals
 pub mod Answers
+pub mod Inputs
 pub mod CommandErrors
 pub mod Statuses
 pub mod Headlined

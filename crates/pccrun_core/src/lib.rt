@@ -3,6 +3,7 @@
 
 mod command;
 mod error;
+mod inputs;
 mod package;
 mod program;
 mod script;
@@ -12,6 +13,7 @@ mod top;
 mod uses;
 mod weave;
 
+pub use inputs::{answer_laws, input_laws};
 pub use program::run_program;
 pub use top::{Finished, run};
 

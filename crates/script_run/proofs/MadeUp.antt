@@ -94,7 +94,7 @@ pub made_alone : (n : ℕ) (s : Scenario) (os : List Opened) → s ≡ made_scen
 unfolding made_scenario_of
 made_alone n s os is h =
     let set_up : IsSetUp (made_scenario_of n) h.table = subst (λ (u : Scenario). IsSetUp u h.table) is h.checked in
-    let there : (u : Subspace) × (slice_get h.table.subspaces 0 ≡ Some u) = has_structure false (slice_get h.table.subspaces 0) (set_up.all_open 0 _ (omega arith) refl) in
+    let there : (u : Subspace) × (slice_get h.table.subspaces 0 ≡ Some u) = has_structure Bank false (slice_get h.table.subspaces 0) (set_up.all_open 0 _ (omega arith) refl) in
     ap length (h.list_is ∙ ap (λ (u : Scenario). opened_by h.table u.opens) is ∙ ap (λ (o : Option Subspace). opened_with 0 h.table.flags o ++ []) there.1)
 
 abbrev made_opens : List OpenLine

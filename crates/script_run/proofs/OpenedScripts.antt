@@ -3,19 +3,20 @@ use Rattle.std.proofs.Common.{◌≡◌, ℕ, zero, suc, ◌^◌, ◌<◌, ◌==
 use Rattle.std.specs.Prelude.{Option, Some, None, slice_get}
 use Rattle.std.specs.List.{AllByRecursion, flat_map, list_all, list_any}
 use Rattle.pcct_table.specs.declared.subspace.Subspace.{Subspace}
+use Rattle.pcct_table.specs.Subspaces.{kind_of}
 use Rattle.pcct_table.specs.declared.table.Table.{Table}
 use Rattle.pcc_script.specs.declared.scenario.Line.{Line}
 use Rattle.pcc_script.specs.declared.scenario.Line.TheVariants as line
+use Rattle.pcc_script.specs.declared.scenario.Device.{Device}
 use Rattle.pcc_script.specs.declared.scenario.OpenLine.{OpenLine}
 use Rattle.pcc_script.specs.declared.scenario.Scenario.{Scenario}
 use Rattle.pcc_script.specs.Limits.{IsAction, IsWithin}
 use Rattle.pcc_setup.specs.declared.action.ActionFault.TheVariants.{NotBank}
 use Rattle.pcc_setup.specs.declared.opening.Opened.{Opened}
-use Rattle.pcc_setup.specs.Openings.{AllOpen, fault_by, head_of, opened_by, structure_fault}
+use Rattle.pcc_setup.specs.Openings.{AllOpen, asks_on, fault_by, head_of, opened_by, structure_fault}
 use Rattle.pcc_setup.specs.SetUps.{IsSetUp, Opens, action_fault, first_action, is_bank, opens_bank, opens_banks}
 use Rattle.pcc_steps.specs.Wires.{IsRight}
 use Rattle.pcc_wiring.specs.declared.fault.Asks.{Asks}
-use Rattle.pcc_wiring.specs.declared.fault.Asks.TheVariants.{System}
 use Rattle.pcc_wiring.specs.declared.fault.WiringFault.{WiringFault}
 use Rattle.pcc_wiring.specs.Faults.{fault_of}
 use Rattle.pcc_wiring.specs.Wirings.{wiring_with}
@@ -115,9 +116,10 @@ no_wiring_fault : (o : Option WiringFault) → fault_by o ≡ None → o ≡ Non
 no_wiring_fault None e = refl
 no_wiring_fault (Some f) e = absurd cc
 
-pub there : (m : Option Subspace) → structure_fault false m ≡ None → (u : Subspace) × (m ≡ Some u) × (fault_of System u ≡ None)
-there None e = absurd cc
-there (Some u) e = (u, refl, no_wiring_fault (fault_of System u) e)
+-- a structure that a line opens has no fault
+pub there : (d : Device) (m : Option Subspace) → structure_fault d false m ≡ None → (u : Subspace) × (m ≡ Some u) × (fault_of (asks_on d (kind_of u)) u ≡ None)
+there d None e = absurd cc
+there d (Some u) e = (u, refl, no_wiring_fault (fault_of (asks_on d (kind_of u)) u) e)
 
 -- both ends can work with what it opens
 abbrev AreRight : Type 0
@@ -126,8 +128,11 @@ AreRight = (asks : Asks) (id flags : ℕ) (s : Subspace) → fault_of asks s ≡
 opened_wired : AreRight → (t : Table) (opens : List OpenLine) → AllOpen t opens (length opens) → AllByRecursion IsWired (opened_by t opens)
 opened_wired right t [] h = tt
 opened_wired right t (o ∷ os) h =
-    let u = there (slice_get t.subspaces o.id) (h zero o (omega arith) refl) in
-    let here : IsWired (record { head = head_of o.id u.0; wiring = wiring_with o.id t.flags u.0; image = [] }) = record { right = right System o.id t.flags u.0 u.2; head = record { id = refl; kind = refl; room = refl; reports = refl } } in
+    let u = there o.device (slice_get t.subspaces o.id) (h zero o (omega arith) refl) in
+    let here : IsWired (record { head = head_of o.id u.0; wiring = wiring_with o.id t.flags u.0; image = [] }) = record {
+      right = right (asks_on o.device (kind_of u.0)) o.id t.flags u.0 u.2;
+      head = record { id = refl; kind = refl; room = refl; reports = refl };
+    } in
     rw u.1 (here, opened_wired right t os (open_rest t o os h))
 
 pub wired : AreRight → (s : Scenario) (os : List Opened) → Opens s os → AllByRecursion IsWired os

@@ -11,6 +11,7 @@ use Rattle.pcct_table.specs.declared.table.Table.{Table}
 use Rattle.pcc_journal.specs.Records.{exchanges_of}
 use Rattle.pcc_script.specs.declared.scenario.Line.{Line}
 use Rattle.pcc_script.specs.declared.scenario.Line.TheVariants as line
+use Rattle.pcc_script.specs.declared.scenario.Device.{Device}
 use Rattle.pcc_script.specs.declared.scenario.OpenLine.{OpenLine}
 use Rattle.pcc_script.specs.declared.scenario.Scenario.{Scenario}
 use Rattle.pcc_setup.specs.declared.action.ActionFault.TheVariants.{NotBank}
@@ -334,27 +335,27 @@ run_headlines_all starts apart ls = fresh_headlines (map fresh_channel starts) (
 
 -- ---- the channels of a script
 
-tail_fault : (a b : Bool) (o : Option Subspace) → structure_fault (a || b) o ≡ None → structure_fault b o ≡ None
-tail_fault true b None h = absurd cc
-tail_fault true b (Some u) h = absurd cc
-tail_fault false b o h = h
+tail_fault : (d : Device) (a b : Bool) (o : Option Subspace) → structure_fault d (a || b) o ≡ None → structure_fault d b o ≡ None
+tail_fault d true b None h = absurd cc
+tail_fault d true b (Some u) h = absurd cc
+tail_fault d false b o h = h
 
-not_twice : (a b : Bool) (o : Option Subspace) → structure_fault (a || b) o ≡ None → a ≡ false
-not_twice true b None h = absurd cc
-not_twice true b (Some u) h = absurd cc
-not_twice false b o h = refl
+not_twice : (d : Device) (a b : Bool) (o : Option Subspace) → structure_fault d (a || b) o ≡ None → a ≡ false
+not_twice d true b None h = absurd cc
+not_twice d true b (Some u) h = absurd cc
+not_twice d false b o h = refl
 
-pub has_structure : (b : Bool) (o : Option Subspace) → structure_fault b o ≡ None → (u : Subspace) × (o ≡ Some u)
-has_structure b None h = absurd cc
-has_structure b (Some u) h = (u, refl)
+pub has_structure : (d : Device) (b : Bool) (o : Option Subspace) → structure_fault d b o ≡ None → (u : Subspace) × (o ≡ Some u)
+has_structure d b None h = absurd cc
+has_structure d b (Some u) h = (u, refl)
 
 pub open_rest : (t : Table) (o : OpenLine) (os : List OpenLine) → AllOpen t (o ∷ os) (length (o ∷ os)) → AllOpen t os (length os)
-open_rest t o os h i p lt at = tail_fault (o.id == p.id) (opens_id p.id (take i os)) (slice_get t.subspaces p.id) (h (suc i) p (omega arith) at)
+open_rest t o os h i p lt at = tail_fault p.device (o.id == p.id) (opens_id p.id (take i os)) (slice_get t.subspaces p.id) (h (suc i) p (omega arith) at)
 
 once : (t : Table) (o : OpenLine) (os : List OpenLine) → AllOpen t (o ∷ os) (length (o ∷ os)) → (i : ℕ) (p : OpenLine) → slice_get os i ≡ Some p → o.id ≢ p.id
 once t o os h i p at =
     let lt : i < length os = slice_get_within os i p at in
-    eqb-false o.id p.id (not_twice (o.id == p.id) (opens_id p.id (take i os)) (slice_get t.subspaces p.id) (h (suc i) p (omega arith) at))
+    eqb-false o.id p.id (not_twice p.device (o.id == p.id) (opens_id p.id (take i os)) (slice_get t.subspaces p.id) (h (suc i) p (omega arith) at))
 
 -- no ID is opened twice
 pub opens_apart : (t : Table) (opens : List OpenLine) → AllOpen t opens (length opens) → AreDistinct (map (λ o. o.id) opens)
@@ -365,7 +366,7 @@ opens_apart t (o ∷ os) h = (all_map (λ m. o.id ≢ m) (λ (p : OpenLine). p.i
 pub set_up_ids : (clock : ScriptClock) (t : Table) (opens : List OpenLine) → AllOpen t opens (length opens) → map id_of (flat_map (λ o. channels_of clock o.id (slice_get t.subspaces o.id)) opens) ≡ map (λ o. o.id) opens
 set_up_ids clock t [] h = refl
 set_up_ids clock t (o ∷ os) h =
-    let there : (u : Subspace) × (slice_get t.subspaces o.id ≡ Some u) = has_structure false (slice_get t.subspaces o.id) (h zero o (omega arith) refl) in
+    let there : (u : Subspace) × (slice_get t.subspaces o.id ≡ Some u) = has_structure o.device false (slice_get t.subspaces o.id) (h zero o (omega arith) refl) in
     rw there.1 (ap (λ (v : List ℕ). o.id ∷ v) (set_up_ids clock t os (open_rest t o os h)))
 
 -- the channel of what is opened

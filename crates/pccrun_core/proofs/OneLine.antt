@@ -1,0 +1,202 @@
+-- Each input is made or refused by a command, by one line.
+use Rattle.std.proofs.Common.{◌≡◌, ◌≢◌, ◌⊎◌, inl, inr, ℕ, ◌+◌, ◌<◌, ◌≤◌, Bool, true, false, List, [], length, refl, sym, ap, ◌∙◌, subst, arith}
+use Rattle.std.specs.Prelude.{Option, Some, None}
+use Rattle.std.proofs.lemmas.Bool.{cases_lt}
+use Rattle.aml_pkg.specs.declared.item.Item.{Item}
+use Rattle.cpc_package.specs.Packages.{CpcBytes}
+use Rattle.cpc_package.specs.PackageText.{package_text}
+use Rattle.pcc_bytes.specs.Bytes.{IsBytes}
+use Rattle.pcc_script.specs.Faults.{HasFault as ScriptFault, HasScenario}
+use Rattle.pcc_script.specs.declared.fault.ScriptKind.{ScriptKind}
+use Rattle.pcc_script.specs.declared.scenario.Scenario.{Scenario}
+use Rattle.pcc_script.proofs.Telling.{text_not_both, text_one_fault, text_some}
+use Rattle.pcct_table.specs.declared.build.BuildKind.{BuildKind}
+use Rattle.pcct_table.specs.declared.table.Table.{Table}
+use Rattle.pcct_table.specs.ShowFaults.{HasFault as TableFault, HasTable}
+use Rattle.pcct_table.specs.ShowText.{show_text}
+use Rattle.pcct_table.proofs.Telling.{text_one_table, text_not_both as table_not_both, text_one_fault as table_one_fault, text_some as table_some}
+use Rattle.pcct_codec.specs.Tables.{IsTableValue, TableBytes}
+use Rattle.pcct_codec.proofs.Headers.{one_table}
+use Rattle.pcct_codec.proofs.Texts.{has_spelling, has_text}
+use Rattle.pcct_codec.proofs.Writing.{one_table_spelling}
+use Rattle.pcc_setup.specs.declared.refusal.Refusal.{Refusal}
+use Rattle.pcc_setup.specs.declared.refusal.Refusal.TheVariants as refusal
+use Rattle.pcc_setup.specs.declared.refusal.UseFault.{UseFault}
+use Rattle.pcc_setup.specs.SetUps.{HasRefusal, HasSetUp, IsSetUp}
+use Rattle.pcc_setup.proofs.Checks.{set_up_kept}
+use Rattle.pcc_setup.proofs.OneFault.{one_refusal, one_set_up_table, set_up_or_refused}
+use Rattle.pcc_setup.proofs.WholeTables.{one_table_refusal, whole_or_refused}
+use Rattle.script_run.specs.Built.{is_built}
+use Rattle.script_run.specs.ScriptRuns.{IsStepText, run_of, step_text}
+use Rattle.script_run.proofs.Several.{set_up_headlines}
+use Rattle.pccrun_core.specs.declared.command.Command.{Command}
+use Rattle.pccrun_core.specs.declared.command.Command.TheVariants as command
+use Rattle.pccrun_core.specs.Answers.{IsMade, IsServedScript, IsTextOf, Makes, ServedBy, input_limit}
+use Rattle.pccrun_core.specs.Inputs.{Exceeds, IsAccepted, IsRejected, Rejects, Within}
+use Rattle.pccrun_core.specs.Refusals.{BySetUp, ByUse, IsScript, IsSpelled, NotBuilt, NotServed, Refuses, ScriptRefused, TextRefused, Unserved, WrongLine, WrongScript}
+use Rattle.pccrun_core.specs.Uses.{use_fault}
+use Rattle.pccrun_core.proofs.Packaged.{NotBoth, OneFault, OnePackage, OneSpelling, SomePackage, one_package_refusal, package_or_refused}
+use Rattle.pccrun_core.proofs.Refused.{one_scenario}
+use Rattle.pccrun_core.proofs.Tops.{kept}
+
+-- ---- scripts
+
+abbrev ScriptOr : Command → List ℕ → Type 0
+ScriptOr c text = ((s : Scenario) × (t : Table) × IsServedScript c text s t) ⊎ ((r : Refusal) × ScriptRefused c text r)
+
+by_use : (c : Command) (text : List ℕ) (s : Scenario) (t : Table) → IsScript text s → IsSetUp s t → (o : Option UseFault) → use_fault c s ≡ o → ScriptOr c text
+by_use c text s t h set (Some fault) is = inr (refusal.Use fault, Unserved s h (refusal.Use fault) (ByUse t set fault is))
+by_use c text s t h set None none = inl (s, t, record { script = h; served = record { set_up = set; used = none } })
+
+by_set_up : (c : Command) (text : List ℕ) (s : Scenario) → IsScript text s → HasSetUp s ⊎ HasRefusal s → ScriptOr c text
+by_set_up c text s h (inl set) = by_use c text s set.table h set.checked (use_fault c s) refl
+by_set_up c text s h (inr no) = inr (no.cause, Unserved s h no.cause (BySetUp no.cause no.refused))
+
+by_built : (c : Command) (text : List ℕ) (s : Scenario) → IsSpelled text s → (b : Bool) → is_built s ≡ b → ScriptOr c text
+by_built c text s h false none = inr (refusal.Unbuilt, NotBuilt s h none)
+by_built c text s h true built = by_set_up c text s (record { spells = h; built = built }) (set_up_or_refused s)
+
+no_scenario : (text : List ℕ) → ScriptFault text → (s : Scenario) → IsSpelled text s → ⊥
+no_scenario text f s h = text_not_both text (record { scenario = s; right = h.scenario; spelled = h.spelled }) f
+
+script_or_refused : (c : Command) (text : List ℕ) → ScriptOr c text
+script_or_refused c text = elim (text_some text) [
+  | inl h ↦ by_built c text h.scenario (record { spelled = h.spelled; scenario = h.right }) (is_built h.scenario) refl
+  | inr f ↦ inr (refusal.Script f.line f.kind, WrongScript (no_scenario text f) f.line f.kind f.wrong)
+]
+
+some_none : {X : Type 0} (o : Option X) (x : X) → o ≡ None → o ≡ Some x → ⊥
+some_none o x e f = absurd cc
+
+same_some : {X : Type 0} (o : Option X) (x y : X) → o ≡ Some x → o ≡ Some y → x ≡ y
+same_some o x y e f = cc
+
+not_built_twice : (b : Bool) → b ≡ true → b ≡ false → ⊥
+not_built_twice b e f = absurd cc
+
+one_not_served : (c : Command) (s : Scenario) (r q : Refusal) → NotServed c s r → NotServed c s q → r ≡ q
+one_not_served c s r q (BySetUp _ h) (BySetUp _ k) = one_refusal s r q h k
+one_not_served c s r q (BySetUp _ h) (ByUse t set fault is) = absurd (set_up_kept s t r set h)
+one_not_served c s r q (ByUse t set fault is) (BySetUp _ k) = absurd (set_up_kept s t q set k)
+one_not_served c s r q (ByUse t set fault is) (ByUse u up other also) = ap refusal.Use (same_some (use_fault c s) fault other is also)
+
+built_or_not : (text : List ℕ) (s u : Scenario) → IsSpelled text s → is_built s ≡ false → IsScript text u → ⊥
+built_or_not text s u h none k =
+    let same : s ≡ u = one_scenario text s u h k.spells in
+    not_built_twice (is_built u) k.built (subst (λ (v : Scenario). is_built v ≡ false) same none)
+
+one_script_refusal : (c : Command) (text : List ℕ) (r q : Refusal) → ScriptRefused c text r → ScriptRefused c text q → r ≡ q
+one_script_refusal c text r q (WrongScript none l k a) (WrongScript no_one m d b) =
+    let same = text_one_fault text l m k d a b in λ i. refusal.Script (same.0 i) (same.1 i)
+one_script_refusal c text r q (WrongScript none l k a) (NotBuilt s h not_) = absurd (none s h)
+one_script_refusal c text r q (WrongScript none l k a) (Unserved s h _ b) = absurd (none s h.spells)
+one_script_refusal c text r q (NotBuilt s h not_) (WrongScript none l k a) = absurd (none s h)
+one_script_refusal c text r q (NotBuilt s h not_) (NotBuilt u k nor) = refl
+one_script_refusal c text r q (NotBuilt s h not_) (Unserved u k _ b) = absurd (built_or_not text s u h not_ k)
+one_script_refusal c text r q (Unserved s h _ a) (WrongScript none l k b) = absurd (none s h.spells)
+one_script_refusal c text r q (Unserved s h _ a) (NotBuilt u k nor) = absurd (built_or_not text u s k nor h)
+one_script_refusal c text r q (Unserved s h _ a) (Unserved u k _ b) =
+    let same : s ≡ u = one_scenario text s u h.spells k.spells in
+    one_not_served c u r q (subst (λ (v : Scenario). NotServed c v r) same a) b
+
+-- ---- texts of tables
+
+abbrev TextOr : List ℕ → Type 0
+TextOr text = ((t : Table) × IsTextOf t text) ⊎ ((r : Refusal) × TextRefused text r)
+
+text_or_refused : (text : List ℕ) → TextOr text
+text_or_refused text = elim (table_some text) [
+  | inl h ↦ inl (h.table, record { value = has_spelling h.table h.right; text_is = h.spelled })
+  | inr f ↦ inr (refusal.TableText f.line f.kind, WrongLine (λ t has is. table_not_both text (record { table = t; right = has; spelled = is }) f) f.line f.kind f.wrong)
+]
+
+one_text_refusal : (text : List ℕ) (r q : Refusal) → TextRefused text r → TextRefused text q → r ≡ q
+one_text_refusal text r q (WrongLine none l k a) (WrongLine no_one m d b) =
+    let same = table_one_fault text l m k d a b in λ i. refusal.TableText (same.0 i) (same.1 i)
+
+-- ---- one line
+
+pub one_command_refusal : OnePackage → OneSpelling → OneFault → (c : Command) (input : List ℕ) (r q : Refusal) → Refuses c input r → Refuses c input q → r ≡ q
+one_command_refusal one spelling single command.Step input r q h k = one_script_refusal command.Step input r q h k
+one_command_refusal one spelling single command.Weave input r q h k = one_script_refusal command.Weave input r q h k
+one_command_refusal one spelling single command.Show input r q h k = one_table_refusal input r q h k
+one_command_refusal one spelling single command.Build input r q h k = one_text_refusal input r q h k
+one_command_refusal one spelling single command.Cpc input r q h k = one_package_refusal one spelling single input r q h k
+
+pub one_rejection : OnePackage → OneSpelling → OneFault → (c : Command) (input : List ℕ) (r q : Refusal) → Rejects c input r → Rejects c input q → r ≡ q
+one_rejection one spelling single c input r q (Exceeds more) (Exceeds also) = refl
+one_rejection one spelling single c input r q (Exceeds more) (Within few _ k) = absurd (omega (arith, more, few))
+one_rejection one spelling single c input r q (Within few _ h) (Exceeds more) = absurd (omega (arith, more, few))
+one_rejection one spelling single c input r q (Within few _ h) (Within less _ k) = one_command_refusal one spelling single c input r q h k
+
+-- ---- made or refused
+
+abbrev pub MadeOr : Command → List ℕ → Type 0
+MadeOr c input = IsMade c input ⊎ ((r : Refusal) × Refuses c input r)
+
+made_or_refused : SomePackage → NotBoth → OnePackage → OneSpelling → (c : Command) (input : List ℕ) → IsBytes input → MadeOr c input
+made_or_refused some apart one spelling command.Step input fit = script_or_refused command.Step input
+made_or_refused some apart one spelling command.Weave input fit = script_or_refused command.Weave input
+made_or_refused some apart one spelling command.Show input fit = elim (whole_or_refused input) [
+  | inl h ↦ inl (h.table, h.spelled)
+  | inr h ↦ inr (h.cause, h.refused)
+]
+made_or_refused some apart one spelling command.Build input fit = text_or_refused input
+made_or_refused some apart one spelling command.Cpc input fit = package_or_refused some apart one spelling input fit
+
+pub accepted_or_rejected : SomePackage → NotBoth → OnePackage → OneSpelling → (c : Command) (input : List ℕ) → IsBytes input → IsAccepted c input ⊎ IsRejected c input
+accepted_or_rejected some apart one spelling c input fit = elim (cases_lt input_limit (length input)) [
+  | inl more ↦ inr (record { cause = refusal.Long; rejects = Exceeds more })
+  | inr few ↦ elim (made_or_refused some apart one spelling c input fit) [
+    | inl made ↦ inl (record { short = few; made = made })
+    | inr no ↦ inr (record { cause = no.0; rejects = Within few no.0 no.1 })
+  ]
+]
+
+-- what is accepted is not rejected
+pub accepted_kept : (c : Command) (input : List ℕ) (r : Refusal) → IsAccepted c input → Rejects c input r → ⊥
+accepted_kept c input r h (Exceeds more) = let few : length input ≤ input_limit = h.short in absurd (omega (arith, more, few))
+accepted_kept c input r h (Within few _ refuses) = kept c input r h.made refuses
+
+pub not_both : (c : Command) (input : List ℕ) → IsAccepted c input → IsRejected c input → ⊥
+not_both c input h k = accepted_kept c input k.cause h k.rejects
+
+-- ---- what is made
+
+pub is_made : (c : Command) (input text : List ℕ) → Makes c input text → IsMade c input
+is_made command.Step input text h = (h.0, h.1, h.2)
+is_made command.Weave input text h = (h.0, h.1, h.2)
+is_made command.Show input text h = (h.0, h.1)
+is_made command.Build input bytes h = (h.0, record { value = record { bytes = bytes; fit = h.2; spell = h.3 }; text_is = h.1 })
+is_made command.Cpc input text h = (h.0, h.1)
+
+pub some_text : (c : Command) (input : List ℕ) → c ≢ command.Weave → IsMade c input → (text : List ℕ) × Makes c input text
+some_text command.Step input other h =
+    (step_text h.0 h.1, h.0, h.1, h.2, record { text_is = refl; headline = set_up_headlines h.0 h.1 h.2.served.set_up.all_open })
+some_text command.Weave input other h = absurd (other refl)
+some_text command.Show input other h = (show_text h.0, h.0, h.1, refl)
+some_text command.Build input other h = (h.1.value.bytes, h.0, h.1.text_is, h.1.value.fit, h.1.value.spell)
+some_text command.Cpc input other h = (package_text h.0, h.0, h.1, refl)
+
+-- a command serves one script with one table
+one_step : (input text other : List ℕ) → Makes command.Step input text → Makes command.Step input other → text ≡ other
+one_step input text other h k =
+    let same : h.0 ≡ k.0 = one_scenario input h.0 k.0 h.2.script.spells k.2.script.spells in
+    let set : IsSetUp k.0 h.1 = subst (λ (s : Scenario). IsSetUp s h.1) same h.2.served.set_up in
+    let table : h.1 ≡ k.1 = one_set_up_table k.0 h.1 k.1 set k.2.served.set_up in
+    h.3.text_is ∙ (λ i. step_text (same i) (table i)) ∙ sym k.3.text_is
+
+one_build : (input bytes other : List ℕ) → Makes command.Build input bytes → Makes command.Build input other → bytes ≡ other
+one_build input bytes other h k =
+    let left : IsTableValue h.0 = record { bytes = bytes; fit = h.2; spell = h.3 } in
+    let right : IsTableValue k.0 = record { bytes = other; fit = k.2; spell = k.3 } in
+    let same : h.0 ≡ k.0 = text_one_table h.0 k.0 (has_text h.0 left) (has_text k.0 right) (sym h.1 ∙ k.1) in
+    one_table_spelling bytes other k.0 h.2 k.2 (subst (TableBytes bytes) same h.3) k.3
+
+pub one_text : OnePackage → (c : Command) (input text other : List ℕ) → c ≢ command.Weave → Makes c input text → Makes c input other → text ≡ other
+one_text one command.Step input text other differs h k = one_step input text other h k
+one_text one command.Weave input text other differs h k = absurd (differs refl)
+one_text one command.Show input text other differs h k = h.2 ∙ ap show_text (one_table input h.0 k.0 h.1 k.1) ∙ sym k.2
+one_text one command.Build input text other differs h k = one_build input text other h k
+one_text one command.Cpc input text other differs h k =
+    h.2 ∙ ap package_text (one input [] input [] h.0 k.0 h.1 k.1 refl) ∙ sym k.2

@@ -1,0 +1,8 @@
+use Rattle.pccrun_core.proofs.OneAnswer.{one_answer, one_status}
+use Rattle.pccrun_core.proofs.inputs.answer_laws.Goals as goal
+
+pub returns-clause-one_status : goal.returns-clause-one_status
+returns-clause-one_status c = let p = c.package_laws.ensures in one_status p.one_package p.one_spelling p.one_fault
+
+pub returns-clause-one_answer : goal.returns-clause-one_answer
+returns-clause-one_answer c = let p = c.package_laws.ensures in one_answer p.one_package p.one_spelling p.one_fault
