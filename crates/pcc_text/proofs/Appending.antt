@@ -5,7 +5,7 @@ use Rattle.std.proofs.lemmas.List.{append_assoc, append-nil, drop_more, drop_all
 use Rattle.pcc_text.specs.declared.writing.Piece.{Piece}
 use Rattle.pcc_text.specs.Pieces.{spell, spelled, spelled_of}
 
--- of a list that is written item by item, each by f, the first i are written behind what was there first
+-- of a list that is written item by item, each by f, the first i are written after what was there first
 pub record Appending {A : Type 0} (f : A → List ℕ) (first out : List ℕ) (xs : List A) (i : ℕ) : Type 0 where
   pub whole : out ++ flat_map f (drop i xs) ≡ first ++ flat_map f xs
 

@@ -7,13 +7,13 @@ use Rattle.std.proofs.lemmas.List.Splits.{slice_split_none, slice_split_at}
 use Rattle.memchr.specs.Find.{is_byte, places, places_from}
 use Rattle.pcc_bytes.specs.Fields.{split_at}
 
--- k is the first place of a byte from place i on, and `later` are the places behind it
+-- k is the first place of a byte from place i on, and `later` are the places after it
 record FirstCut (c : ℕ) (text : List ℕ) (i k : ℕ) (later : List ℕ) : Type 0 where
   pub low : i ≤ k
   pub high : k < length text
   pub hit : eqb (get_or text k 0) c ≡ true
   pub before : (m : ℕ) → i ≤ m → m < k → eqb (get_or text m 0) c ≡ false
-  pub behind : later ≡ places_from (is_byte c) text (k + 1) (length text - (k + 1))
+  pub rest : later ≡ places_from (is_byte c) text (k + 1) (length text - (k + 1))
 
 -- no byte of a stretch is c, with one byte more in front
 one_more : (c : ℕ) (text : List ℕ) (i k : ℕ) → eqb (get_or text i 0) c ≡ false → ((m : ℕ) → i + 1 ≤ m → m < k → eqb (get_or text m 0) c ≡ false) → (m : ℕ) → i ≤ m → m < k → eqb (get_or text m 0) c ≡ false
@@ -36,12 +36,12 @@ first_here c text i n k later true e len next h =
       high = omega arith;
       hit = rw here e;
       before = λ m low high. absurd (omega arith);
-      behind = rw here (rest ∙ ap (λ (j : ℕ). places_from (is_byte c) text (i + 1) j) left);
+      rest = rw here (rest ∙ ap (λ (j : ℕ). places_from (is_byte c) text (i + 1) j) left);
     }
 first_here c text i n k later false e len next h =
     let f : FirstCut c text (i + 1) k later = next h in
     let low : i + 1 ≤ k = f.low in
-    record { low = omega arith; high = f.high; hit = f.hit; before = one_more c text i k e f.before; behind = f.behind }
+    record { low = omega arith; high = f.high; hit = f.hit; before = one_more c text i k e f.before; rest = f.rest }
 
 first_cut : (c : ℕ) (text : List ℕ) (i n k : ℕ) (later : List ℕ) → i + n ≡ length text → places_from (is_byte c) text i n ≡ k ∷ later → FirstCut c text i k later
 unfolding places_from
@@ -69,7 +69,7 @@ stretch c text i k low high before j d lt =
     get_or-take (k - i) (drop i text) j d inside ∙ get_or-drop i text j d ∙ get_or_default text (i + j) d 0 (omega arith) in
     rw same (before (i + j) (omega arith) (omega arith))
 
--- the parts before `start` are cut off, and `cuts` are the places to cut at behind it
+-- the parts before `start` are cut off, and `cuts` are the places to cut at after it
 pub record Splitting (c : ℕ) (text : List ℕ) (parts : List (List ℕ)) (start : ℕ) (cuts : List ℕ) : Type 0 where
   pub within : start ≤ length text
   pub left : cuts ≡ places_from (is_byte c) text start (length text - start)
@@ -81,7 +81,7 @@ split_start c text cuts e = record { within = omega arith; left = e; whole = ref
 first : (c : ℕ) (text : List ℕ) (parts : List (List ℕ)) (start cut : ℕ) (cuts : List ℕ) → Splitting c text parts start (cut ∷ cuts) → FirstCut c text start cut cuts
 first c text parts start cut cuts s = let le : start ≤ length text = s.within in first_cut c text start (length text - start) cut cuts (omega arith) (sym s.left)
 
--- a cut lies behind the start of its part and before the end
+-- a cut lies after the start of its part and before the end
 pub cut_from : (c : ℕ) (text : List ℕ) (parts : List (List ℕ)) (start cut : ℕ) (cuts : List ℕ) → Splitting c text parts start (cut ∷ cuts) → start ≤ cut
 cut_from c text parts start cut cuts s = (first c text parts start cut cuts s).low
 
@@ -104,7 +104,7 @@ split_cut c text parts start cut cuts left e s =
     ap (split_at c) apart ∙ slice_split_at (λ x. eqb x c) part (get_or text cut 0) (drop (cut + 1) text) (stretch c text start cut low (omega arith) f.before) f.hit in
     record {
       within = omega arith;
-      left = f.behind;
+      left = f.rest;
       whole = append_assoc parts (part ∷ []) (split_at c (drop (cut + 1) text)) ∙ ap (λ (v : List (List ℕ)). parts ++ v) (sym front) ∙ s.whole;
     }
 
