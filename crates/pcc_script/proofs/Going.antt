@@ -2,7 +2,7 @@
 use Rattle.std.proofs.Common.{◌≡◌, ℕ, suc, ◌+◌, ◌<◌, ◌≤◌, List, [], ◌∷◌, ◌++◌, length, refl, sym, ap, ◌∙◌, subst, arith}
 use Rattle.std.specs.Prelude.{Option, Some, None, Result, Ok, Err}
 use Rattle.std.proofs.lemmas.List.{append_assoc, append-nil, length-append}
-use Rattle.pcc_bytes.specs.Fields.{split_at}
+use Rattle.pcc_bytes.specs.Fields.{front_of, last_in, last_of, lines_of, split_at}
 use Rattle.pcc_script.specs.declared.order.Seen.{Seen}
 use Rattle.pcc_script.specs.declared.partial.Partial.{Partial}
 use Rattle.pcc_script.specs.declared.fault.ScriptError.{ScriptError}
@@ -11,9 +11,9 @@ use Rattle.pcc_script.specs.declared.fault.ScriptKind.{ScriptKind}
 use Rattle.pcc_script.specs.declared.scenario.Scenario.{Scenario}
 use Rattle.pcc_script.specs.Rows.{behind as back, most, place}
 use Rattle.pcc_script.specs.Text.{Statement, statements_of}
-use Rattle.pcc_script.specs.Reading.{count_for, seen_after, read_statement, read_lines, read_text, Blames, Lines, Tells, ended, ended_by, front_of, last_of, with_front, start, so_far, Empty}
+use Rattle.pcc_script.specs.Reading.{count_for, seen_after, read_statement, read_lines, read_text, Blames, Lines, Tells, ended, ended_by, with_front, start, so_far, Empty}
 use Rattle.pcc_script.proofs.Growing.{empty_later}
-use Rattle.pcc_script.proofs.Parts.{begins, last_in, lines_of}
+use Rattle.pcc_text.proofs.Lines.{begins}
 use Rattle.pcc_script.proofs.Room.{Counted, counted_more, counted_start}
 
 -- the fault that is met, and its line

@@ -1,6 +1,6 @@
 -- How the code reads a text, from left to right, as functions on lists. Only contracts of private functions cite these.
 use Rattle.std.specs.Prelude.{◌≡◌, ◌<◌, ℕ, zero, suc, ◌==◌, ◌&&◌, nat_lt, nat_le, Bool, if◌then◌else◌, List, [], ◌∷◌, ◌++◌, length, map, Option, Some, None, Result, Ok, Err, codes, bytes_eq}
-use Rattle.pcc_bytes.specs.Fields.{split_at}
+use Rattle.pcc_bytes.specs.Fields.{last_in, lines_of, split_at}
 use Rattle.pcc_text.specs.Reading.{hex_of, number_of}
 use Rattle.pcc_script.specs.declared.fault.ScriptError.{ScriptError}
 use Rattle.pcc_script.specs.declared.fault.ScriptError.TheVariants as error
@@ -191,17 +191,6 @@ pub record Empty (next : ℕ) (p : Partial) : Type 0 where
 
 -- ---- a text
 
--- the parts before the last
-abbrev pub front_of : List (List ℕ) → List (List ℕ)
-front_of [] = []
-front_of (x ∷ []) = []
-front_of (x ∷ y ∷ ys) = x ∷ front_of (y ∷ ys)
-
-abbrev pub last_of : List (List ℕ) → List ℕ
-last_of [] = []
-last_of (x ∷ []) = x
-last_of (x ∷ y ∷ ys) = last_of (y ∷ ys)
-
 abbrev pub is_whole : List Statement → Bool
 is_whole statements = nat_le 1 (count_at (place word.Table) statements) && (nat_le 1 (count_at (place word.Clock) statements) && nat_le 1 (count_at (place word.Open) statements))
 
@@ -223,4 +212,4 @@ abbrev pub ended : Lines → List ℕ → Lines
 ended ls last = ended_by ls.fault ls.right last
 
 unfoldable pub read_text : List ℕ → Lines
-read_text text = ended (read_lines start (front_of (split_at 10 text))) (last_of (split_at 10 text))
+read_text text = ended (read_lines start (lines_of text)) (last_in text)
