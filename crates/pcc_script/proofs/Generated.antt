@@ -22,7 +22,8 @@ pub none_made : made_calls 0 ≡ []
 unfolding made_calls
 none_made = refl
 
-pub one_more : (place : ℕ) (actions : List Line) (x : ℕ) → actions ≡ made_calls place → x ≡ generated place → actions ++ call_with place x ∷ [] ≡ made_calls (place + 1)
+pub one_more : (place : ℕ) (actions : List Line) (x : ℕ) → actions ≡ made_calls place → x ≡ generated place
+    → actions ++ call_with place x ∷ [] ≡ made_calls (place + 1)
 unfolding made_calls
 one_more place actions x a e =
     let last : made_calls (place + 1) ≡ made_calls place ++ made_call place ∷ [] = map-range_with_len_more made_call 0 place place (omega arith) in

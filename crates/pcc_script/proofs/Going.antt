@@ -32,7 +32,10 @@ pub record Going (text rest : List ℕ) (line : ℕ) (seen : Seen) (p : Partial)
 pub going_start : (text : List ℕ) (p : Partial) → so_far p ≡ [] → Empty 0 p → Going text text 1 start p
 going_start text p e h = record { read = rw e refl; last = refl; count = rw e refl; counted = counted_start; empty = h }
 
-pub going_more : (text rest fields behind : List ℕ) (line : ℕ) (seen : Seen) (p q : Partial) (r : Statement) → split_at 10 rest ≡ fields ∷ split_at 10 behind → read_statement seen (split_at 32 fields) ≡ Ok r → seen.next ≤ place r.word → count_for seen r.word < most r.word → so_far q ≡ so_far p ++ r ∷ [] → Empty (back r.word) q → Going text rest line seen p → Going text behind (line + 1) (seen_after seen r.word) q
+pub going_more : (text rest fields behind : List ℕ) (line : ℕ) (seen : Seen) (p q : Partial) (r : Statement)
+    → split_at 10 rest ≡ fields ∷ split_at 10 behind → read_statement seen (split_at 32 fields) ≡ Ok r → seen.next ≤ place r.word
+    → count_for seen r.word < most r.word → so_far q ≡ so_far p ++ r ∷ [] → Empty (back r.word) q → Going text rest line seen p
+    → Going text behind (line + 1) (seen_after seen r.word) q
 going_more text rest fields behind line seen p q r cut e placed few s h g =
     let b = begins rest fields behind cut in
     let next = read_lines (seen_after seen r.word) (lines_of behind) in
@@ -65,7 +68,9 @@ faulted ls last n k m =
     let M : Lines → Type 0 = λ all. Met all n k in
     subst M (sym same) (record { fault = refl; line = m.line })
 
-pub going_fault : (text rest fields behind : List ℕ) (line : ℕ) (seen : Seen) (p : Partial) (k : ScriptKind) → split_at 10 rest ≡ fields ∷ split_at 10 behind → read_statement seen (split_at 32 fields) ≡ Err k → Going text rest line seen p → Blames (Fault line k) (read_text text)
+pub going_fault : (text rest fields behind : List ℕ) (line : ℕ) (seen : Seen) (p : Partial) (k : ScriptKind)
+    → split_at 10 rest ≡ fields ∷ split_at 10 behind → read_statement seen (split_at 32 fields) ≡ Err k → Going text rest line seen p
+    → Blames (Fault line k) (read_text text)
 unfolding read_text
 going_fault text rest fields behind line seen p k cut e g =
     let b = begins rest fields behind cut in
@@ -80,7 +85,9 @@ going_fault text rest fields behind line seen p k cut e g =
 abbrev read_so_far : List Statement → Lines
 read_so_far rs = record { right = rs; fault = None }
 
-pub going_end : (text rest : List ℕ) (line : ℕ) (seen : Seen) (p : Partial) (r : Result Scenario ScriptError) → split_at 10 rest ≡ rest ∷ [] → Going text rest line seen p → Tells statements_of r (ended (record { right = so_far p; fault = None }) rest) → Tells statements_of r (read_text text)
+pub going_end : (text rest : List ℕ) (line : ℕ) (seen : Seen) (p : Partial) (r : Result Scenario ScriptError) → split_at 10 rest ≡ rest ∷ []
+    → Going text rest line seen p → Tells statements_of r (ended (record { right = so_far p; fault = None }) rest)
+    → Tells statements_of r (read_text text)
 unfolding read_text
 going_end text rest line seen p r uncut g h =
     let none : lines_of rest ≡ [] = ap front_of uncut in

@@ -43,11 +43,13 @@ pub want_ok : {A : Type 0} (b : Bool) (k : ScriptKind) (r : Result A ScriptKind)
 want_ok false k r y h = cc
 want_ok true k r y h = (refl, h)
 
-pub test_err : {A : Type 0} (b : Bool) (k d : ScriptKind) (r : Result A ScriptKind) → cond b (Err k) r ≡ Err d → ((b ≡ true) × (d ≡ k)) ⊎ ((b ≡ false) × (r ≡ Err d))
+pub test_err : {A : Type 0} (b : Bool) (k d : ScriptKind) (r : Result A ScriptKind) → cond b (Err k) r ≡ Err d
+    → ((b ≡ true) × (d ≡ k)) ⊎ ((b ≡ false) × (r ≡ Err d))
 test_err true k d r h = inl (refl, cc)
 test_err false k d r h = inr (refl, h)
 
-pub want_err : {A : Type 0} (b : Bool) (k d : ScriptKind) (r : Result A ScriptKind) → cond b r (Err k) ≡ Err d → ((b ≡ false) × (d ≡ k)) ⊎ ((b ≡ true) × (r ≡ Err d))
+pub want_err : {A : Type 0} (b : Bool) (k d : ScriptKind) (r : Result A ScriptKind) → cond b r (Err k) ≡ Err d
+    → ((b ≡ false) × (d ≡ k)) ⊎ ((b ≡ true) × (r ≡ Err d))
 want_err false k d r h = inl (refl, cc)
 want_err true k d r h = inr (refl, h)
 
@@ -118,7 +120,8 @@ at_wrong i (Takes k ∷ ss) f d h =
           ]
     ]
 
-field_fails : (k : Kind) (f : List ℕ) (r : Result Value ScriptKind) → read_field k f ≡ r → ((v : Value) × IsOf k v × (f ≡ spell v) → ⊥) → r ≡ Err (field_fault k)
+field_fails : (k : Kind) (f : List ℕ) (r : Result Value ScriptKind) → read_field k f ≡ r → ((v : Value) × IsOf k v × (f ≡ spell v) → ⊥)
+    → r ≡ Err (field_fault k)
 field_fails k f (Ok v) e never = let s = field_reads k f v e in absurd (never (v, s.is, s.text))
 field_fails k f (Err d) e never = ap Err (field_wrong k f d e)
 
@@ -168,7 +171,8 @@ are_exact i (AtMost j n ∷ ss) f vs h = are_exact i ss f vs h.1
 are_exact i (Takes k ∷ ss) f [] h = absurd h
 are_exact i (Takes k ∷ ss) f (v ∷ vs) h = are_exact (suc i) ss f vs h.2
 
-open_width : (t : Bool) (n : ℕ) → Exacts (cond t (Exactly 4 ∷ Takes HexBytes ∷ []) (Exactly 3 ∷ [])) n → n ≡ 1 + suc (suc (taken (cond t (Exactly 4 ∷ Takes HexBytes ∷ []) (Exactly 3 ∷ []))))
+open_width : (t : Bool) (n : ℕ) → Exacts (cond t (Exactly 4 ∷ Takes HexBytes ∷ []) (Exactly 3 ∷ [])) n
+    → n ≡ 1 + suc (suc (taken (cond t (Exactly 4 ∷ Takes HexBytes ∷ []) (Exactly 3 ∷ []))))
 open_width true n h = h.0
 open_width false n h = h.0
 

@@ -74,7 +74,8 @@ pub record Counted (line : ℕ) (seen : Seen) : Type 0 where
 pub counted_start : Counted 1 start
 counted_start = record { from = omega arith; full = omega arith; few = omega arith; short = omega arith }
 
-few_case : (t : Bool) (line : ℕ) (seen : Seen) (w : Word) → Counted line seen → seen.next ≤ place w → eqb (place w) seen.place ≡ t → line ≤ below_place (place w) + cond t seen.count 0 + 1
+few_case : (t : Bool) (line : ℕ) (seen : Seen) (w : Word) → Counted line seen → seen.next ≤ place w → eqb (place w) seen.place ≡ t
+    → line ≤ below_place (place w) + cond t seen.count 0 + 1
 few_case true line seen w c le e =
     let b : below_place (place w) ≡ below_place seen.place = ap below_place (eqb-true (place w) seen.place e) in
     let few : line ≤ below_place seen.place + seen.count + 1 = c.few in
@@ -88,7 +89,8 @@ few_case false line seen w c le e =
     let b : below_place seen.place + most_at seen.place ≤ below_place (place w) = below_le (suc seen.place) (place w) above in
     omega arith
 
-pub counted_more : (line : ℕ) (seen : Seen) (w : Word) → seen.next ≤ place w → count_for seen w < most w → Counted line seen → Counted (line + 1) (seen_after seen w)
+pub counted_more : (line : ℕ) (seen : Seen) (w : Word) → seen.next ≤ place w → count_for seen w < most w → Counted line seen
+    → Counted (line + 1) (seen_after seen w)
 counted_more line seen w le room c =
     let few : line ≤ below_place (place w) + count_for seen w + 1 = few_case (eqb (place w) seen.place) line seen w c le refl in
     let e : most w ≡ most_at (place w) = most_is w in

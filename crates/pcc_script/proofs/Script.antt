@@ -43,11 +43,13 @@ abbrev Ended : List ℕ → Option ScriptKind → List Statement → Type 0
 Ended text None rs = Found text rs
 Ended text (Some k) rs = TextWrong text (suc (length rs)) k
 
-missing_case : (t : Bool) (text : List ℕ) (rs : List Statement) → is_whole rs ≡ t → InOrder [] rs → text ≡ statements_text rs → Ended text (cond t None (Some kind.Missing)) rs
+missing_case : (t : Bool) (text : List ℕ) (rs : List Statement) → is_whole rs ≡ t → InOrder [] rs → text ≡ statements_text rs
+    → Ended text (cond t None (Some kind.Missing)) rs
 missing_case true text rs e h is = record { order = h; whole = whole_from rs e; is = is }
 missing_case false text rs e h is = NotWhole rs h (λ w. let t : is_whole rs ≡ true = whole_is rs w in cc) is
 
-end_case : (text : List ℕ) (rs : List Statement) (last : List ℕ) → InOrder [] rs → lacks 10 last ≡ true → text ≡ statements_text rs ++ last → Ended text (end_fault rs last) rs
+end_case : (text : List ℕ) (rs : List Statement) (last : List ℕ) → InOrder [] rs → lacks 10 last ≡ true → text ≡ statements_text rs ++ last
+    → Ended text (end_fault rs last) rs
 end_case text rs [] h l is = missing_case (is_whole rs) text rs refl h (is ∙ append-nil (statements_text rs))
 end_case text rs (b ∷ bs) h l is = NoEnd rs (b ∷ bs) h l (omega arith) is
 
@@ -88,7 +90,8 @@ statements_lack before [] h = tt
 statements_lack before (r ∷ rs) h = (statement_one before r h.0, statements_lack (before ++ r ∷ []) rs h.1)
 
 -- what is read, where the text is cut so
-read_cut : (text : List ℕ) (lines : List (List ℕ)) (last : List ℕ) → split_at 10 text ≡ lines ++ last ∷ [] → read_text text ≡ ended (read_lines start lines) last
+read_cut : (text : List ℕ) (lines : List (List ℕ)) (last : List ℕ) → split_at 10 text ≡ lines ++ last ∷ []
+    → read_text text ≡ ended (read_lines start lines) last
 unfolding read_text
 read_cut text lines last e = rw (e, front_push lines last, last_push lines last) refl
 
@@ -100,7 +103,8 @@ read_right rs h =
     let a = lines_again rs start [] [] sees_start h in
     ap (read_lines start) (sym (append-nil (map line_of rs))) ∙ a.is ∙ ap right_lines (append-nil rs)
 
-pub reads_again : (text : List ℕ) (rs : List Statement) → InOrder [] rs → IsWhole rs → text ≡ statements_text rs → read_text text ≡ record { right = rs; fault = None }
+pub reads_again : (text : List ℕ) (rs : List Statement) → InOrder [] rs → IsWhole rs → text ≡ statements_text rs
+    → read_text text ≡ record { right = rs; fault = None }
 unfolding statements_text
 reads_again text rs h w e =
     let cut : split_at 10 text ≡ map line_of rs ++ [] ∷ [] = ap (split_at 10) (e ∙ sym (append-nil (flat_map line_text (map line_of rs)))) ∙ split_more (map line_of rs) [] (statements_lack [] rs h) in

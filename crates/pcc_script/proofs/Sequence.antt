@@ -39,7 +39,8 @@ above_it a b ne le = grind arith
 abbrev statement_with : Word → List Value → Statement
 statement_with w vs = record { word = w; values = vs }
 
-count_case : (t : Bool) (seen : Seen) (before : List Statement) (w : Word) → Sees seen before → seen.next ≤ place w → eqb (place w) seen.place ≡ t → cond t seen.count 0 ≡ count_at (place w) before
+count_case : (t : Bool) (seen : Seen) (before : List Statement) (w : Word) → Sees seen before → seen.next ≤ place w → eqb (place w) seen.place ≡ t
+    → cond t seen.count 0 ≡ count_at (place w) before
 count_case true seen before w s le e = sym s.count ∙ ap (λ (p : ℕ). count_at p before) (sym (eqb-true (place w) seen.place e))
 count_case false seen before w s le e =
     let from : seen.place ≤ seen.next = s.from in
@@ -50,7 +51,8 @@ count_case false seen before w s le e =
 pub count_is : (seen : Seen) (before : List Statement) (w : Word) → Sees seen before → seen.next ≤ place w → count_for seen w ≡ count_at (place w) before
 count_is seen before w s le = count_case (eqb (place w) seen.place) seen before w s le refl
 
-pub sees_more : (seen : Seen) (before : List Statement) (r : Statement) → Sees seen before → seen.next ≤ place r.word → Sees (seen_after seen r.word) (before ++ r ∷ [])
+pub sees_more : (seen : Seen) (before : List Statement) (r : Statement) → Sees seen before → seen.next ≤ place r.word
+    → Sees (seen_after seen r.word) (before ++ r ∷ [])
 sees_more seen before r s le =
     let next : seen.next ≡ next_of before = s.next in
     let from : seen.place ≤ seen.next = s.from in
@@ -77,7 +79,8 @@ pub record LineOf (before : List Statement) (f : List (List ℕ)) (r : Statement
   pub is : f ≡ fields_of r
   pub right : LineRight before r
 
-pub statement_reads : (seen : Seen) (before : List Statement) (f : List (List ℕ)) (r : Statement) → Sees seen before → read_statement seen f ≡ Ok r → LineOf before f r
+pub statement_reads : (seen : Seen) (before : List Statement) (f : List (List ℕ)) (r : Statement) → Sees seen before → read_statement seen f ≡ Ok r
+    → LineOf before f r
 unfolding read_statement
 statement_reads seen before f r s h =
     let w = bind_ok (word_named (field_at f 0)) _ r h in
@@ -107,7 +110,8 @@ statement_again seen before r s ok =
     let few : count_at (place r.word) before < most r.word = ok.few in
     rw (word_again r.word, le-ltb (place r.word) seen.next le, lt-ltb (count_for seen r.word) (most r.word) (omega arith), at_again 1 (steps_of r.word (fields_of r)) (fields_of r) r.values ok.fields) refl
 
-pub statement_wrong : (seen : Seen) (before : List Statement) (f : List (List ℕ)) (k : ScriptKind) → Sees seen before → read_statement seen f ≡ Err k → LineWrong before f k
+pub statement_wrong : (seen : Seen) (before : List Statement) (f : List (List ℕ)) (k : ScriptKind) → Sees seen before → read_statement seen f ≡ Err k
+    → LineWrong before f k
 unfolding read_statement
 statement_wrong seen before f k s h =
     let next : seen.next ≡ next_of before = s.next in
@@ -143,7 +147,8 @@ statement_wrong seen before f k s h =
           ]
     ]
 
-pub statement_fails : (seen : Seen) (before : List Statement) (f : List (List ℕ)) (k : ScriptKind) → Sees seen before → LineWrong before f k → read_statement seen f ≡ Err k
+pub statement_fails : (seen : Seen) (before : List Statement) (f : List (List ℕ)) (k : ScriptKind) → Sees seen before → LineWrong before f k
+    → read_statement seen f ≡ Err k
 unfolding read_statement
 statement_fails seen before f k s (NotKnown never) = rw (word_fails (field_at f 0) (word_named (field_at f 0)) refl never) refl
 statement_fails seen before f k s (OutOfPlace w is lt) =
@@ -161,7 +166,8 @@ statement_fails seen before f k s (Inside w d is here few first) =
     rw (word_at (field_at f 0) w is, le-ltb (place w) seen.next le, lt-ltb (count_for seen w) (most w) (omega arith), at_fails 1 (steps_of w f) f d first) refl
 
 -- what a line that is read has for its place
-pub statement_placed : (seen : Seen) (f : List (List ℕ)) (r : Statement) → read_statement seen f ≡ Ok r → (seen.next ≤ place r.word) × (count_for seen r.word < most r.word)
+pub statement_placed : (seen : Seen) (f : List (List ℕ)) (r : Statement) → read_statement seen f ≡ Ok r
+    → (seen.next ≤ place r.word) × (count_for seen r.word < most r.word)
 unfolding read_statement
 statement_placed seen f r h =
     let w = bind_ok (word_named (field_at f 0)) _ r h in
@@ -172,11 +178,13 @@ statement_placed seen f r h =
     let P : Statement → Type 0 = λ q. (seen.next ≤ place q.word) × (count_for seen q.word < most q.word) in
     subst P (ok_same (statement_with w.0 vs.0) r vs.2) (ltb-false (place w.0) seen.next m.0, ltb-true (count_for seen w.0) (most w.0) n.0)
 
-pub next_placed : (seen : Seen) (f : List (List ℕ)) (o : Result Entry Stop) → Gives entry_statement o (read_statement seen f) → IfOk o (λ e. seen.next ≤ place (entry_statement e).word)
+pub next_placed : (seen : Seen) (f : List (List ℕ)) (o : Result Entry Stop) → Gives entry_statement o (read_statement seen f)
+    → IfOk o (λ e. seen.next ≤ place (entry_statement e).word)
 next_placed seen f (Ok e) h = (statement_placed seen f (entry_statement e) h).0
 next_placed seen f (Err e) h = tt
 
-pub next_few : (seen : Seen) (f : List (List ℕ)) (o : Result Entry Stop) → Gives entry_statement o (read_statement seen f) → IfOk o (λ e. count_for seen (entry_statement e).word < most (entry_statement e).word)
+pub next_few : (seen : Seen) (f : List (List ℕ)) (o : Result Entry Stop) → Gives entry_statement o (read_statement seen f)
+    → IfOk o (λ e. count_for seen (entry_statement e).word < most (entry_statement e).word)
 next_few seen f (Ok e) h = (statement_placed seen f (entry_statement e) h).1
 next_few seen f (Err e) h = tt
 
@@ -210,14 +218,18 @@ pub record Reads (before : List Statement) (ls : Lines) (lines : List (List ℕ)
   pub order : InOrder before ls.right
   pub ends : EndsSo ls.fault before ls.right lines
 
-ends_more : (o : Option ScriptKind) (before right : List Statement) (r : Statement) (line : List ℕ) (lines : List (List ℕ)) → line ≡ line_of r → EndsSo o (before ++ r ∷ []) right lines → EndsSo o before (r ∷ right) (line ∷ lines)
+ends_more : (o : Option ScriptKind) (before right : List Statement) (r : Statement) (line : List ℕ) (lines : List (List ℕ)) → line ≡ line_of r
+    → EndsSo o (before ++ r ∷ []) right lines → EndsSo o before (r ∷ right) (line ∷ lines)
 ends_more None before right r line lines e h = cc
 ends_more (Some k) before right r line lines e h =
     let P : List Statement → Type 0 = λ rs. LineWrong rs (split_at 32 h.0) k in
     let all : line ∷ lines ≡ line_of r ∷ (map line_of right ++ h.0 ∷ h.1) = let t : lines ≡ map line_of right ++ h.0 ∷ h.1 = h.2 in cc in
     (h.0, h.1, all, subst P (append_assoc before (r ∷ []) right) h.3)
 
-read_case : (o : Result Statement ScriptKind) (seen : Seen) (before : List Statement) (line : List ℕ) (lines : List (List ℕ)) → Sees seen before → read_statement seen (split_at 32 line) ≡ o → ((r : Statement) → Sees (seen_after seen r.word) (before ++ r ∷ []) → Reads (before ++ r ∷ []) (read_lines (seen_after seen r.word) lines) lines) → Reads before (go_on o (λ (r : Statement). read_lines (seen_after seen r.word) lines)) (line ∷ lines)
+read_case : (o : Result Statement ScriptKind) (seen : Seen) (before : List Statement) (line : List ℕ) (lines : List (List ℕ)) → Sees seen before
+    → read_statement seen (split_at 32 line) ≡ o
+    → ((r : Statement) → Sees (seen_after seen r.word) (before ++ r ∷ []) → Reads (before ++ r ∷ []) (read_lines (seen_after seen r.word) lines) lines)
+    → Reads before (go_on o (λ (r : Statement). read_lines (seen_after seen r.word) lines)) (line ∷ lines)
 read_case (Err k) seen before line lines s e more =
     let w : LineWrong before (split_at 32 line) k = statement_wrong seen before (split_at 32 line) k s e in
     let P : List Statement → Type 0 = λ rs. LineWrong rs (split_at 32 line) k in
@@ -241,7 +253,8 @@ pub record Again (seen : Seen) (before rs : List Statement) (more : List (List �
   pub sees : Sees then (before ++ rs)
   pub is : read_lines seen (map line_of rs ++ more) ≡ with_front rs (read_lines then more)
 
-pub lines_again : (rs : List Statement) (seen : Seen) (before : List Statement) (more : List (List ℕ)) → Sees seen before → InOrder before rs → Again seen before rs more
+pub lines_again : (rs : List Statement) (seen : Seen) (before : List Statement) (more : List (List ℕ)) → Sees seen before → InOrder before rs
+    → Again seen before rs more
 lines_again [] seen before more s h = record { then = seen; sees = subst (Sees seen) (sym (append-nil before)) s; is = refl }
 lines_again (r ∷ rs) seen before more s h =
     let e : read_statement seen (split_at 32 (line_of r)) ≡ Ok r = ap (read_statement seen) (statement_split before r h.0) ∙ statement_again seen before r s h.0 in
@@ -255,5 +268,6 @@ lines_again (r ∷ rs) seen before more s h =
     }
 
 -- a line that is wrong ends it
-pub lines_fail : (seen : Seen) (before : List Statement) (line : List ℕ) (rest : List (List ℕ)) (k : ScriptKind) → Sees seen before → LineWrong before (split_at 32 line) k → read_lines seen (line ∷ rest) ≡ record { right = []; fault = Some k }
+pub lines_fail : (seen : Seen) (before : List Statement) (line : List ℕ) (rest : List (List ℕ)) (k : ScriptKind) → Sees seen before
+    → LineWrong before (split_at 32 line) k → read_lines seen (line ∷ rest) ≡ record { right = []; fault = Some k }
 lines_fail seen before line rest k s h = rw (statement_fails seen before (split_at 32 line) k s h) refl

@@ -261,7 +261,8 @@ line_more before p r e h =
     subst M en.1 (entry_more p en.0 (subst E (sym en.1) (empty_later (next_of before) (place r.word) p h.placed e)))
 
 -- right lines are those of something read
-grown : (before rs : List Statement) (p : Partial) → so_far p ≡ before → Empty (next_of before) p → InOrder before rs → (q : Partial) × (so_far q ≡ before ++ rs)
+grown : (before rs : List Statement) (p : Partial) → so_far p ≡ before → Empty (next_of before) p → InOrder before rs
+    → (q : Partial) × (so_far q ≡ before ++ rs)
 grown before [] p s e h = (p, s ∙ sym (append-nil before))
 grown before (r ∷ rs) p s e h =
     let m = line_more before p r e h.0 in
@@ -286,7 +287,8 @@ empty_nothing = record { table = λ h. refl; clock = λ h. refl; opens = λ h. r
 abbrev IsSpelled : List Statement → Type 0
 IsSpelled rs = (s : Scenario) × (rs ≡ statements_of s)
 
-opened : (q : Partial) (t : List ℕ) (c : ClockLine) → q.table ≡ Some t → q.clock ≡ Some c → is_whole (so_far q) ≡ true → (n : ℕ) → length q.opens ≡ n → IsSpelled (so_far q)
+opened : (q : Partial) (t : List ℕ) (c : ClockLine) → q.table ≡ Some t → q.clock ≡ Some c → is_whole (so_far q) ≡ true → (n : ℕ) → length q.opens ≡ n
+    → IsSpelled (so_far q)
 opened q t c e k w zero o = absurd (both_ways (is_whole (so_far q)) (no_opens q o) w)
 opened q t c e k w (suc n) o =
     let s : Scenario = record { table = t; start = c.start; step = c.step; opens = q.opens; cpus = q.cpus; caps = q.caps; actions = q.actions; picks = q.picks } in

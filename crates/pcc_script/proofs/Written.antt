@@ -52,7 +52,8 @@ pub picks_none : (out : List ℕ) (o : Option (List Letter)) → o ≡ None → 
 unfolding statements_text
 picks_none out o e = rw e (sym (append-nil out))
 
-pub picks_some : (out : List ℕ) (o : Option (List Letter)) (ls : List Letter) → o ≡ Some ls → out ++ statement_text (pick_statement ls) ≡ out ++ statements_text (pick_statements o)
+pub picks_some : (out : List ℕ) (o : Option (List Letter)) (ls : List Letter) → o ≡ Some ls
+    → out ++ statement_text (pick_statement ls) ≡ out ++ statements_text (pick_statements o)
 unfolding statements_text statement_text
 picks_some out o ls e = rw e (ap (λ (t : List ℕ). out ++ t) (sym (append-nil (line_text (line_of (pick_statement ls))))))
 
@@ -67,7 +68,8 @@ unfolding statements_text statement_text
 text_cons r rs = refl
 
 -- the texts of its parts, one behind the other
-pub scenario_written : (s : Scenario) → (((((statement_text (table_statement s.table) ++ statement_text (clock_statement s.start s.step)) ++ statements_text (map open_statement s.opens)) ++ statements_text (map cpu_statement s.cpus)) ++ statements_text (map cap_statement s.caps)) ++ statements_text (map action_statement s.actions)) ++ statements_text (pick_statements s.picks) ≡ script_text s
+pub scenario_written : (s : Scenario)
+    → (((((statement_text (table_statement s.table) ++ statement_text (clock_statement s.start s.step)) ++ statements_text (map open_statement s.opens)) ++ statements_text (map cpu_statement s.cpus)) ++ statements_text (map cap_statement s.caps)) ++ statements_text (map action_statement s.actions)) ++ statements_text (pick_statements s.picks) ≡ script_text s
 unfolding script_text
 scenario_written s =
     let o = map open_statement s.opens in let c = map cpu_statement s.cpus in let p = map cap_statement s.caps in let a = map action_statement s.actions in let k = pick_statements s.picks in

@@ -10,7 +10,7 @@ use Rattle.pcc_script.specs.declared.scenario.Scenario.{Scenario}
 
 -- ---- the table
 
--- a number in so many bytes, the lowest of them first
+-- a number in n bytes, the lowest of them first
 abbrev pub little : ℕ → ℕ → List ℕ
 little n x = bytes_low_first 0 n x
 

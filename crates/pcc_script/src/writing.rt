@@ -1,7 +1,8 @@
 //! A scenario is written line by line, each a word and the values of its fields.
 ghost use Rattle.std.specs.Prelude.{◌≡◌, ◌∷◌, ◌++◌, [], IfOk, map, OnOk};
 ghost use Rattle.pcc_script.specs.Rows.{letter_text, spell};
-ghost use Rattle.pcc_script.specs.Text.{action_statement, cap_statement, clock_statement, cpu_statement, IsScenario, open_statement, pick_statements, script_text, statements_text, table_statement};
+ghost use Rattle.pcc_script.specs.Text.{action_statement, cap_statement, clock_statement, cpu_statement, IsScenario, open_statement, pick_statements};
+ghost use Rattle.pcc_script.specs.Text.{script_text, statements_text, table_statement};
 ghost use Rattle.pcc_script.specs.Writing.{spaced, statement_text, statement_with, value_of};
 
 use crate::scenario::{
@@ -12,7 +13,7 @@ use pcc_io::{Bytes, NoMemory};
 use pcc_text::{put, put_hex, put_number};
 use std::alloc::Global;
 
-/// A field of a line behind its word.
+/// A field of a line after its word.
 #[derive(Clone, Copy)]
 enum Field<'a> {
     /// A number in decimal.

@@ -27,7 +27,8 @@ uncut c text none =
     slice_split_none (λ b. eqb b c) text (subst (All (λ b. eqb b c ≡ false)) all (clean c text (length text) (omega arith) none))
 
 -- the first cut
-pub cut_once : (c : ℕ) (text : List ℕ) (place : ℕ) → NoneBefore (Passes (is_byte c) text) 0 (length text) place → Passes (is_byte c) text place → split_at c text ≡ take place text ∷ split_at c (drop (place + 1) text)
+pub cut_once : (c : ℕ) (text : List ℕ) (place : ℕ) → NoneBefore (Passes (is_byte c) text) 0 (length text) place → Passes (is_byte c) text place
+    → split_at c text ≡ take place text ∷ split_at c (drop (place + 1) text)
 cut_once c text place first here =
     let high : place < length text = first.high in
     let tail : drop place text ≡ slice_index text place ∷ drop (place + 1) text = drop_more text place 0 high in

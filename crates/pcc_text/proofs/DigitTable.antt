@@ -70,7 +70,8 @@ low_at t (b ∷ bs) (suc i) h =
     rw e (low_at t bs i (omega arith))
 
 -- the pair of digits of the byte at a place of an encoding
-pair_at : (bytes : List ℕ) (i : ℕ) → i < length bytes → slice_index (encode_lower bytes) (2 * i) + 256 * slice_index (encode_lower bytes) (2 * i + 1) ≡ pair_of (slice_index bytes i)
+pair_at : (bytes : List ℕ) (i : ℕ) → i < length bytes
+    → slice_index (encode_lower bytes) (2 * i) + 256 * slice_index (encode_lower bytes) (2 * i + 1) ≡ pair_of (slice_index bytes i)
 pair_at bytes i h = rw (high_at lower_digits bytes i h, low_at lower_digits bytes i h) refl
 
 -- ---- a text that is read
@@ -137,7 +138,8 @@ check_more text out i v same next h len low small e n c = record {
       n ∙ and_from same _ (c.all bytes fits is) (eq-eqb _ _ (ap pair_of byte ∙ sym pair));
 }
 
-pub check_front : (text out : List ℕ) (i : ℕ) (same : Bool) → length out ≤ i → length text ≡ 2 * length out → Checked text out i same → same ≡ true → text ≡ encode_lower out
+pub check_front : (text out : List ℕ) (i : ℕ) (same : Bool) → length out ≤ i → length text ≡ 2 * length out → Checked text out i same → same ≡ true
+    → text ≡ encode_lower out
 check_front text out i same h len c e =
     sym (take_all (2 * i) text (omega arith)) ∙ c.front e ∙ ap encode_lower (take_all i out h)
 

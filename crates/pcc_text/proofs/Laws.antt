@@ -124,7 +124,8 @@ number_above limit n f h lt =
     let p = number_parts (2 ^ 64 - 1) f n h in
     rw (p.numeral, p.value, lt-leb n limit lt) refl
 
-none_cases : (t : Bool) (most limit v : ℕ) → limit ≤ most → cond t (cond (leb v most) (Some v) None) None ≡ None → cond t (cond (leb v limit) (Some v) None) None ≡ None
+none_cases : (t : Bool) (most limit v : ℕ) → limit ≤ most → cond t (cond (leb v most) (Some v) None) None ≡ None
+    → cond t (cond (leb v limit) (Some v) None) None ≡ None
 none_cases false most limit v le h = refl
 none_cases true most limit v le h = grind (arith, nat_tests)
 

@@ -16,7 +16,8 @@ record FirstCut (c : ℕ) (text : List ℕ) (i k : ℕ) (later : List ℕ) : Typ
   pub rest : later ≡ places_from (is_byte c) text (k + 1) (length text - (k + 1))
 
 -- no byte of a stretch is c, with one byte more in front
-one_more : (c : ℕ) (text : List ℕ) (i k : ℕ) → eqb (get_or text i 0) c ≡ false → ((m : ℕ) → i + 1 ≤ m → m < k → eqb (get_or text m 0) c ≡ false) → (m : ℕ) → i ≤ m → m < k → eqb (get_or text m 0) c ≡ false
+one_more : (c : ℕ) (text : List ℕ) (i k : ℕ) → eqb (get_or text i 0) c ≡ false → ((m : ℕ) → i + 1 ≤ m → m < k → eqb (get_or text m 0) c ≡ false)
+    → (m : ℕ) → i ≤ m → m < k → eqb (get_or text m 0) c ≡ false
 one_more c text i k e next m low high =
     elim (cases_lt i m) [
       | inl later ↦ next m (omega arith) high
@@ -43,7 +44,8 @@ first_here c text i n k later false e len next h =
     let low : i + 1 ≤ k = f.low in
     record { low = omega arith; high = f.high; hit = f.hit; before = one_more c text i k e f.before; rest = f.rest }
 
-first_cut : (c : ℕ) (text : List ℕ) (i n k : ℕ) (later : List ℕ) → i + n ≡ length text → places_from (is_byte c) text i n ≡ k ∷ later → FirstCut c text i k later
+first_cut : (c : ℕ) (text : List ℕ) (i n k : ℕ) (later : List ℕ) → i + n ≡ length text → places_from (is_byte c) text i n ≡ k ∷ later
+    → FirstCut c text i k later
 unfolding places_from
 first_cut c text i zero k later len h = cc h
 first_cut c text i (suc n) k later len h = first_here c text i n k later (eqb (get_or text i 0) c) refl len (first_cut c text (i + 1) n k later (omega arith)) h
@@ -60,7 +62,8 @@ no_cut c text i zero h = λ m low high. absurd (omega arith)
 no_cut c text i (suc n) h = none_here c text i n (eqb (get_or text i 0) c) refl (no_cut c text (i + 1) n) h
 
 -- no byte of a stretch of a text is c
-stretch : (c : ℕ) (text : List ℕ) (i k : ℕ) → i ≤ k → k ≤ length text → ((m : ℕ) → i ≤ m → m < k → eqb (get_or text m 0) c ≡ false) → All (λ b. eqb b c ≡ false) (take (k - i) (drop i text))
+stretch : (c : ℕ) (text : List ℕ) (i k : ℕ) → i ≤ k → k ≤ length text → ((m : ℕ) → i ≤ m → m < k → eqb (get_or text m 0) c ≡ false)
+    → All (λ b. eqb b c ≡ false) (take (k - i) (drop i text))
 stretch c text i k low high before j d lt =
     let len : length (drop i text) ≡ length text - i = length-drop i text in
     let count : length (take (k - i) (drop i text)) ≡ k - i = length-take-le (k - i) (drop i text) (omega arith) in
@@ -78,7 +81,8 @@ pub record Splitting (c : ℕ) (text : List ℕ) (parts : List (List ℕ)) (star
 pub split_start : (c : ℕ) (text cuts : List ℕ) → cuts ≡ places (is_byte c) text → Splitting c text [] 0 cuts
 split_start c text cuts e = record { within = omega arith; left = e; whole = refl }
 
-first : (c : ℕ) (text : List ℕ) (parts : List (List ℕ)) (start cut : ℕ) (cuts : List ℕ) → Splitting c text parts start (cut ∷ cuts) → FirstCut c text start cut cuts
+first : (c : ℕ) (text : List ℕ) (parts : List (List ℕ)) (start cut : ℕ) (cuts : List ℕ) → Splitting c text parts start (cut ∷ cuts)
+    → FirstCut c text start cut cuts
 first c text parts start cut cuts s = let le : start ≤ length text = s.within in first_cut c text start (length text - start) cut cuts (omega arith) (sym s.left)
 
 -- a cut lies after the start of its part and before the end
@@ -88,7 +92,8 @@ cut_from c text parts start cut cuts s = (first c text parts start cut cuts s).l
 pub cut_within : (c : ℕ) (text : List ℕ) (parts : List (List ℕ)) (start cut : ℕ) (cuts : List ℕ) → Splitting c text parts start (cut ∷ cuts) → cut < length text
 cut_within c text parts start cut cuts s = (first c text parts start cut cuts s).high
 
-pub split_cut : (c : ℕ) (text : List ℕ) (parts : List (List ℕ)) (start cut : ℕ) (cuts left : List ℕ) → left ≡ cut ∷ cuts → Splitting c text parts start left → Splitting c text (parts ++ take (cut - start) (drop start text) ∷ []) (cut + 1) cuts
+pub split_cut : (c : ℕ) (text : List ℕ) (parts : List (List ℕ)) (start cut : ℕ) (cuts left : List ℕ) → left ≡ cut ∷ cuts
+    → Splitting c text parts start left → Splitting c text (parts ++ take (cut - start) (drop start text) ∷ []) (cut + 1) cuts
 split_cut c text parts start cut cuts left e s =
     let P : List ℕ → Type 0 = Splitting c text parts start in
     let f : FirstCut c text start cut cuts = first c text parts start cut cuts (subst P e s) in
@@ -108,7 +113,8 @@ split_cut c text parts start cut cuts left e s =
       whole = append_assoc parts (part ∷ []) (split_at c (drop (cut + 1) text)) ∙ ap (λ (v : List (List ℕ)). parts ++ v) (sym front) ∙ s.whole;
     }
 
-pub split_end : (c : ℕ) (text : List ℕ) (parts : List (List ℕ)) (start : ℕ) → Splitting c text parts start [] → parts ++ take (length text - start) (drop start text) ∷ [] ≡ split_at c text
+pub split_end : (c : ℕ) (text : List ℕ) (parts : List (List ℕ)) (start : ℕ) → Splitting c text parts start []
+    → parts ++ take (length text - start) (drop start text) ∷ [] ≡ split_at c text
 split_end c text parts start s =
     let within : start ≤ length text = s.within in
     let len : length (drop start text) ≡ length text - start = length-drop start text in
