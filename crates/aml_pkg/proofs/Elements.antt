@@ -26,7 +26,8 @@ use Rattle.aml_pkg.proofs.Loop.{with_front}
 
 -- ---- a buffer behind its op
 
-buffer_takes : (w : Window) (b : List ℕ) (x : Buffer × List ℕ) → IsBytes b → buffer_at w b ≡ Ok x → Takes b (len_bytes x.0.len ++ buffer_body x.0) x.1 × IsBuffer x.0
+buffer_takes : (w : Window) (b : List ℕ) (x : Buffer × List ℕ) → IsBytes b → buffer_at w b ≡ Ok x
+    → Takes b (len_bytes x.0.len ++ buffer_body x.0) x.1 × IsBuffer x.0
 unfolding buffer_at
 buffer_takes w b x fits e =
     let l = bind_ok (len_at w b) (λ l. int_at (inner w b l.0.value) (take (body_len l.0) l.1) >>= λ size. Ok (record { len = l.0; size = size.0; bytes = size.1 }, drop (body_len l.0) l.1)) x e in
@@ -94,11 +95,13 @@ read_buffer : (w : Window) (op : ℕ) (rest : List ℕ) → op ≡ 0x11 → elem
 unfolding element_at
 read_buffer w op rest e = rw (ne_eqb op 0x12 (λ h. omega arith), eq-eqb op 0x11 e) refl
 
-read_int : (w : Window) (op : ℕ) (rest : List ℕ) → (op ≡ 0x11 → ⊥) → (op ≡ 0x12 → ⊥) → element_at w (op ∷ rest) ≡ (int_at w (op ∷ rest) >>= λ i. Ok (element.Int i.0, i.1))
+read_int : (w : Window) (op : ℕ) (rest : List ℕ) → (op ≡ 0x11 → ⊥) → (op ≡ 0x12 → ⊥)
+    → element_at w (op ∷ rest) ≡ (int_at w (op ∷ rest) >>= λ i. Ok (element.Int i.0, i.1))
 unfolding element_at
 read_int w op rest a b = rw (ne_eqb op 0x12 b, ne_eqb op 0x11 a) refl
 
-takes_by : (w : Window) (op : ℕ) (rest : List ℕ) (x : Element × List ℕ) → IsBytes (op ∷ rest) → Kind op → element_at w (op ∷ rest) ≡ Ok x → Takes (op ∷ rest) (element_bytes x.0) x.1 × IsElement x.0
+takes_by : (w : Window) (op : ℕ) (rest : List ℕ) (x : Element × List ℕ) → IsBytes (op ∷ rest) → Kind op → element_at w (op ∷ rest) ≡ Ok x
+    → Takes (op ∷ rest) (element_bytes x.0) x.1 × IsElement x.0
 takes_by w op rest x fits (IsPackage k) e = ok_err x (fault_at w (op ∷ rest) TooDeep) (sym e ∙ read_deep w op rest k)
 takes_by w op rest x fits (IsBuf k) e =
     let v = bind_ok (buffer_at w rest) (λ b. Ok (element.Buffer b.0, b.1)) x (sym (read_buffer w op rest k) ∙ e) in
@@ -166,7 +169,8 @@ element_wrong w b d (InInt op rest f x y h) = read_int w op rest x y ∙ fails (
 
 -- ---- elements one after the other
 
-pub elements_take : (n : ℕ) (w : Window) (b : List ℕ) (es : List Element) → IsBytes b → elements_at n w b ≡ Ok es → (b ≡ flat_map element_bytes es) × (length es ≡ n) × AllByRecursion IsElement es
+pub elements_take : (n : ℕ) (w : Window) (b : List ℕ) (es : List Element) → IsBytes b → elements_at n w b ≡ Ok es
+    → (b ≡ flat_map element_bytes es) × (length es ≡ n) × AllByRecursion IsElement es
 unfolding elements_at
 elements_take zero w b es fits e =
     elim (chosen (eqb (length b) 0) (Ok []) (Err (fault_at w b BadLength)) (Ok es) e) [
@@ -228,7 +232,8 @@ elements_wrong n w b d (Over es left h all e some is) =
     let wrong : elements_at 0 (behind w (length es)) left ≡ Err (fault_at (behind w (length es)) left BadLength) = rw (ne_eqb (length left) 0 (λ z. omega arith)) refl in
     ap (elements_at n w) e ∙ elements_front es n 0 w left h (omega arith) ∙ ap (with_front es) wrong ∙ ap (λ (g : AmlFault). Err g) (sym is)
 
-shift : (n : ℕ) (w : Window) (b after : List ℕ) (x : Element) (d : AmlFault) → IsElement x → b ≡ element_bytes x ++ after → ElementsWrong (behind w 1) n after d → ElementsWrong w (suc n) b d
+shift : (n : ℕ) (w : Window) (b after : List ℕ) (x : Element) (d : AmlFault) → IsElement x → b ≡ element_bytes x ++ after
+    → ElementsWrong (behind w 1) n after d → ElementsWrong w (suc n) b d
 shift n w b after x d is parts (At es left h few e bad) =
     let whole : b ≡ flat_map element_bytes (x ∷ es) ++ left = parts ∙ ap (λ (y : List ℕ). element_bytes x ++ y) e ∙ sym (append_assoc (element_bytes x) (flat_map element_bytes es) left) ∙ ap (λ (y : List ℕ). y ++ left) (sym (flat_map-cons element_bytes x es)) in
     At (x ∷ es) left (is, h) (omega arith) whole (subst (λ (v : Window). ElementWrong v left d) (behind_more w (length es)) bad)

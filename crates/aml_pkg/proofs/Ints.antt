@@ -120,7 +120,8 @@ int_takes w (op ∷ rest) x fits e =
     ]
 
 -- the number that was written behind the op of a form
-again : (f : Form) (w : Window) (v : ℕ) (b rest : List ℕ) → HasForm f v → int_of (Some f) w b (little_bytes (size_of f) v ++ rest) ≡ Ok (record { value = v; form = f }, rest)
+again : (f : Form) (w : Window) (v : ℕ) (b rest : List ℕ) → HasForm f v
+    → int_of (Some f) w b (little_bytes (size_of f) v ++ rest) ≡ Ok (record { value = v; form = f }, rest)
 again Zero w v b rest h = rw (le-ltb (length rest) 0 (omega arith), h) refl
 again One w v b rest h = rw (le-ltb (length rest) 0 (omega arith), h) refl
 again Ones w v b rest h = rw (le-ltb (length rest) 0 (omega arith), h) refl

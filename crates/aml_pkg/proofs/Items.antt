@@ -21,7 +21,8 @@ use Rattle.aml_pkg.proofs.Elements.{element_takes, element_again, element_err, e
 
 -- ---- the body of a package
 
-body_takes : (w : Window) (b : List ℕ) (es : List Element) → IsBytes b → body_at w b ≡ Ok es → (b ≡ package_body es) × (length es < 256) × AllByRecursion IsElement es
+body_takes : (w : Window) (b : List ℕ) (es : List Element) → IsBytes b → body_at w b ≡ Ok es
+    → (b ≡ package_body es) × (length es < 256) × AllByRecursion IsElement es
 unfolding body_at
 body_takes w [] es fits e = ok_err es (ended w) (sym e)
 body_takes w (n ∷ rest) es fits e =
@@ -51,7 +52,8 @@ package_takes w b x fits e =
     subst (λ (y : Item × List ℕ). Takes (0x12 ∷ b) (item_bytes y.0) y.1 × IsItem y.0) (ok_is made x s.2)
     (record { parts = parts; fits = f.fits }, record { few = t.1; counts = subst (λ (y : List ℕ). Counts l.0.0 y) t.0 f.counts; each = t.2 })
 
-package_again : (w : Window) (l : Len) (es : List Element) (rest : List ℕ) → IsPackage l es → package_at w (len_bytes l ++ (package_body es ++ rest)) ≡ Ok (item.Package l es, rest)
+package_again : (w : Window) (l : Len) (es : List Element) (rest : List ℕ) → IsPackage l es
+    → package_at w (len_bytes l ++ (package_body es ++ rest)) ≡ Ok (item.Package l es, rest)
 unfolding package_at
 package_again w l es rest h =
     let b : List ℕ = len_bytes l ++ (package_body es ++ rest) in
@@ -78,7 +80,8 @@ package_err w b d fits e =
           ]
     ]
 
-body_fails : (w : Window) (l : Len) (b body rest : List ℕ) (d : AmlFault) → Counts l body → b ≡ len_bytes l ++ (body ++ rest) → body_at (inner w b l.value) body ≡ Err d → package_at w b ≡ Err d
+body_fails : (w : Window) (l : Len) (b body rest : List ℕ) (d : AmlFault) → Counts l body → b ≡ len_bytes l ++ (body ++ rest)
+    → body_at (inner w b l.value) body ≡ Err d → package_at w b ≡ Err d
 unfolding package_at
 body_fails w l b body rest d counts e bad =
     let read : len_at w b ≡ Ok (l, body ++ rest) = ap (len_at w) e ∙ frame_again w l body rest counts in

@@ -47,7 +47,8 @@ pub used_wrong : (b : List ℕ) (d : AmlFault) → ItemWrong b d → used_at b �
 unfolding used_at
 used_wrong b d h = fails (item_at b) _ _ (item_wrong b d h)
 
-pub is_found : (b : List ℕ) (r : Result (Item × ℕ) ReadError) → IsBytes b → Gives (λ x. x) r (used_at b) → IfOk r (λ x. (x.1 ≤ length b) × AmlBytes (take x.1 b) x.0)
+pub is_found : (b : List ℕ) (r : Result (Item × ℕ) ReadError) → IsBytes b → Gives (λ x. x) r (used_at b)
+    → IfOk r (λ x. (x.1 ≤ length b) × AmlBytes (take x.1 b) x.0)
 is_found b (Ok x) fits e = let f = used_found b x fits e in (f.within, f.spelled)
 is_found b (Err e) fits h = tt
 

@@ -18,7 +18,7 @@ use Rattle.aml_pkg.proofs.Steps.{bind_ok, bind_err, fails, chosen, ok_is, err_is
 
 -- ---- arithmetic of the lead
 
-spell_more : (f v : ℕ) → 0 < f → len_spelling f v ≡ (64 * f + v % 16) ∷ little_bytes f (v / 16)
+pub spell_more : (f v : ℕ) → 0 < f → len_spelling f v ≡ (64 * f + v % 16) ∷ little_bytes f (v / 16)
 spell_more zero v h = absurd (omega arith)
 spell_more (suc f) v h = refl
 
@@ -35,7 +35,7 @@ high_is lead n = omega arith
 below_limit : (low n p : ℕ) → low < 16 → n < p → low + 16 * n < 16 * p
 below_limit low n p a b = omega arith
 
-high_below : (v p : ℕ) → v < 16 * p → v / 16 < p
+pub high_below : (v p : ℕ) → v < 16 * p → v / 16 < p
 high_below v p h = omega arith
 
 lead_follow : (f v : ℕ) → (64 * f + v % 16) / 64 ≡ f
@@ -78,7 +78,8 @@ read_long : (w : Window) (lead f : ℕ) (rest : List ℕ) → lead / 64 ≡ f �
 unfolding spelled_len_at
 read_long w lead f rest e some clear = rw (nonzero f (lead / 64) e some, eq-eqb (lead / 16 % 4) 0 clear, e) refl
 
-read_lead : (w : Window) (lead : ℕ) (rest : List ℕ) → 0 < lead / 64 → (lead / 16 % 4 ≡ 0 → ⊥) → spelled_len_at w (lead ∷ rest) ≡ Err (fault_at w (lead ∷ rest) BadLead)
+read_lead : (w : Window) (lead : ℕ) (rest : List ℕ) → 0 < lead / 64 → (lead / 16 % 4 ≡ 0 → ⊥)
+    → spelled_len_at w (lead ∷ rest) ≡ Err (fault_at w (lead ∷ rest) BadLead)
 unfolding spelled_len_at
 read_lead w lead rest some clear = rw (nonzero (lead / 64) (lead / 64) refl some, ne_eqb (lead / 16 % 4) 0 clear) refl
 
@@ -98,7 +99,8 @@ case_of lead = case_by lead (eqb (lead / 64) 0) (eqb (lead / 16 % 4) 0) refl ref
 
 -- ---- a length, whatever its value
 
-takes_by : (w : Window) (lead : ℕ) (rest : List ℕ) (x : Len × List ℕ) → IsBytes (lead ∷ rest) → Case lead → spelled_len_at w (lead ∷ rest) ≡ Ok x → Takes (lead ∷ rest) (len_bytes x.0) x.1 × IsLen x.0
+takes_by : (w : Window) (lead : ℕ) (rest : List ℕ) (x : Len × List ℕ) → IsBytes (lead ∷ rest) → Case lead → spelled_len_at w (lead ∷ rest) ≡ Ok x
+    → Takes (lead ∷ rest) (len_bytes x.0) x.1 × IsLen x.0
 takes_by w lead rest x fits (IsShort s) e =
     let made : Len × List ℕ = (record { value = lead; follow = 0 }, rest) in
     subst (λ (y : Len × List ℕ). Takes (lead ∷ rest) (len_bytes y.0) y.1 × IsLen y.0) (ok_is made x (sym (read_short w lead rest s) ∙ e))
@@ -129,7 +131,8 @@ again_by w (suc f) v rest h =
 spelled_again : (w : Window) (l : Len) (rest : List ℕ) → IsLen l → spelled_len_at w (len_bytes l ++ rest) ≡ Ok (l, rest)
 spelled_again w l rest h = again_by w l.follow l.value rest h.fits
 
-err_by : (w : Window) (lead : ℕ) (rest : List ℕ) (d : AmlFault) → IsBytes (lead ∷ rest) → Case lead → spelled_len_at w (lead ∷ rest) ≡ Err d → LenWrong w (lead ∷ rest) d
+err_by : (w : Window) (lead : ℕ) (rest : List ℕ) (d : AmlFault) → IsBytes (lead ∷ rest) → Case lead → spelled_len_at w (lead ∷ rest) ≡ Err d
+    → LenWrong w (lead ∷ rest) d
 err_by w lead rest d fits (IsShort s) e = ok_err (record { value = lead; follow = 0 }, rest) d (sym (read_short w lead rest s) ∙ e)
 err_by w lead rest d fits (IsLong s c) e =
     elim (bind_err (number_at (lead / 64) w rest) (λ n. Ok (record { value = lead % 16 + 16 * n.0; follow = lead / 64 }, n.1)) d (sym (read_long w lead (lead / 64) rest refl s c) ∙ e)) [
@@ -182,7 +185,8 @@ len_takes w b x fits e =
       ]
     ]
 
-pub len_again : (w : Window) (l : Len) (rest : List ℕ) → IsLen l → 1 + l.follow ≤ l.value → l.value ≤ length (len_bytes l ++ rest) → len_at w (len_bytes l ++ rest) ≡ Ok (l, rest)
+pub len_again : (w : Window) (l : Len) (rest : List ℕ) → IsLen l → 1 + l.follow ≤ l.value → l.value ≤ length (len_bytes l ++ rest)
+    → len_at w (len_bytes l ++ rest) ≡ Ok (l, rest)
 unfolding len_at
 len_again w l rest h own within =
     ap (λ (r : Result (Len × List ℕ) AmlFault). r >>= (λ l'. checked w (len_bytes l ++ rest) l'.0 l'.1)) (spelled_again w l rest h)

@@ -9,7 +9,7 @@ use Rattle.aml_pkg.specs.declared.window.Window.{Window}
 use Rattle.aml_pkg.specs.Windows.{ended}
 use Rattle.aml_pkg.specs.Reading.{◌>>=◌, number_at}
 use Rattle.pcc_bytes.specs.Bytes.{IsBytes}
-use Rattle.pcc_bytes.proofs.Bytes.{IsBytes-tail, IsBytes-drop}
+use Rattle.pcc_bytes.proofs.Bytes.{IsBytes-append, IsBytes-cons, IsBytes-drop, IsBytes-nil}
 use Rattle.pcc_bytes.proofs.Numbers.{little_bytes-little_number}
 
 -- the number of three bytes at most
@@ -20,26 +20,14 @@ number_small (suc (suc zero)) bytes all le = omega (arith, all.fits 0, all.fits 
 number_small (suc (suc (suc zero))) bytes all le = omega (arith, all.fits 0, all.fits 1, all.fits 2)
 number_small (suc (suc (suc (suc n)))) bytes all le = absurd (omega arith)
 
-append_fits : (xs ys : List ℕ) → IsBytes xs → IsBytes ys → (place : ℕ) → slice_index (xs ++ ys) place < 256
-append_fits [] ys hx hy place = hy.fits place
-append_fits (x ∷ xs) ys hx hy zero = hx.fits 0
-append_fits (x ∷ xs) ys hx hy (suc place) = append_fits xs ys (IsBytes-tail x xs hx) hy place
-
-IsBytes-append : (xs ys : List ℕ) → IsBytes xs → IsBytes ys → IsBytes (xs ++ ys)
-IsBytes-append xs ys hx hy = record { fits = append_fits xs ys hx hy }
-
--- so many zeros
+-- n zeros
 abbrev zeros : ℕ → List ℕ
 zeros zero = []
 zeros (suc n) = 0 ∷ zeros n
 
-zeros_fit : (n place : ℕ) → slice_index (zeros n) place < 256
-zeros_fit zero place = omega arith
-zeros_fit (suc n) zero = omega arith
-zeros_fit (suc n) (suc place) = zeros_fit n place
-
 IsBytes-zeros : (n : ℕ) → IsBytes (zeros n)
-IsBytes-zeros n = record { fits = zeros_fit n }
+IsBytes-zeros zero = IsBytes-nil
+IsBytes-zeros (suc n) = IsBytes-cons 0 (zeros n) (omega arith) (IsBytes-zeros n)
 
 length-zeros : (n : ℕ) → length (zeros n) ≡ n
 length-zeros zero = refl
@@ -50,7 +38,8 @@ pub bind_ok : {A B : Type 0} (r : Result A AmlFault) (f : A → Result B AmlFaul
 bind_ok (Ok x) f y e = (x, refl, e)
 bind_ok (Err d) f y e = absurd cc
 
-pub bind_err : {A B : Type 0} (r : Result A AmlFault) (f : A → Result B AmlFault) (d : AmlFault) → (r >>= f) ≡ Err d → (r ≡ Err d) ⊎ ((x : A) × (r ≡ Ok x) × (f x ≡ Err d))
+pub bind_err : {A B : Type 0} (r : Result A AmlFault) (f : A → Result B AmlFault) (d : AmlFault) → (r >>= f) ≡ Err d
+    → (r ≡ Err d) ⊎ ((x : A) × (r ≡ Ok x) × (f x ≡ Err d))
 bind_err (Ok x) f d e = inr (x, refl, e)
 bind_err (Err c) f d e = inl cc
 

@@ -9,7 +9,7 @@ use Rattle.aml_pkg.specs.declared.item.Len.{Len}
 use Rattle.aml_pkg.specs.Spelling.{size_of, HasForm, int_bytes, buffer_body, IsBuffer, len_bytes, len_limit, len_spelling, IsLen}
 use Rattle.aml_pkg.specs.declared.item.Int.{Int}
 use Rattle.aml_pkg.specs.declared.item.Buffer.{Buffer}
-use Rattle.aml_pkg.proofs.Lens.{length-len_bytes}
+use Rattle.aml_pkg.proofs.Lens.{high_below, length-len_bytes}
 
 pub front_of_buffer : (n v : ℕ) (rest : List ℕ) → take n (little_bytes n v ++ rest) ≡ little_bytes n v
 front_of_buffer n v rest = take_at (little_bytes n v) rest n (length-bytes_low_first 0 n v)
@@ -30,25 +30,19 @@ no_bytes (suc n) v e = absurd (omega arith)
 pub op_then : (out bytes : List ℕ) (op : ℕ) → (out ++ op ∷ []) ++ bytes ≡ out ++ op ∷ bytes
 op_then out bytes op = append_assoc out (op ∷ []) bytes
 
-high : (v p : ℕ) → v < 16 * p → v / 16 < p
-high v p h = omega arith
-
 pub len_high : (f v : ℕ) → 0 < f → v < len_limit f → v / 16 < 256 ^ f
 len_high zero v some h = absurd (omega arith)
-len_high (suc f) v some h = high v (256 ^ suc f) h
+len_high (suc f) v some h = high_below v (256 ^ suc f) h
 
 pub len_one : (f v : ℕ) → f ≡ 0 → len_spelling f v ≡ v ∷ []
 len_one zero v e = refl
 len_one (suc f) v e = absurd (omega arith)
 
-pub len_more : (f v : ℕ) → 0 < f → len_spelling f v ≡ (64 * f + v % 16) ∷ little_bytes f (v / 16)
-len_more zero v h = absurd (omega arith)
-len_more (suc f) v h = refl
-
 pub package_written : (a b : List ℕ) → ([] ++ 0x12 ∷ []) ++ a ++ b ≡ 0x12 ∷ a ++ b
 package_written a b = refl
 
-limit_three : (f v : ℕ) → f ≤ 3 → v < len_limit f → v < 2 ^ 31
+-- the greatest length with at most three more bytes
+pub limit_three : (f v : ℕ) → f ≤ 3 → v < len_limit f → v < 2 ^ 31
 limit_three zero v few h = omega arith
 limit_three (suc zero) v few h = omega arith
 limit_three (suc (suc zero)) v few h = omega arith

@@ -1,6 +1,7 @@
--- Reading from left to right, as the code goes: a value and the bytes behind it, or the first fault. Contracts inside the crate cite
+-- Reading from left to right, as the code goes: a value and the bytes after it, or the first fault. Contracts inside the crate cite
 -- it; what its public calls promise is said by the spellings and by what is wrong.
-use Rattle.std.specs.Prelude.{◌≡◌, ℕ, zero, suc, ◌+◌, ◌-◌, ◌*◌, ◌/◌, ◌%◌, List, [], ◌∷◌, length, take, drop, Option, Some, None, Result, Ok, Err, nat_lt, ◌==◌, if◌then◌else◌}
+use Rattle.std.specs.Prelude.{◌≡◌, ℕ, zero, suc, ◌+◌, ◌-◌, ◌*◌, ◌/◌, ◌%◌, List, [], ◌∷◌, length, take, drop, Option, Some, None, Result, Ok, Err}
+use Rattle.std.specs.Prelude.{nat_lt, ◌==◌, if◌then◌else◌}
 use Rattle.byteorder.specs.Endian.{little_number}
 use Rattle.aml_pkg.specs.declared.item.Form.{Form}
 use Rattle.aml_pkg.specs.declared.item.Form.TheVariants.{Zero, One, Ones, Byte, Word, Dword, Qword}
@@ -33,7 +34,7 @@ abbrev pub Gives : {X Y : Type 0} → (X → Y) → Result X ReadError → Resul
 Gives view (Ok x) read = read ≡ Ok (view x)
 Gives view (Err e) read = Fails e read
 
--- a value and the bytes behind it
+-- a value and the bytes after it
 abbrev pub Step : Type 0 → Type 0
 Step X = Result (X × List ℕ) AmlFault
 
@@ -76,7 +77,10 @@ spelled_len_at w (lead ∷ rest) =
 
 -- a length that has its own bytes at least, and doesn't point past the end
 abbrev pub checked : Window → List ℕ → Len → List ℕ → Step Len
-checked w bytes len rest = if nat_lt len.value (1 + len.follow) then Err (fault_at w bytes BadLength) else if nat_lt (length bytes) len.value then Err (ended w) else Ok (len, rest)
+checked w bytes len rest =
+    if nat_lt len.value (1 + len.follow) then Err (fault_at w bytes BadLength)
+    else if nat_lt (length bytes) len.value then Err (ended w)
+    else Ok (len, rest)
 
 unfoldable pub len_at : Window → List ℕ → Step Len
 len_at w bytes = do
@@ -104,7 +108,7 @@ element_at w (op ∷ rest) =
       int ← int_at w (op ∷ rest)
       Ok (element.Int int.0, int.1))
 
--- so many elements, and no byte behind them
+-- n elements, and no byte after them
 unfoldable pub elements_at : ℕ → Window → List ℕ → Result (List Element) AmlFault
 elements_at zero w bytes = if length bytes == 0 then Ok [] else Err (fault_at w bytes BadLength)
 elements_at (suc n) w bytes = do

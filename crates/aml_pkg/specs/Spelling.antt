@@ -58,7 +58,7 @@ len_spelling (suc f) value = (64 * suc f + value % 16) ∷ little_bytes (suc f) 
 abbrev pub len_bytes : Len → List ℕ
 len_bytes len = len_spelling len.follow len.value
 
--- what is above each length with so many bytes that follow
+-- what is above each length with n bytes that follow
 abbrev pub len_limit : ℕ → ℕ
 len_limit zero = 64
 len_limit (suc f) = 16 * 256 ^ suc f

@@ -18,10 +18,10 @@ ended w = record { at = w.end; kind = w.past; whole = w.whole }
 abbrev pub fault_at : Window → List ℕ → AmlKind → AmlFault
 fault_at w left kind = record { at = w.end - length left; kind = kind; whole = w.whole }
 
--- the end of a buffer or a package that has so many of the bytes that are left
+-- the end of a buffer or a package that has n of the bytes that are left
 abbrev pub inner : Window → List ℕ → ℕ → Window
 inner w left len = record { end = w.end - length left + len; past = BadLength; whole = w.whole }
 
--- the same end behind so many whole elements more
+-- the same end after n whole elements more
 abbrev pub behind : Window → ℕ → Window
 behind w more = record { end = w.end; past = w.past; whole = w.whole + more }

@@ -8,7 +8,7 @@ use std::alloc::{AllocError, AllocFailed};
 /// What is wrong. Bytes are tested from left to right, and the place is that of the first byte that fails, or the end that is passed.
 #[derive(Clone, Copy, Debug, PartialEq, Eq)]
 pub enum AmlKind {
-    /// The bytes end before one that is wanted, or before the end that a length tells.
+    /// The bytes end before one that is wanted, or before the end that a length states.
     Short,
     /// The first byte of a length with bytes that follow it has bit 4 or 5 set (ACPI 6.5, 20.2.4).
     BadLead,
@@ -17,7 +17,7 @@ pub enum AmlKind {
     BadLength,
     /// The byte begins no integer, buffer or package.
     UnknownOp,
-    /// A package stands in a package.
+    /// A package is in a package.
     TooDeep,
 }
 

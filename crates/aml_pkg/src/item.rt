@@ -13,13 +13,13 @@ pub enum Form {
     One,
     /// 2^64 - 1, by the byte `ff`.
     Ones,
-    /// A number of 8 bits behind the byte `0a`.
+    /// A number of 8 bits after the byte `0a`.
     Byte,
-    /// A number of 16 bits behind the byte `0b`, its lowest byte first.
+    /// A number of 16 bits after the byte `0b`, its lowest byte first.
     Word,
-    /// A number of 32 bits behind the byte `0c`, its lowest byte first.
+    /// A number of 32 bits after the byte `0c`, its lowest byte first.
     Dword,
-    /// A number of 64 bits behind the byte `0e`, its lowest byte first.
+    /// A number of 64 bits after the byte `0e`, its lowest byte first.
     Qword,
 }
 
@@ -75,13 +75,13 @@ pub struct Len {
 #[derive(Debug, Drop)]
 pub struct Buffer {
     pub len: Len,
-    /// The size that it tells, which need not be the number of its bytes.
+    /// The size that it states, which need not be the number of its bytes.
     pub size: Int,
-    /// The bytes behind the size, up to the end that the length tells.
+    /// The bytes after the size, up to the end that the length states.
     pub bytes: Bytes,
 }
 
-/// What stands in a package, or alone.
+/// What is in a package, or alone.
 #[derive(Debug, Drop)]
 pub enum Element {
     Int(Int),

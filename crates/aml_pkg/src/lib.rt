@@ -1,6 +1,6 @@
 //! Items of AML (ACPI 6.5, 20.2): integers, buffers, and packages of both, with their spelling. Bytes are read as the item that they
 //! begin with, or as the first thing that is wrong in them, and an item is written as the bytes that spell it.
-//! Packages of performance control (`_CPC`) stand on it.
+//! Packages of performance control (`_CPC`) are read and written with it.
 #![tactic(auto)]
 
 mod fault;

@@ -7,7 +7,7 @@ use crate::item::{Form, Int, Len};
 use crate::window::Window;
 use byteorder::{ByteOrder, LittleEndian};
 
-/// The number that so many bytes spell, its lowest byte first, and the bytes behind it.
+/// The number that n bytes spell, its lowest byte first, and the bytes after it.
 #[tactic(auto, using(crate::proofs::Steps::number_small))]
 fn number_of(n: usize, window: Window, bytes: &[u8]) -> Result<(u64, &[u8]), ReadError>
     requires { n ≤ 8 }
@@ -40,7 +40,7 @@ fn form_of(op: u8) -> Option<Form>
     }
 }
 
-/// The value of an integer of this form with this number behind its first byte.
+/// The value of an integer of this form with this number after its first byte.
 fn value_of(form: Form, number: u64) -> u64
     ensures { result ≡ value_of form number }
 {
@@ -52,7 +52,7 @@ fn value_of(form: Form, number: u64) -> u64
     }
 }
 
-/// The integer that stands first, and the bytes behind it.
+/// The integer at the front, and the bytes after it.
 #[tactic(auto, unfolding(crate::specs::Reading::int_at))]
 pub(crate) fn int_of(window: Window, bytes: &[u8]) -> Result<(Int, &[u8]), ReadError>
     requires { length bytes.now ≤ window.end }
@@ -73,7 +73,7 @@ pub(crate) fn int_of(window: Window, bytes: &[u8]) -> Result<(Int, &[u8]), ReadE
     Ok((int, rest))
 }
 
-/// The length that stands first, whatever its value.
+/// The length at the front, whatever its value.
 #[tactic(auto, unfolding(crate::specs::Reading::spelled_len_at))]
 fn spelled_len(window: Window, bytes: &[u8]) -> Result<(Len, &[u8]), ReadError>
     requires { length bytes.now ≤ window.end }
@@ -104,7 +104,7 @@ fn spelled_len(window: Window, bytes: &[u8]) -> Result<(Len, &[u8]), ReadError>
     Ok((len, rest))
 }
 
-/// The length that stands first, and the bytes behind it. It counts its own bytes at least, and the end that it tells isn't passed.
+/// The length at the front, and the bytes after it. It counts its own bytes at least, and the end that it states isn't passed.
 #[tactic(auto, unfolding(crate::specs::Reading::len_at))]
 pub(crate) fn len_of(window: Window, bytes: &[u8]) -> Result<(Len, &[u8]), ReadError>
     requires { length bytes.now ≤ window.end }
@@ -123,7 +123,7 @@ pub(crate) fn len_of(window: Window, bytes: &[u8]) -> Result<(Len, &[u8]), ReadE
     Ok((len, rest))
 }
 
-/// How many bytes a length leaves behind its own.
+/// How many bytes a length leaves after its own.
 pub(crate) fn body_len(len: Len) -> usize
     requires { 1 + len.follow ≤ len.value }
     ensures { result ≡ body_len len }

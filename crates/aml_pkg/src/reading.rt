@@ -23,7 +23,7 @@ pub(crate) const BUFFER: u8 = 0x11;
 /// The byte that begins a package (ACPI 6.5, 20.2.5.4).
 pub(crate) const PACKAGE: u8 = 0x12;
 
-/// The buffer behind its first byte, and the bytes behind it.
+/// The buffer after its first byte, and the bytes after it.
 #[tactic(auto, unfolding(crate::specs::Reading::buffer_at))]
 fn buffer_of(alloc: Global, window: Window, bytes: &[u8]) -> Result<(Buffer, &[u8]), ReadError>
     requires { length bytes.now ≤ window.end }
@@ -37,7 +37,7 @@ fn buffer_of(alloc: Global, window: Window, bytes: &[u8]) -> Result<(Buffer, &[u
     Ok((Buffer { len, size, bytes }, rest))
 }
 
-/// The element that stands first, and the bytes behind it.
+/// The element at the front, and the bytes after it.
 #[tactic(auto, unfolding(crate::specs::Reading::element_at))]
 fn element_of(alloc: Global, window: Window, bytes: &[u8]) -> Result<(Element, &[u8]), ReadError>
     requires { length bytes.now ≤ window.end }
@@ -80,7 +80,7 @@ fn elements_of(alloc: Global, count: u8, window: Window, bytes: &[u8]) -> Result
     }
 }
 
-/// The elements of a package's body, behind their number.
+/// The elements of a package's body, after their number.
 #[tactic(auto, unfolding(crate::specs::Reading::body_at))]
 fn body_of(alloc: Global, window: Window, bytes: &[u8]) -> Result<Items, ReadError>
     requires from { length bytes.now ≤ window.end }
@@ -93,7 +93,7 @@ fn body_of(alloc: Global, window: Window, bytes: &[u8]) -> Result<Items, ReadErr
     elements_of(alloc, *count, window, rest)
 }
 
-/// The package behind its first byte, and the bytes behind it.
+/// The package after its first byte, and the bytes after it.
 #[tactic(auto, unfolding(crate::specs::Reading::package_at))]
 fn package_of(alloc: Global, window: Window, bytes: &[u8]) -> Result<(Item, &[u8]), ReadError>
     requires from { length bytes.now ≤ window.end }
@@ -107,7 +107,7 @@ fn package_of(alloc: Global, window: Window, bytes: &[u8]) -> Result<(Item, &[u8
     Ok((Item::Package { len, items }, rest))
 }
 
-/// The integer or buffer that stands first, and the bytes behind it.
+/// The integer or buffer at the front, and the bytes after it.
 fn lone_of(alloc: Global, window: Window, bytes: &[u8]) -> Result<(Item, &[u8]), ReadError>
     requires { length bytes.now ≤ window.end }
     ensures gives { Gives (λ x. (x.0, x.1.now)) result (lone_at window bytes.now) }
@@ -117,7 +117,7 @@ fn lone_of(alloc: Global, window: Window, bytes: &[u8]) -> Result<(Item, &[u8]),
     Ok((Item::Element(element), rest))
 }
 
-/// The item that the bytes begin with, and the bytes behind it.
+/// The item that the bytes begin with, and the bytes after it.
 #[tactic(auto, unfolding(crate::specs::Reading::item_at))]
 fn item_of(alloc: Global, bytes: &[u8]) -> Result<(Item, &[u8]), ReadError>
     requires { length bytes.now < 2 ^ 32 }
@@ -148,7 +148,7 @@ fn used_of(alloc: Global, bytes: &[u8]) -> Result<(Item, usize), ReadError>
     Ok((item, bytes.len() - rest.len()))
 }
 
-/// The item with which the bytes begin, and how many bytes it has. The bytes behind it are not looked at. A fault tells how many
+/// The item with which the bytes begin, and how many bytes it has. The bytes after it are not looked at. A fault reports how many
 /// elements are whole before it.
 pub fn read_item(alloc: Global, bytes: &[u8]) -> Result<(Item, usize), ReadError>
     requires { length bytes.now < 2 ^ 32 }
@@ -157,14 +157,14 @@ pub fn read_item(alloc: Global, bytes: &[u8]) -> Result<(Item, usize), ReadError
     // What the bytes begin with is read, unless memory runs out.
     ensures only { (i : Item) (front rest : List ℕ) → AmlBytes front i → bytes.now ≡ front ++ rest
         → MatchResult result (λ x. (x.0 ≡ i) × (x.1 ≡ length front)) (λ e. e ≡ errors.NoMemory) }
-    // What is told is wrong, and what is wrong is told, unless memory runs out.
+    // What is reported is wrong, and what is wrong is reported, unless memory runs out.
     ensures wrong { IfErr result (λ e. OnFault e (ItemWrong bytes.now)) }
     ensures exact { (fault : AmlFault) → ItemWrong bytes.now fault → MatchResult result (λ _. ⊥) (λ e. OnFault e (λ f. f ≡ fault)) }
 {
     used_of(alloc, bytes)
 }
 
-/// The item with which the bytes begin (ACPI 6.5, 20.2), and how many bytes it has. The bytes behind it are not looked at.
+/// The item with which the bytes begin (ACPI 6.5, 20.2), and how many bytes it has. The bytes after it are not looked at.
 pub fn item_from(alloc: Global, bytes: &[u8]) -> Result<(Item, usize), AmlError>
     requires { length bytes.now < 2 ^ 32 }
     // An item is one that the first bytes spell.
@@ -172,7 +172,7 @@ pub fn item_from(alloc: Global, bytes: &[u8]) -> Result<(Item, usize), AmlError>
     // What the bytes begin with is read, unless memory runs out.
     ensures only { (i : Item) (front rest : List ℕ) → AmlBytes front i → bytes.now ≡ front ++ rest
         → MatchResult result (λ x. (x.0 ≡ i) × (x.1 ≡ length front)) (λ e. e ≡ answers.NoMemory) }
-    // What is told is wrong, and what is wrong is told, unless memory runs out.
+    // What is reported is wrong, and what is wrong is reported, unless memory runs out.
     ensures wrong { IfErr result (λ e. IsTold bytes.now e) }
     ensures exact { (fault : AmlFault) → ItemWrong bytes.now fault → MatchResult result (λ _. ⊥) (λ e. Tells e fault) }
 {

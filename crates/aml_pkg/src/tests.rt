@@ -1,10 +1,10 @@
-//! Worked items and what is told of wrong ones.
+//! Worked items and what is reported of wrong ones.
 use super::*;
 use pcc_io::NoMemory;
 use std::alloc::{AllocError, Global};
 use std::test::Fail;
 
-// What is told of the bytes, fifty at most.
+// What is reported of the bytes, fifty at most.
 fn told(alloc: Global, bytes: &[u8]) -> Option<(u32, AmlKind)> {
     if bytes.len() > 50 {
         return None;

@@ -5,13 +5,13 @@ ghost use Rattle.aml_pkg.specs.declared.fault.ReadError.TheVariants as errors;
 
 use crate::fault::{AmlFault, AmlKind, ReadError};
 
-/// The end of what is being read. A byte that is wanted past it is told at the end, in one way for the end of all bytes and in
+/// The end of what is being read. A byte that is wanted past it is reported at the end, in one way for the end of all bytes and in
 /// another for that of a buffer or a package.
 #[derive(Clone, Copy)]
 pub struct Window {
     /// The place of the end.
     pub end: u32,
-    /// What a byte is told as that is wanted past the end.
+    /// What a byte is reported as that is wanted past the end.
     pub past: AmlKind,
     /// How many elements are whole.
     pub whole: u8,
@@ -41,7 +41,7 @@ impl Window {
         })
     }
 
-    /// Of a buffer or a package that has so many of the bytes that are left.
+    /// Of a buffer or a package that has n of the bytes that are left.
     pub fn inner(self, left: &[u8], len: u32) -> Window
         requires from { length left.now ≤ self.end }
         requires within { len ≤ length left.now }

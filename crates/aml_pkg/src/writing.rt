@@ -1,4 +1,4 @@
-//! Writing items. Where memory runs out a part of one may have been put.
+//! Writing items. If memory runs out a part of one may have been put.
 ghost use Rattle.std.specs.Prelude.{◌≡◌, ◌≤◌, ◌<◌, ◌^◌, ◌++◌, length, OnOk, IfOk};
 ghost use Rattle.std.specs.List.{AllByRecursion};
 ghost use Rattle.byteorder.specs.Endian.{little_bytes};
@@ -10,7 +10,7 @@ use byteorder::{ByteOrder, LittleEndian};
 use pcc_io::NoMemory;
 use std::alloc::Global;
 
-/// Puts a number at the end, in so many bytes, its lowest byte first.
+/// Puts a number at the end, in n bytes, its lowest byte first.
 #[tactic(auto, using(crate::proofs::Written::front_of_buffer))]
 fn put_number(out: &mut Vec<u8>, n: usize, number: u64) -> Result<(), NoMemory>
     requires some { 1 ≤ n }
@@ -37,7 +37,7 @@ fn put_int(out: &mut Vec<u8>, int: &Int) -> Result<(), NoMemory>
     put_number(out, n, int.value)
 }
 
-#[tactic(auto, using(crate::proofs::Written::len_high, crate::proofs::Written::len_one, crate::proofs::Written::len_more))]
+#[tactic(auto, using(crate::proofs::Written::len_high, crate::proofs::Written::len_one, crate::proofs::Lens::spell_more))]
 fn put_len(out: &mut Vec<u8>, len: &Len) -> Result<(), NoMemory>
     requires { IsLen len.now }
     ensures { OnOk result (out.new.items ≡ out.old.items ++ len_bytes len.now) }

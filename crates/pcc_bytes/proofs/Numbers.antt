@@ -1,11 +1,19 @@
--- A number's bytes are those that it was read from.
+-- The bytes of numbers, and that a number's bytes are those that it was read from.
 use Rattle.std.proofs.Common.{◌≡◌, ℕ, zero, suc, ◌+◌, ◌*◌, ◌/◌, ◌%◌, ◌^◌, ◌<◌, ◌≤◌, List, [], ◌∷◌, length, take, refl, sym, ap, ◌∙◌, arith}
 use Rattle.std.proofs.Math.Nat.{div-div-eq-div-mul, mul_comm, pow-suc}
 use Rattle.std.specs.Int.{byte_at, bytes_low_first}
 use Rattle.byteorder.specs.Endian.{little_bytes, little_number}
 use Rattle.byteorder.specs.Numbers.{little_from-cons}
 use Rattle.pcc_bytes.specs.Bytes.{IsBytes}
-use Rattle.pcc_bytes.proofs.Bytes.{IsBytes-tail}
+use Rattle.pcc_bytes.proofs.Bytes.{IsBytes-cons, IsBytes-nil, IsBytes-tail}
+
+pub byte_at-lt : (i v : ℕ) → byte_at i v < 256
+byte_at-lt zero v = omega arith
+byte_at-lt (suc i) v = omega arith
+
+pub IsBytes-low_first : (i n v : ℕ) → IsBytes (bytes_low_first i n v)
+IsBytes-low_first i zero v = IsBytes-nil
+IsBytes-low_first i (suc n) v = IsBytes-cons (byte_at i v) (bytes_low_first (suc i) n v) (byte_at-lt i v) (IsBytes-low_first (suc i) n v)
 
 -- a byte of a number, by its place, is that of the number above its lowest byte, one place lower
 pub byte_at-suc : (i v : ℕ) → byte_at (suc i) v ≡ byte_at i (v / 256)

@@ -1,4 +1,4 @@
--- Bytes, and numbers that stand in them.
+-- Bytes, and the numbers that they spell.
 use Rattle.std.specs.Prelude.{◌<◌, ℕ, List, drop, slice_index}
 use Rattle.byteorder.specs.Endian.{little_number}
 

@@ -12,6 +12,24 @@ hex_text (b ∷ bs) = encode_lower (b ∷ bs)
 abbrev pub split_at : ℕ → List ℕ → List (List ℕ)
 split_at c bytes = slice_split (λ b. b == c) bytes
 
+-- the parts before the last one, and the last one
+abbrev pub front_of : List (List ℕ) → List (List ℕ)
+front_of [] = []
+front_of (x ∷ []) = []
+front_of (x ∷ y ∷ ys) = x ∷ front_of (y ∷ ys)
+
+abbrev pub last_of : List (List ℕ) → List ℕ
+last_of [] = []
+last_of (x ∷ []) = x
+last_of (x ∷ y ∷ ys) = last_of (y ∷ ys)
+
+-- the lines of a text, without their line feeds, and the bytes after the last line feed
+abbrev pub lines_of : List ℕ → List (List ℕ)
+lines_of text = front_of (split_at 10 text)
+
+abbrev pub last_in : List ℕ → List ℕ
+last_in text = last_of (split_at 10 text)
+
 -- fields with one space between two
 abbrev pub joined : List (List ℕ) → List ℕ
 joined fields = join_with_byte 32 fields

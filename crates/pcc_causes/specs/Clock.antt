@@ -5,6 +5,6 @@ use Rattle.std.specs.Prelude.{ℕ, ◌+◌, ◌*◌, ◌-◌, ◌^◌, min, Opti
 abbrev pub line_reading : ℕ → ℕ → ℕ → ℕ → ℕ
 line_reading start step added k = min (start + k * step + added) (2 ^ 64 - 1)
 
--- readings that are told from a number on
+-- readings that are known from a number on
 abbrev pub tells_from : ℕ → (ℕ → ℕ) → ℕ → Option ℕ
 tells_from first reading k = if nat_lt k first then None else Some (reading k)

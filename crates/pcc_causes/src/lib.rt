@@ -1,2 +1,2 @@
-//! Definitions alone: when a fault may be told, and which readings a clock gives.
+//! Definitions alone: when a fault may be reported, and which readings a clock gives.
 #![tactic(auto)]

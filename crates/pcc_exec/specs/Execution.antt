@@ -14,7 +14,7 @@ abbrev pub Executes : Device → List ℕ → ℕ → List ℕ → ExecStatus �
 Executes exec_of state code space status state' space' =
     exec_of state code space ≡ record { state = state'; bad = is_bad status; space = space' }
 
--- a communication space: so many bytes
+-- a communication space: this many bytes
 pub record IsSpace (room : ℕ) (bytes : List ℕ) : Type 0 where
   pub long : length bytes ≡ room
   pub fits : IsBytes bytes

@@ -31,7 +31,7 @@ impl Bank {
     /// The command that gives out what is held, and keeps it.
     pub const FETCH: u32 = 0x11;
 
-    /// A Bank for spaces of so many bytes.
+    /// A Bank for spaces of this many bytes.
     pub fn new(alloc: Global, room: u32) -> Result<Bank, NoMemory>
         ensures { IfOk result (λ b. b ≡ 0 ∷ replicate room 0) }
     {

@@ -38,5 +38,6 @@ pub trait Executor: Drop {
         ensures state { is_state (state self.now) };
 
     /// Each command leaves a space of the same size, and a state of such a device.
-    ghost keeps: { (before : List ℕ) (code : ℕ) (space : List ℕ) → is_state before → IsSpace (room_of before) space → Leaves is_state room_of before (exec_of before code space) };
+    ghost keeps: { (before : List ℕ) (code : ℕ) (space : List ℕ) → is_state before → IsSpace (room_of before) space
+        → Leaves is_state room_of before (exec_of before code space) };
 }

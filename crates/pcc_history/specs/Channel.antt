@@ -10,7 +10,7 @@ pub record Object : Type 0 where
   pub state : List ℕ
   pub space : List ℕ
 
--- a command and what came of it: the space that was sent, whether an error was told, and the space that came back
+-- a command and its outcome: the space that was sent, whether an error was reported, and the space that was returned
 pub record Exchange : Type 0 where
   pub code : ℕ
   pub input : List ℕ
@@ -22,7 +22,7 @@ abbrev pub both : Bool → Bool → Bool
 both true b = b
 both false b = false
 
--- the exchange that a code and its input make with a device in this state; a bad command is told as an error where errors are reported
+-- the exchange that a code and its input make with a device in this state; a bad command is reported as an error if errors are reported
 abbrev pub exchange_of : Device → Bool → List ℕ → ℕ → List ℕ → Exchange
 exchange_of exec reports state code input =
     let x = exec state code input in record { code = code; input = input; error = both reports x.bad; output = x.space }

@@ -1,4 +1,4 @@
--- Devices behind a channel: what a command makes of a device's state and of the communication space.
+-- Devices of a channel: what a command makes of a device's state and of the communication space.
 use Rattle.std.specs.Prelude.{ℕ, ◌==◌, Bool, true, false, if◌then◌else◌, List, ◌∷◌, drop}
 
 -- what is left by a command: the device's new state, whether it found the command bad, and the new space

@@ -16,12 +16,12 @@ WholeHistory space [] [] = Unit {0}
 WholeHistory space (c ∷ cs) (bytes ∷ asked) = (c.input ≡ over space bytes) × WholeHistory c.output cs asked
 WholeHistory space _ _ = ⊥
 
--- the device's state behind a history
+-- the device's state after a history
 abbrev pub state_after : Device → List ℕ → List Exchange → List ℕ
 state_after exec state [] = state
 state_after exec state (c ∷ cs) = state_after exec (exec state c.code c.input).state cs
 
--- the space behind a history
+-- the space after a history
 abbrev pub space_after : List ℕ → List Exchange → List ℕ
 space_after space [] = space
 space_after space (c ∷ cs) = space_after c.output cs

@@ -16,7 +16,8 @@ pub progress_start : (a : Option (List ℕ)) (text : List ℕ) → Progress a a 
 progress_start a text = record { done = []; whole = refl; appended = Appends-nil a }
 
 -- a write of n bytes of the rest
-pub progress_more : (a b c : Option (List ℕ)) (text rest : List ℕ) (n : ℕ) → Progress a b text rest → Appends b c (take n rest) → Progress a c text (take (length rest - n) (drop n rest))
+pub progress_more : (a b c : Option (List ℕ)) (text rest : List ℕ) (n : ℕ) → Progress a b text rest → Appends b c (take n rest)
+    → Progress a c text (take (length rest - n) (drop n rest))
 progress_more a b c text rest n p w = rw take_rest (record {
   done = p.done ++ take n rest;
   whole = p.whole ∙ ap (λ (v : List ℕ). p.done ++ v) (sym (take-append-drop n rest)) ∙ sym (append_assoc p.done (take n rest) (drop n rest));
@@ -40,7 +41,8 @@ pub taken_more : (a b c : Option (List ℕ)) (p q : List ℕ) (most : ℕ) → C
 taken_more a b c p q most h k few = record { taken = p ++ q; read = Consumes-trans a b c p q h k; few = rw length-append few }
 
 -- two reads take this much together
-pub taken_exactly : (a b c : Option (List ℕ)) (p q : List ℕ) (n : ℕ) → Consumes a b p → Consumes b c q → length p + length q ≡ n → (bs : List ℕ) × Consumes a c bs × (length bs ≡ n)
+pub taken_exactly : (a b c : Option (List ℕ)) (p q : List ℕ) (n : ℕ) → Consumes a b p → Consumes b c q → length p + length q ≡ n
+    → (bs : List ℕ) × Consumes a c bs × (length bs ≡ n)
 taken_exactly a b c p q n h k e = (p ++ q, Consumes-trans a b c p q h k, rw length-append e)
 
 -- a read that failed takes nothing

@@ -10,7 +10,7 @@ pub trait Clock: Drop {
     /// How many readings were taken. The count stops at the greatest u64.
     ghost taken: { Self → ℕ };
 
-    /// The reading of a number, from 0, where the clock tells it.
+    /// The reading of a number, from 0, if the clock shows it.
     ghost tells: { Self → ℕ → Option ℕ };
 
     /// Takes the next reading.
@@ -52,7 +52,7 @@ impl LineClock {
         }
     }
 
-    /// Moves the readings that come up by `n` microseconds. What was added in all stops at the greatest u128. The readings before are not told any more.
+    /// Moves the next readings up by `n` microseconds. What was added in all stops at the greatest u128. Earlier readings aren't shown any more.
     pub fn add(&mut self, n: u64)
         ensures { self.new ≡ record self.old { added = min (self.old.added + n) (2 ^ 128 - 1); told_from = self.old.taken } }
     {
@@ -71,7 +71,7 @@ impl Clock for LineClock {
         ensures reading { self.old.taken < 2 ^ 64 - 1 → IfSome (line_tells self.old self.old.taken) (λ t. result ≡ t) }
         ensures told { (k : ℕ) → line_tells self.new k ≡ line_tells self.old k }
 
-        // The clock of a script tells each reading, and a reading changes its count alone.
+        // The clock of a script shows each reading, and a reading changes its count alone.
         ensures exact { result ≡ line_reading self.old.start self.old.step self.old.added self.old.taken }
         ensures rest { self.new ≡ record self.old { taken = self.new.taken } }
     {

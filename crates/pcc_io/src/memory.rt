@@ -1,5 +1,6 @@
 //! A source and a sink in memory, for tests: they give and take in pieces and fail at chosen calls.
-ghost use Rattle.std.specs.Prelude.{◌≡◌, ◌<◌, ◌≤◌, ◌==◌, ◌++◌, ◌-◌, ◌↔◌, ◌⊎◌, length, min, take, drop, [], Some, IfOk, IsErr, IsTrue, MatchResult, ◌^◌, OnOk, OnErr};
+ghost use Rattle.std.specs.Prelude.{◌≡◌, ◌<◌, ◌≤◌, ◌==◌, ◌++◌, ◌-◌, ◌^◌, ◌↔◌, ◌⊎◌, length, min, take, drop, []};
+ghost use Rattle.std.specs.Prelude.{Some, IfOk, IsErr, IsTrue, MatchResult, OnOk, OnErr};
 ghost use Rattle.std.specs.List.{list_any};
 ghost use Rattle.std.specs.Io.{ReadsAtMost, WritesAtMost};
 ghost use Rattle.std.specs.Io.KnownBytes.{ReadConsumes, WriteAppends};

@@ -1,4 +1,4 @@
-//! Where bytes go.
+//! Sinks of bytes.
 ghost use Rattle.std.specs.Prelude.{◌≡◌, ◌<◌, ◌^◌, List, ℕ, Option, length, IfOk, OnOk, OnErr};
 ghost use Rattle.std.specs.Io.{WritesAtMost};
 ghost use Rattle.std.specs.Io.KnownBytes.{Appends, WriteAppends};
@@ -7,7 +7,7 @@ ghost use Rattle.pcc_causes.specs.Causes.{AppendsPrefix, HasCause, Rose};
 use crate::Failed;
 
 pub trait Sink {
-    /// The bytes that the sink holds, where it tells them.
+    /// The bytes that the sink holds, if it shows them.
     ghost held: { Self → Option (List ℕ) };
 
     /// How often the sink has failed. The count stops at the greatest u64. Only a call that fails, or that takes no byte of a piece that
@@ -28,7 +28,7 @@ pub trait Sink {
 #[derive(Clone, Copy, Debug, PartialEq, Eq)]
 pub struct WriteFault;
 
-/// Writes all of the text, or a prefix of it where the sink fails.
+/// Writes all of the text, or a prefix of it if the sink fails.
 #[tactic(auto, using(crate::proofs::Known::progress_start, crate::proofs::Known::progress_more, crate::proofs::Known::progress_end))]
 pub fn write_whole<W: Sink>(sink: &mut W, text: &[u8]) -> Result<(), WriteFault>
     ensures ok { OnOk result (Appends (W.held sink.old) (W.held sink.new) text.now) }

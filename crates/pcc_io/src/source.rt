@@ -1,4 +1,4 @@
-//! Where bytes come from.
+//! Sources of bytes.
 ghost use Rattle.std.specs.Prelude.{◌≡◌, ◌+◌, ◌^◌, ◌<◌, ◌≤◌, List, ℕ, Option, length, vec_len, IfOk, IsErrOf};
 ghost use Rattle.std.specs.Io.{ReadsAtMost};
 ghost use Rattle.std.specs.Io.KnownBytes.{Consumes, IsAtEnd, ReadConsumes};
@@ -13,14 +13,14 @@ const CHUNK: usize = 16_384;
 
 /// A stream of bytes that counts its faults.
 pub trait Source {
-    /// The bytes that reads will give from here on, where the source tells them.
+    /// The bytes that reads will give from here on, if the source shows them.
     ghost left: { Self → Option (List ℕ) };
 
     /// How often the source has failed. The count stops at the greatest u64, and only a call that fails raises it.
     ghost faults: { Self → ℕ };
 
     /// Moves the first bytes of what is left into the buffer, and answers how many. It gives a buffer that isn't empty no byte
-    /// only at the end of the stream. Where it fails no byte is moved.
+    /// only at the end of the stream. If it fails, no byte is moved.
     fn read(&mut self, buf: &mut [u8]) -> Result<usize, Failed>
         ensures bound { ReadsAtMost result buf.new }
         ensures bytes { ReadConsumes (left self.old) (left self.new) result buf.new }
@@ -60,7 +60,7 @@ pub fn read_to_end<S: Source>(
     ensures end { IfOk result (λ _. IsAtEnd (S.left source.new)) }
     ensures within { IfOk result (λ v. vec_len v ≤ limit) }
 
-    // It is too long exactly where one byte more than the limit was read.
+    // It is too long exactly when one byte more than the limit was read.
     ensures too_long { (n : ℕ) → IsErrOf result (ReadEnd.TooLong n) → (n ≡ limit)
         × ((bs : List ℕ) × Consumes (S.left source.old) (S.left source.new) bs × (length bs ≡ limit + 1)) }
 

@@ -55,11 +55,13 @@ posts_of_pending : (before : ℕ) (pending : Option NotedPending) → post_count
 posts_of_pending before None = refl
 posts_of_pending before (Some p) = refl
 
-pub posts : (before : ℕ) (ns : List Noted) (pending : Option NotedPending) → post_count (events_of before ns pending) ≡ length ns + length (events_of_pending before pending)
+pub posts : (before : ℕ) (ns : List Noted) (pending : Option NotedPending)
+    → post_count (events_of before ns pending) ≡ length ns + length (events_of_pending before pending)
 posts before ns pending =
     omega (arith, posts_of_entries before ns, posts_of_pending before pending, post_count-append (flat_map (events_of_record before) ns) (events_of_pending before pending))
 
-last_entry : (before : ℕ) (ns : List Noted) (n : Noted) → flat_map (events_of_record before) (ns ++ n ∷ []) ≡ flat_map (events_of_record before) ns ++ events_of_record before n
+last_entry : (before : ℕ) (ns : List Noted) (n : Noted)
+    → flat_map (events_of_record before) (ns ++ n ∷ []) ≡ flat_map (events_of_record before) ns ++ events_of_record before n
 last_entry before ns n =
     flat_map-append (events_of_record before) ns (n ∷ [])
     ∙ ap (λ (v : List Event). flat_map (events_of_record before) ns ++ v) (append-nil (events_of_record before n))
@@ -70,14 +72,16 @@ last before ns n =
     ∙ last_entry before ns n
     ∙ ap (λ (es : List Event). es ++ events_of_record before n) (sym (append-nil (flat_map (events_of_record before) ns)))
 
-pub posted : (before : ℕ) (ns : List Noted) (pending : Option NotedPending) → events_of before ns pending ≡ events_of before ns None ++ events_of_pending before pending
+pub posted : (before : ℕ) (ns : List Noted) (pending : Option NotedPending)
+    → events_of before ns pending ≡ events_of before ns None ++ events_of_pending before pending
 posted before ns pending = ap (λ (es : List Event). es ++ events_of_pending before pending) (sym (append-nil (flat_map (events_of_record before) ns)))
 
 late_events : (b : Bool) (p q : Posted) (m k : ℕ) (c : Completed) → b ≡ true → p ≡ q → m ≡ k → completion_events b p m c ≡ Lost q k ∷ Drained c ∷ []
 late_events true p q m k c l e f = ap (λ (x : Posted). Lost x m ∷ Drained c ∷ []) e ∙ ap (λ (x : ℕ). Lost q x ∷ Drained c ∷ []) f
 late_events false p q m k c l e f = absurd cc
 
-pub drained : (before : ℕ) (ns : List Noted) (p : NotedPending) (n : Noted) → n.entry.late ≡ true → posted_of before n.entry n.note ≡ posted_of_pending before p → n.note.looks ≡ p.note.looks
+pub drained : (before : ℕ) (ns : List Noted) (p : NotedPending) (n : Noted) → n.entry.late ≡ true
+    → posted_of before n.entry n.note ≡ posted_of_pending before p → n.note.looks ≡ p.note.looks
     → events_of before (ns ++ n ∷ []) None ≡ events_of before ns (Some p) ++ Drained (completed_of before n.entry n.note) ∷ []
 drained before ns p n late same looks =
     let es : List Event = flat_map (events_of_record before) ns in

@@ -12,7 +12,8 @@ pub record Written (first out : List ℕ) (rs : List Record) (i : ℕ) : Type 0 
 pub written_start : (out : List ℕ) (rs : List Record) → Written out out rs 0
 written_start out rs = record { whole = refl }
 
-pub written_more : (first out out' : List ℕ) (rs : List Record) (i : ℕ) (r : Record) → i < length rs → r ≡ get_or rs i r → out' ≡ out ++ spelled (record_line i r) → Written first out rs i → Written first out' rs (i + 1)
+pub written_more : (first out out' : List ℕ) (rs : List Record) (i : ℕ) (r : Record) → i < length rs → r ≡ get_or rs i r
+    → out' ≡ out ++ spelled (record_line i r) → Written first out rs i → Written first out' rs (i + 1)
 written_more first out out' rs i r lt is e w =
     let cut : drop i rs ≡ r ∷ drop (i + 1) rs = drop_more rs i r lt ∙ ap (λ (x : Record). x ∷ drop (i + 1) rs) (sym is) in
     let step : records_text i (drop i rs) ≡ spelled (record_line i r) ++ records_text (i + 1) (drop (i + 1) rs) = ap (records_text i) cut in

@@ -1,5 +1,5 @@
 -- What happened on a channel, as its asking side saw it: made of the records, of the notes beside them, and of the command in flight.
--- A reading has a number, by which it stands among all readings that the channel's clock has given, from 0.
+-- A reading has a number, its place among all readings that the channel's clock has given, from 0.
 use Rattle.std.specs.Prelude.{◌≡◌, ◌==◌, ℕ, ◌+◌, Bool, true, false, List, [], ◌∷◌, ◌++◌, map, Option, Some, None}
 use Rattle.std.specs.List.{filter, flat_map}
 use Rattle.pcc_journal.specs.declared.record.Record.{Record}
@@ -21,7 +21,7 @@ pub record Completed : Type 0 where
   pub done : ℕ
   pub done_number : ℕ
 
--- A command was answered to its caller; or its caller gave it up after so many looks, which is 0 until then; or, later, what came back of
+-- A command was answered to its caller; or its caller gave it up after this many looks, which is 0 until then; or, later, what came back of
 -- a command that was given up was taken away.
 pub data Event : Type 0 where
   Answered : Posted → Completed → Event
@@ -44,7 +44,7 @@ pub record NotedPending : Type 0 where
 abbrev pub blank_note : Note
 blank_note = record { post_at = 0; done_at = 0; looks = 0 }
 
--- Each record with the note at its place. Where the notes are fewer, the further records have blank ones, so that no record is left out.
+-- Each record with the note at its place. If the notes are fewer, the further records have blank ones, so that no record is left out.
 abbrev pub noted : List Record → List Note → List Noted
 noted [] ns = []
 noted (r ∷ rs) [] = record { entry = r; note = blank_note } ∷ noted rs []

@@ -36,7 +36,7 @@ abbrev pub records_text : ℕ → List Record → List ℕ
 records_text place [] = []
 records_text place (r ∷ rs) = spelled (record_line place r) ++ records_text (place + 1) rs
 
--- the line of a pending command, where there is one
+-- the line of a pending command, if there is one
 abbrev pub pending_text : Option Pending → List ℕ
 pending_text None = []
 pending_text (Some p) = spelled (pending_line p)

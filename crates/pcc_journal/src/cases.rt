@@ -3,9 +3,10 @@ ghost use Rattle.std.specs.Prelude.{◌≡◌, [], ◌∷◌, true, false, None,
 ghost use Rattle.pcc_journal.specs.declared.reserved.TheConstants.{MAX_ITEMS};
 ghost use Rattle.pcc_journal.specs.Records.{exchanges_of, exchanges_of_commands, times_of};
 ghost use Rattle.pcc_journal.specs.Events.{Own, blank_note, calls_of, events_of, noted, noted_pending, post_count, records_of};
-ghost use Rattle.pcc_journal.specs.WorkedEvents.{all_events, answered_first, both_noted, both_notes, both_records, drained_second, late_record, lost_second, lost_third, timely_record};
+ghost use Rattle.pcc_journal.specs.WorkedEvents.{all_events, answered_first, both_noted, both_notes, both_records, drained_second, late_record};
+ghost use Rattle.pcc_journal.specs.WorkedEvents.{lost_second, lost_third, timely_record};
 
-/// What two records and a command in flight tell. It does nothing.
+/// The events of two records and a command in flight. It does nothing.
 pub fn worked_cases()
     ensures exchanges { exchanges_of both_records
         ≡ record { code = 16; input = 1 ∷ []; error = true; output = 2 ∷ [] }

@@ -2,7 +2,8 @@
 ghost use Rattle.std.specs.Prelude.{◌≡◌, ◌+◌, ℕ, List, [], ◌∷◌, ◌++◌, Option, None, Some, length, true};
 ghost use Rattle.pcc_journal.specs.declared.record.Record.{Record};
 ghost use Rattle.pcc_journal.specs.declared.note.Note.{Note};
-ghost use Rattle.pcc_journal.specs.Events.{Drained, Noted, NotedPending, completed_of, events_of, events_of_pending, events_of_record, noted, notes_of, post_count, posted_of, posted_of_pending, records_of};
+ghost use Rattle.pcc_journal.specs.Events.{Drained, Noted, NotedPending, completed_of, events_of, events_of_pending, events_of_record, noted};
+ghost use Rattle.pcc_journal.specs.Events.{notes_of, post_count, posted_of, posted_of_pending, records_of};
 
 /// Records and notes as two lists of one length, and as one list. It does nothing.
 pub fn notes_pair()

@@ -76,7 +76,7 @@ impl Journal {
         self.reserve_for(1)
     }
 
-    /// Takes memory ahead for so many records at least.
+    /// Takes memory ahead for this many records at least.
     pub fn reserve_for(&mut self, n: usize) -> Result<(), ReserveRefusal>
         ensures items { self.new.items ≡ self.old.items }
         ensures ok { OnOk result (self.new.spare ≡ max self.old.spare n) }

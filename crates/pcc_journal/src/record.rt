@@ -11,7 +11,7 @@ pub struct Record {
     pub code: u32,
     /// The whole communication space as it was sent.
     pub input: Bytes,
-    /// Whether the responder told an error.
+    /// Whether the responder reported an error.
     pub error: bool,
     /// The whole communication space as it came back.
     pub output: Bytes,

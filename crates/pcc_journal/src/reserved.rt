@@ -91,7 +91,7 @@ impl<T> Reserved<T> {
         self.reserve_for(1)
     }
 
-    /// Takes memory ahead for so many items at least.
+    /// Takes memory ahead for this many items at least.
     pub fn reserve_for(&mut self, n: usize) -> Result<(), ReserveRefusal>
         ensures items { self.new.items ≡ self.old.items }
         ensures ok { OnOk result (self.new.spare ≡ max self.old.spare n) }

@@ -17,13 +17,13 @@ pub struct JournalHead {
     pub id: u8,
     /// Its type.
     pub kind: u8,
-    /// Whether a controller of performance (CPPC) stands behind it, or else a bank.
+    /// Whether a controller of performance (CPPC) is its device, or else a Bank.
     pub cppc: bool,
     /// The bytes of its communication space.
     pub room: u32,
     /// The limits on its posts.
     pub limits: Limits,
-    /// Whether its responder tells errors.
+    /// Whether its responder reports errors.
     pub reports: bool,
 }
 
@@ -112,7 +112,7 @@ fn put_any_pending(out: &mut Vec<u8>, pending: Option<&Pending>) -> Result<(), N
 }
 
 /// Puts the text of a journal at the end: its head, a line for each record, one for a pending command, and its end.
-/// Where memory runs out it may have put a part.
+/// If memory runs out it may have put a part.
 #[tactic(auto, unfolding(crate::specs::JournalText::journal_text), using(std::proofs::lemmas::List::append_assoc))]
 pub fn put_journal(
     out: &mut Vec<u8>,

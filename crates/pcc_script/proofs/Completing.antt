@@ -8,7 +8,8 @@ use Rattle.pcc_script.specs.Reading.{clocks, Completes, is_whole, so_far, tables
 use Rattle.pcc_script.specs.Text.{count_at, open_statement}
 use Rattle.pcc_script.proofs.Counting.{all_opens, behind_opens, count_append, none_behind, none_opens}
 
-counts : (n : ℕ) (p : Partial) → count_at n (so_far p) ≡ count_at n (tables p.table) + (count_at n (clocks p.clock) + (count_at n (map open_statement p.opens) + count_at n (behind_opens p.cpus p.caps p.actions p.picks)))
+counts : (n : ℕ) (p : Partial)
+    → count_at n (so_far p) ≡ count_at n (tables p.table) + (count_at n (clocks p.clock) + (count_at n (map open_statement p.opens) + count_at n (behind_opens p.cpus p.caps p.actions p.picks)))
 counts n p =
     rw (count_append n (tables p.table) (clocks p.clock ++ (map open_statement p.opens ++ behind_opens p.cpus p.caps p.actions p.picks)), count_append n (clocks p.clock) (map open_statement p.opens ++ behind_opens p.cpus p.caps p.actions p.picks), count_append n (map open_statement p.opens) (behind_opens p.cpus p.caps p.actions p.picks)) refl
 

@@ -88,7 +88,8 @@ all_opens (o ∷ os) = let e = all_opens os in omega arith
 abbrev pub behind_opens : List (List ℕ) → List CapLine → List Line → Option (List Letter) → List Statement
 behind_opens cpus caps actions picks = map cpu_statement cpus ++ (map cap_statement caps ++ (map action_statement actions ++ pick_statements picks))
 
-pub none_behind : (p : ℕ) (cpus : List (List ℕ)) (caps : List CapLine) (actions : List Line) (picks : Option (List Letter)) → p < 3 → count_at p (behind_opens cpus caps actions picks) ≡ 0
+pub none_behind : (p : ℕ) (cpus : List (List ℕ)) (caps : List CapLine) (actions : List Line) (picks : Option (List Letter)) → p < 3
+    → count_at p (behind_opens cpus caps actions picks) ≡ 0
 none_behind p cpus caps actions picks h =
     rw (
       count_append p (map cpu_statement cpus) (map cap_statement caps ++ (map action_statement actions ++ pick_statements picks)),

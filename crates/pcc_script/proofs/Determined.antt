@@ -62,7 +62,8 @@ none : {X Y : Type 0} (f : X → Statement) (h : Statement → Option Y) → ((x
 none f h e [] = refl
 none f h e (x ∷ xs) = rw (e x) (none f h e xs)
 
-five : {Y : Type 0} (h : Statement → Option Y) (o c p a k : List Statement) → filter_map h (o ++ (c ++ (p ++ (a ++ k)))) ≡ filter_map h o ++ (filter_map h c ++ (filter_map h p ++ (filter_map h a ++ filter_map h k)))
+five : {Y : Type 0} (h : Statement → Option Y) (o c p a k : List Statement)
+    → filter_map h (o ++ (c ++ (p ++ (a ++ k)))) ≡ filter_map h o ++ (filter_map h c ++ (filter_map h p ++ (filter_map h a ++ filter_map h k)))
 five h o c p a k = rw (filter_map-append h o (c ++ (p ++ (a ++ k))), filter_map-append h c (p ++ (a ++ k)), filter_map-append h p (a ++ k), filter_map-append h a k) refl
 
 abbrev open_of : Statement → Option OpenLine
@@ -83,7 +84,8 @@ pick_of r = pick_at r.word r.values
 abbrev rest_of : Scenario → List Statement
 rest_of s = map open_statement s.opens ++ (map cpu_statement s.cpus ++ (map cap_statement s.caps ++ (map action_statement s.actions ++ pick_statements s.picks)))
 
-no_picks : {Y : Type 0} (h : Statement → Option Y) → ((ls : List Letter) → h (pick_statement ls) ≡ None) → (o : Option (List Letter)) → filter_map h (pick_statements o) ≡ []
+no_picks : {Y : Type 0} (h : Statement → Option Y) → ((ls : List Letter) → h (pick_statement ls) ≡ None) → (o : Option (List Letter))
+    → filter_map h (pick_statements o) ≡ []
 no_picks h e None = refl
 no_picks h e (Some ls) = rw (e ls) refl
 
@@ -101,7 +103,9 @@ same_option None (Some y) e = cc
 same_option (Some x) None e = cc
 same_option (Some x) (Some y) e = cc
 
-action_none : {Y : Type 0} (h : Word → List Value → Option Y) → ((vs : List Value) → (h word.Call vs ≡ None) × (h word.Read vs ≡ None) × (h word.Set vs ≡ None) × (h word.Wait vs ≡ None)) → (l : Line) → h (action_statement l).word (action_statement l).values ≡ None
+action_none : {Y : Type 0} (h : Word → List Value → Option Y)
+    → ((vs : List Value) → (h word.Call vs ≡ None) × (h word.Read vs ≡ None) × (h word.Set vs ≡ None) × (h word.Wait vs ≡ None)) → (l : Line)
+    → h (action_statement l).word (action_statement l).values ≡ None
 action_none h e (line.Call a b c d f g) = (e _).0
 action_none h e (line.Read a b c d) = (e _).1
 action_none h e (line.Set a b c d) = (e _).2

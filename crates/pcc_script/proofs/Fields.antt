@@ -54,7 +54,8 @@ letter_cases b O false true e d h = cc
 letter_cases b P false true e d h = grind (arith, nat_tests)
 letter_cases b l false false e d h = cc
 
-consed_some : {X : Type 0} (o : Option X) (os : Option (List X)) (ys : List X) → consed o os ≡ Some ys → (x : X) × (xs : List X) × (o ≡ Some x) × (os ≡ Some xs) × (x ∷ xs ≡ ys)
+consed_some : {X : Type 0} (o : Option X) (os : Option (List X)) (ys : List X) → consed o os ≡ Some ys
+    → (x : X) × (xs : List X) × (o ≡ Some x) × (os ≡ Some xs) × (x ∷ xs ≡ ys)
 consed_some (Some x) (Some xs) ys h = (x, xs, refl, refl, same_some (x ∷ xs) ys h)
 consed_some (Some x) None ys h = cc
 consed_some None os ys h = cc
@@ -81,7 +82,8 @@ pub record Spelled (k : Kind) (f : List ℕ) (v : Value) : Type 0 where
   pub is : IsOf k v
   pub text : f ≡ spell v
 
-choice_reads : (t : Bool) (f : List ℕ) (v : Value) → bytes_eq f (45 ∷ []) ≡ t → cond t (Ok (OfOptional None)) (some_value (number_of (most_of Any) f)) ≡ Ok v → Spelled Optional f v
+choice_reads : (t : Bool) (f : List ℕ) (v : Value) → bytes_eq f (45 ∷ []) ≡ t
+    → cond t (Ok (OfOptional None)) (some_value (number_of (most_of Any) f)) ≡ Ok v → Spelled Optional f v
 choice_reads true f v e h =
     let same : OfOptional None ≡ v = cc in
     subst (Spelled Optional f) same (record { is = (None, refl, tt); text = same_text f (45 ∷ []) e })
@@ -90,7 +92,8 @@ choice_reads false f v e h =
     let q = number_reads (most_of Any) f p.0 (limit_small Any) p.1 in
     subst (Spelled Optional f) (sym p.2) (record { is = (Some p.0, refl, q.1); text = q.0 })
 
-device_reads : (t u : Bool) (f : List ℕ) (v : Value) → bytes_eq f (codes "cppc") ≡ t → bytes_eq f (codes "bank") ≡ u → cond t (Ok (OfDevice NamedCppc)) (cond u (Ok (OfDevice NamedBank)) (Err (field_fault DeviceText))) ≡ Ok v → Spelled DeviceText f v
+device_reads : (t u : Bool) (f : List ℕ) (v : Value) → bytes_eq f (codes "cppc") ≡ t → bytes_eq f (codes "bank") ≡ u
+    → cond t (Ok (OfDevice NamedCppc)) (cond u (Ok (OfDevice NamedBank)) (Err (field_fault DeviceText))) ≡ Ok v → Spelled DeviceText f v
 device_reads true u f v e d h =
     let same : OfDevice NamedCppc ≡ v = cc in
     subst (Spelled DeviceText f) same (record { is = (NamedCppc, refl); text = same_text f (codes "cppc") e })

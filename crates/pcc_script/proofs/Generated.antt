@@ -6,6 +6,8 @@ use Rattle.std.specs.List.{AllByRecursion, list_all, range_with_len}
 use Rattle.std.proofs.lemmas.Bool.{and_parts, ltb-true}
 use Rattle.std.proofs.lemmas.List.FromFn.{length-map-range_with_len, map-range_with_len_more}
 use Rattle.pcc_bytes.specs.Bytes.{IsBytes}
+use Rattle.pcc_bytes.proofs.Bytes.{IsBytes-tested}
+use Rattle.pcc_bytes.proofs.Numbers.{IsBytes-low_first}
 use Rattle.pcc_script.specs.declared.limits.TheConstants.{MAX_MADE_CALLS}
 use Rattle.pcc_script.specs.declared.scenario.Line.{Line}
 use Rattle.pcc_script.specs.declared.scenario.Scenario.{Scenario}
@@ -20,7 +22,8 @@ pub none_made : made_calls 0 ≡ []
 unfolding made_calls
 none_made = refl
 
-pub one_more : (place : ℕ) (actions : List Line) (x : ℕ) → actions ≡ made_calls place → x ≡ generated place → actions ++ call_with place x ∷ [] ≡ made_calls (place + 1)
+pub one_more : (place : ℕ) (actions : List Line) (x : ℕ) → actions ≡ made_calls place → x ≡ generated place
+    → actions ++ call_with place x ∷ [] ≡ made_calls (place + 1)
 unfolding made_calls
 one_more place actions x a e =
     let last : made_calls (place + 1) ≡ made_calls place ++ made_call place ∷ [] = map-range_with_len_more made_call 0 place place (omega arith) in
@@ -32,33 +35,9 @@ next_number place = let one : suc place ≡ place + 1 = omega arith in ap genera
 
 -- ---- bytes
 
-at_cons : (b : ℕ) (bs : List ℕ) (place : ℕ) → b < 256 → IsBytes bs → slice_index (b ∷ bs) place < 256
-at_cons b bs zero small all = small
-at_cons b bs (suc place) small all = all.fits place
-
-bytes_none : IsBytes []
-bytes_none = record { fits = λ place. omega arith }
-
-bytes_cons : (b : ℕ) (bs : List ℕ) → b < 256 → IsBytes bs → IsBytes (b ∷ bs)
-bytes_cons b bs small all = record { fits = λ place. at_cons b bs place small all }
-
-tested_bytes : (bs : List ℕ) → list_all (λ b. nat_lt b 256) bs ≡ true → IsBytes bs
-tested_bytes [] h = bytes_none
-tested_bytes (b ∷ bs) h =
-    let parts = and_parts (nat_lt b 256) (list_all (λ (c : ℕ). nat_lt c 256) bs) h in
-    bytes_cons b bs (ltb-true b 256 parts.0) (tested_bytes bs parts.1)
-
-byte_fits : (i x : ℕ) → byte_at i x < 256
-byte_fits zero x = omega arith
-byte_fits (suc i) x = omega arith
-
-number_bytes : (i n x : ℕ) → IsBytes (bytes_low_first i n x)
-number_bytes i zero x = bytes_none
-number_bytes i (suc n) x = bytes_cons (byte_at i x) (bytes_low_first (suc i) n x) (byte_fits i x) (number_bytes (suc i) n x)
-
 table_bytes : IsBytes one_generic_subspace
 unfolding one_generic_subspace
-table_bytes = tested_bytes one_generic_subspace refl
+table_bytes = IsBytes-tested one_generic_subspace refl
 
 -- ---- limits
 
@@ -72,7 +51,7 @@ code_fits place = either_fits (eqb (place % 5) 4)
 call_fits : (place x : ℕ) → IsAction (call_with place x)
 call_fits place x =
     let code : made_code place ≤ 17 = code_fits place in
-    (omega arith, omega arith, omega arith, number_bytes 0 8 x, record { some = omega arith; few = omega arith; held = omega arith })
+    (omega arith, omega arith, omega arith, IsBytes-low_first 0 8 x, record { some = omega arith; few = omega arith; held = omega arith })
 
 calls_fit : (first n : ℕ) → AllByRecursion IsAction (map made_call (range_with_len first n))
 calls_fit first zero = tt

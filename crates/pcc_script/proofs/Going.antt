@@ -2,7 +2,7 @@
 use Rattle.std.proofs.Common.{◌≡◌, ℕ, suc, ◌+◌, ◌<◌, ◌≤◌, List, [], ◌∷◌, ◌++◌, length, refl, sym, ap, ◌∙◌, subst, arith}
 use Rattle.std.specs.Prelude.{Option, Some, None, Result, Ok, Err}
 use Rattle.std.proofs.lemmas.List.{append_assoc, append-nil, length-append}
-use Rattle.pcc_bytes.specs.Fields.{split_at}
+use Rattle.pcc_bytes.specs.Fields.{front_of, last_in, last_of, lines_of, split_at}
 use Rattle.pcc_script.specs.declared.order.Seen.{Seen}
 use Rattle.pcc_script.specs.declared.partial.Partial.{Partial}
 use Rattle.pcc_script.specs.declared.fault.ScriptError.{ScriptError}
@@ -11,9 +11,9 @@ use Rattle.pcc_script.specs.declared.fault.ScriptKind.{ScriptKind}
 use Rattle.pcc_script.specs.declared.scenario.Scenario.{Scenario}
 use Rattle.pcc_script.specs.Rows.{behind as back, most, place}
 use Rattle.pcc_script.specs.Text.{Statement, statements_of}
-use Rattle.pcc_script.specs.Reading.{count_for, seen_after, read_statement, read_lines, read_text, Blames, Lines, Tells, ended, ended_by, front_of, last_of, with_front, start, so_far, Empty}
+use Rattle.pcc_script.specs.Reading.{count_for, seen_after, read_statement, read_lines, read_text, Blames, Lines, Tells, ended, ended_by, with_front, start, so_far, Empty}
 use Rattle.pcc_script.proofs.Growing.{empty_later}
-use Rattle.pcc_script.proofs.Parts.{begins, last_in, lines_of}
+use Rattle.pcc_text.proofs.Lines.{begins}
 use Rattle.pcc_script.proofs.Room.{Counted, counted_more, counted_start}
 
 -- the fault that is met, and its line
@@ -32,7 +32,10 @@ pub record Going (text rest : List ℕ) (line : ℕ) (seen : Seen) (p : Partial)
 pub going_start : (text : List ℕ) (p : Partial) → so_far p ≡ [] → Empty 0 p → Going text text 1 start p
 going_start text p e h = record { read = rw e refl; last = refl; count = rw e refl; counted = counted_start; empty = h }
 
-pub going_more : (text rest fields behind : List ℕ) (line : ℕ) (seen : Seen) (p q : Partial) (r : Statement) → split_at 10 rest ≡ fields ∷ split_at 10 behind → read_statement seen (split_at 32 fields) ≡ Ok r → seen.next ≤ place r.word → count_for seen r.word < most r.word → so_far q ≡ so_far p ++ r ∷ [] → Empty (back r.word) q → Going text rest line seen p → Going text behind (line + 1) (seen_after seen r.word) q
+pub going_more : (text rest fields behind : List ℕ) (line : ℕ) (seen : Seen) (p q : Partial) (r : Statement)
+    → split_at 10 rest ≡ fields ∷ split_at 10 behind → read_statement seen (split_at 32 fields) ≡ Ok r → seen.next ≤ place r.word
+    → count_for seen r.word < most r.word → so_far q ≡ so_far p ++ r ∷ [] → Empty (back r.word) q → Going text rest line seen p
+    → Going text behind (line + 1) (seen_after seen r.word) q
 going_more text rest fields behind line seen p q r cut e placed few s h g =
     let b = begins rest fields behind cut in
     let next = read_lines (seen_after seen r.word) (lines_of behind) in
@@ -65,7 +68,9 @@ faulted ls last n k m =
     let M : Lines → Type 0 = λ all. Met all n k in
     subst M (sym same) (record { fault = refl; line = m.line })
 
-pub going_fault : (text rest fields behind : List ℕ) (line : ℕ) (seen : Seen) (p : Partial) (k : ScriptKind) → split_at 10 rest ≡ fields ∷ split_at 10 behind → read_statement seen (split_at 32 fields) ≡ Err k → Going text rest line seen p → Blames (Fault line k) (read_text text)
+pub going_fault : (text rest fields behind : List ℕ) (line : ℕ) (seen : Seen) (p : Partial) (k : ScriptKind)
+    → split_at 10 rest ≡ fields ∷ split_at 10 behind → read_statement seen (split_at 32 fields) ≡ Err k → Going text rest line seen p
+    → Blames (Fault line k) (read_text text)
 unfolding read_text
 going_fault text rest fields behind line seen p k cut e g =
     let b = begins rest fields behind cut in
@@ -80,7 +85,9 @@ going_fault text rest fields behind line seen p k cut e g =
 abbrev read_so_far : List Statement → Lines
 read_so_far rs = record { right = rs; fault = None }
 
-pub going_end : (text rest : List ℕ) (line : ℕ) (seen : Seen) (p : Partial) (r : Result Scenario ScriptError) → split_at 10 rest ≡ rest ∷ [] → Going text rest line seen p → Tells statements_of r (ended (record { right = so_far p; fault = None }) rest) → Tells statements_of r (read_text text)
+pub going_end : (text rest : List ℕ) (line : ℕ) (seen : Seen) (p : Partial) (r : Result Scenario ScriptError) → split_at 10 rest ≡ rest ∷ []
+    → Going text rest line seen p → Tells statements_of r (ended (record { right = so_far p; fault = None }) rest)
+    → Tells statements_of r (read_text text)
 unfolding read_text
 going_end text rest line seen p r uncut g h =
     let none : lines_of rest ≡ [] = ap front_of uncut in

@@ -29,19 +29,22 @@ empty_later next place p le e = record {
 pub put_table : (p : Partial) (bytes : List ℕ) → Empty (place word.Table) p → so_far (record p { table = Some bytes }) ≡ so_far p ++ table_statement bytes ∷ []
 put_table p bytes e = rw (e.table (lit< tt), e.clock (lit< tt), e.opens (lit< tt), e.cpus (lit< tt), e.caps (lit< tt), e.actions (lit< tt), e.picks (lit< tt)) refl
 
-pub put_clock : (p : Partial) (c : ClockLine) → Empty (place word.Clock) p → so_far (record p { clock = Some c }) ≡ so_far p ++ clock_statement c.start c.step ∷ []
+pub put_clock : (p : Partial) (c : ClockLine) → Empty (place word.Clock) p
+    → so_far (record p { clock = Some c }) ≡ so_far p ++ clock_statement c.start c.step ∷ []
 put_clock p c e = rw (e.clock (lit< tt), e.opens (lit< tt), e.cpus (lit< tt), e.caps (lit< tt), e.actions (lit< tt), e.picks (lit< tt)) (simp append-nil)
 
 pub put_open : (p : Partial) (o : OpenLine) → Empty (place word.Open) p → so_far (record p { opens = p.opens ++ o ∷ [] }) ≡ so_far p ++ open_statement o ∷ []
 put_open p o e = rw (e.cpus (lit< tt), e.caps (lit< tt), e.actions (lit< tt), e.picks (lit< tt)) (simp (map-append, append-nil, append_assoc))
 
-pub put_cpu : (p : Partial) (bytes : List ℕ) → Empty (place word.Cpu) p → so_far (record p { cpus = p.cpus ++ bytes ∷ [] }) ≡ so_far p ++ cpu_statement bytes ∷ []
+pub put_cpu : (p : Partial) (bytes : List ℕ) → Empty (place word.Cpu) p
+    → so_far (record p { cpus = p.cpus ++ bytes ∷ [] }) ≡ so_far p ++ cpu_statement bytes ∷ []
 put_cpu p bytes e = rw (e.caps (lit< tt), e.actions (lit< tt), e.picks (lit< tt)) (simp (map-append, append-nil, append_assoc))
 
 pub put_cap : (p : Partial) (c : CapLine) → Empty (place word.Cap) p → so_far (record p { caps = p.caps ++ c ∷ [] }) ≡ so_far p ++ cap_statement c ∷ []
 put_cap p c e = rw (e.actions (lit< tt), e.picks (lit< tt)) (simp (map-append, append-nil, append_assoc))
 
-pub put_action : (p : Partial) (l : Line) → Empty (place (action_statement l).word) p → so_far (record p { actions = p.actions ++ l ∷ [] }) ≡ so_far p ++ action_statement l ∷ []
+pub put_action : (p : Partial) (l : Line) → Empty (place (action_statement l).word) p
+    → so_far (record p { actions = p.actions ++ l ∷ [] }) ≡ so_far p ++ action_statement l ∷ []
 put_action p l e =
     let at : place (action_statement l).word ≡ 5 = action_place l in
     rw (e.picks (omega arith)) (simp (map-append, append-nil, append_assoc))

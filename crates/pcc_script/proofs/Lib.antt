@@ -4,7 +4,6 @@ pub mod Lines
 pub mod Counting
 pub mod Sequence
 pub mod Growing
-pub mod Parts
 pub mod Room
 pub mod Going
 pub mod Completing

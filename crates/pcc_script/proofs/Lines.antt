@@ -1,6 +1,7 @@
 -- A line that is read is spelled so, and what is spelled so is read; what isn't read is wrong, and the first fault is the one that is met.
 use Rattle.std.proofs.Common.{◌≡◌, ℕ, suc, ◌+◌, ◌<◌, ◌≤◌, eqb, ltb, Bool, true, false, cond, List, [], ◌∷◌, length, map, drop, refl, sym, ap, ◌∙◌, subst, arith, ◌⊎◌, inl, inr}
 use Rattle.std.specs.Prelude.{Result, Ok, Err, codes, bytes_eq}
+use Rattle.std.proofs.lemmas.Bool.{eq-eqb, eqb-false, eqb-true, le-ltb, lt-ltb, ltb-false, ltb-true, ne_eqb}
 use Rattle.std.proofs.lemmas.Bool.Decides.{nat_tests}
 use Rattle.std.proofs.lemmas.List.{drop_more, drop_all}
 use Rattle.pcc_text.proofs.Laws.{same_text}
@@ -42,37 +43,15 @@ pub want_ok : {A : Type 0} (b : Bool) (k : ScriptKind) (r : Result A ScriptKind)
 want_ok false k r y h = cc
 want_ok true k r y h = (refl, h)
 
-pub test_err : {A : Type 0} (b : Bool) (k d : ScriptKind) (r : Result A ScriptKind) → cond b (Err k) r ≡ Err d → ((b ≡ true) × (d ≡ k)) ⊎ ((b ≡ false) × (r ≡ Err d))
+pub test_err : {A : Type 0} (b : Bool) (k d : ScriptKind) (r : Result A ScriptKind) → cond b (Err k) r ≡ Err d
+    → ((b ≡ true) × (d ≡ k)) ⊎ ((b ≡ false) × (r ≡ Err d))
 test_err true k d r h = inl (refl, cc)
 test_err false k d r h = inr (refl, h)
 
-pub want_err : {A : Type 0} (b : Bool) (k d : ScriptKind) (r : Result A ScriptKind) → cond b r (Err k) ≡ Err d → ((b ≡ false) × (d ≡ k)) ⊎ ((b ≡ true) × (r ≡ Err d))
+pub want_err : {A : Type 0} (b : Bool) (k d : ScriptKind) (r : Result A ScriptKind) → cond b r (Err k) ≡ Err d
+    → ((b ≡ false) × (d ≡ k)) ⊎ ((b ≡ true) × (r ≡ Err d))
 want_err false k d r h = inl (refl, cc)
 want_err true k d r h = inr (refl, h)
-
-pub below : (a b : ℕ) → ltb a b ≡ true → a < b
-below a b h = grind (arith, nat_tests)
-
-pub not_below : (a b : ℕ) → ltb a b ≡ false → b ≤ a
-not_below a b h = grind (arith, nat_tests)
-
-pub is_below : (a b : ℕ) → a < b → ltb a b ≡ true
-is_below a b h = grind (arith, nat_tests)
-
-pub isnt_below : (a b : ℕ) → b ≤ a → ltb a b ≡ false
-isnt_below a b h = grind (arith, nat_tests)
-
-pub same : (a b : ℕ) → eqb a b ≡ true → a ≡ b
-same a b h = grind (arith, nat_tests)
-
-pub not_same : (a b : ℕ) → eqb a b ≡ false → a ≡ b → ⊥
-not_same a b h e = grind (arith, nat_tests)
-
-pub is_same : (a b : ℕ) → a ≡ b → eqb a b ≡ true
-is_same a b h = grind (arith, nat_tests)
-
-pub isnt_same : (a b : ℕ) → (a ≡ b → ⊥) → eqb a b ≡ false
-isnt_same a b h = grind (arith, nat_tests)
 
 not_le : (a b : ℕ) → (b ≤ a → ⊥) → a < b
 not_le a b h = grind (arith, nat_tests)
@@ -84,13 +63,13 @@ unfolding read_at
 at_reads i [] f vs h = sym (ok_same [] vs h)
 at_reads i (AtLeast n ∷ ss) f vs h =
     let p = test_ok (ltb (length f) n) kind.Fields (read_at i ss f) vs h in
-    (not_below (length f) n p.0, at_reads i ss f vs p.1)
+    (ltb-false (length f) n p.0, at_reads i ss f vs p.1)
 at_reads i (Exactly n ∷ ss) f vs h =
     let p = want_ok (eqb (length f) n) kind.Fields (read_at i ss f) vs h in
-    (same (length f) n p.0, at_reads i ss f vs p.1)
+    (eqb-true (length f) n p.0, at_reads i ss f vs p.1)
 at_reads i (AtMost j n ∷ ss) f vs h =
     let p = test_ok (ltb n (length (field_at f j))) kind.Many (read_at i ss f) vs h in
-    (not_below n (length (field_at f j)) p.0, at_reads i ss f vs p.1)
+    (ltb-false n (length (field_at f j)) p.0, at_reads i ss f vs p.1)
 at_reads i (Takes k ∷ ss) f vs h =
     let v = bind_ok (read_field k (field_at f i)) _ vs h in
     let more = bind_ok (read_at (suc i) ss f) (λ (ws : List Value). Ok (v.0 ∷ ws)) vs v.2 in
@@ -103,9 +82,9 @@ spelled_at k f v h e = ap (read_field k) e ∙ field_again k v h
 pub at_again : (i : ℕ) (ss : List Step) (f : List (List ℕ)) (vs : List Value) → AllRight i ss f vs → read_at i ss f ≡ Ok vs
 unfolding read_at
 at_again i [] f vs h = ap Ok (sym h)
-at_again i (AtLeast n ∷ ss) f vs h = rw (isnt_below (length f) n h.0) (at_again i ss f vs h.1)
-at_again i (Exactly n ∷ ss) f vs h = rw (is_same (length f) n h.0) (at_again i ss f vs h.1)
-at_again i (AtMost j n ∷ ss) f vs h = rw (isnt_below n (length (field_at f j)) h.0) (at_again i ss f vs h.1)
+at_again i (AtLeast n ∷ ss) f vs h = rw (le-ltb (length f) n h.0) (at_again i ss f vs h.1)
+at_again i (Exactly n ∷ ss) f vs h = rw (eq-eqb (length f) n h.0) (at_again i ss f vs h.1)
+at_again i (AtMost j n ∷ ss) f vs h = rw (le-ltb n (length (field_at f j)) h.0) (at_again i ss f vs h.1)
 at_again i (Takes k ∷ ss) f [] h = absurd h
 at_again i (Takes k ∷ ss) f (v ∷ vs) h = rw (spelled_at k (field_at f i) v h.0 h.1, at_again (suc i) ss f vs h.2) refl
 
@@ -117,18 +96,18 @@ unfolding read_at
 at_wrong i [] f d h = cc
 at_wrong i (AtLeast n ∷ ss) f d h =
     elim (test_err (ltb (length f) n) kind.Fields d (read_at i ss f) h) [
-      | inl p ↦ let lt : length f < n = below (length f) n p.0 in inl (λ (le : n ≤ length f). absurd (omega arith), p.1)
-      | inr p ↦ inr (not_below (length f) n p.0, at_wrong i ss f d p.1)
+      | inl p ↦ let lt : length f < n = ltb-true (length f) n p.0 in inl (λ (le : n ≤ length f). absurd (omega arith), p.1)
+      | inr p ↦ inr (ltb-false (length f) n p.0, at_wrong i ss f d p.1)
     ]
 at_wrong i (Exactly n ∷ ss) f d h =
     elim (want_err (eqb (length f) n) kind.Fields d (read_at i ss f) h) [
-      | inl p ↦ inl (not_same (length f) n p.0, p.1)
-      | inr p ↦ inr (same (length f) n p.0, at_wrong i ss f d p.1)
+      | inl p ↦ inl (eqb-false (length f) n p.0, p.1)
+      | inr p ↦ inr (eqb-true (length f) n p.0, at_wrong i ss f d p.1)
     ]
 at_wrong i (AtMost j n ∷ ss) f d h =
     elim (test_err (ltb n (length (field_at f j))) kind.Many d (read_at i ss f) h) [
-      | inl p ↦ let lt : n < length (field_at f j) = below n (length (field_at f j)) p.0 in inl (λ (le : length (field_at f j) ≤ n). absurd (omega arith), p.1)
-      | inr p ↦ inr (not_below n (length (field_at f j)) p.0, at_wrong i ss f d p.1)
+      | inl p ↦ let lt : n < length (field_at f j) = ltb-true n (length (field_at f j)) p.0 in inl (λ (le : length (field_at f j) ≤ n). absurd (omega arith), p.1)
+      | inr p ↦ inr (ltb-false n (length (field_at f j)) p.0, at_wrong i ss f d p.1)
     ]
 at_wrong i (Takes k ∷ ss) f d h =
     elim (bind_err (read_field k (field_at f i)) _ d h) [
@@ -141,19 +120,20 @@ at_wrong i (Takes k ∷ ss) f d h =
           ]
     ]
 
-field_fails : (k : Kind) (f : List ℕ) (r : Result Value ScriptKind) → read_field k f ≡ r → ((v : Value) × IsOf k v × (f ≡ spell v) → ⊥) → r ≡ Err (field_fault k)
+field_fails : (k : Kind) (f : List ℕ) (r : Result Value ScriptKind) → read_field k f ≡ r → ((v : Value) × IsOf k v × (f ≡ spell v) → ⊥)
+    → r ≡ Err (field_fault k)
 field_fails k f (Ok v) e never = let s = field_reads k f v e in absurd (never (v, s.is, s.text))
 field_fails k f (Err d) e never = ap Err (field_wrong k f d e)
 
 pub at_fails : (i : ℕ) (ss : List Step) (f : List (List ℕ)) (d : ScriptKind) → FirstWrong i ss f d → read_at i ss f ≡ Err d
 unfolding read_at
 at_fails i [] f d h = absurd h
-at_fails i (AtLeast n ∷ ss) f d (inl p) = let lt : length f < n = not_le (length f) n p.0 in rw (is_below (length f) n lt, p.1) refl
-at_fails i (AtLeast n ∷ ss) f d (inr p) = rw (isnt_below (length f) n p.0) (at_fails i ss f d p.1)
-at_fails i (Exactly n ∷ ss) f d (inl p) = rw (isnt_same (length f) n p.0, p.1) refl
-at_fails i (Exactly n ∷ ss) f d (inr p) = rw (is_same (length f) n p.0) (at_fails i ss f d p.1)
-at_fails i (AtMost j n ∷ ss) f d (inl p) = let lt : n < length (field_at f j) = not_le n (length (field_at f j)) p.0 in rw (is_below n (length (field_at f j)) lt, p.1) refl
-at_fails i (AtMost j n ∷ ss) f d (inr p) = rw (isnt_below n (length (field_at f j)) p.0) (at_fails i ss f d p.1)
+at_fails i (AtLeast n ∷ ss) f d (inl p) = let lt : length f < n = not_le (length f) n p.0 in rw (lt-ltb (length f) n lt, p.1) refl
+at_fails i (AtLeast n ∷ ss) f d (inr p) = rw (le-ltb (length f) n p.0) (at_fails i ss f d p.1)
+at_fails i (Exactly n ∷ ss) f d (inl p) = rw (ne_eqb (length f) n p.0, p.1) refl
+at_fails i (Exactly n ∷ ss) f d (inr p) = rw (eq-eqb (length f) n p.0) (at_fails i ss f d p.1)
+at_fails i (AtMost j n ∷ ss) f d (inl p) = let lt : n < length (field_at f j) = not_le n (length (field_at f j)) p.0 in rw (lt-ltb n (length (field_at f j)) lt, p.1) refl
+at_fails i (AtMost j n ∷ ss) f d (inr p) = rw (le-ltb n (length (field_at f j)) p.0) (at_fails i ss f d p.1)
 at_fails i (Takes k ∷ ss) f d (inl p) = rw (field_fails k (field_at f i) (read_field k (field_at f i)) refl p.0, p.1) refl
 at_fails i (Takes k ∷ ss) f d (inr p) = rw (spelled_at k (field_at f i) p.0.0 p.0.1 p.0.2, at_fails (suc i) ss f d p.1) refl
 
@@ -191,7 +171,8 @@ are_exact i (AtMost j n ∷ ss) f vs h = are_exact i ss f vs h.1
 are_exact i (Takes k ∷ ss) f [] h = absurd h
 are_exact i (Takes k ∷ ss) f (v ∷ vs) h = are_exact (suc i) ss f vs h.2
 
-open_width : (t : Bool) (n : ℕ) → Exacts (cond t (Exactly 4 ∷ Takes HexBytes ∷ []) (Exactly 3 ∷ [])) n → n ≡ 1 + suc (suc (taken (cond t (Exactly 4 ∷ Takes HexBytes ∷ []) (Exactly 3 ∷ []))))
+open_width : (t : Bool) (n : ℕ) → Exacts (cond t (Exactly 4 ∷ Takes HexBytes ∷ []) (Exactly 3 ∷ [])) n
+    → n ≡ 1 + suc (suc (taken (cond t (Exactly 4 ∷ Takes HexBytes ∷ []) (Exactly 3 ∷ []))))
 open_width true n h = h.0
 open_width false n h = h.0
 

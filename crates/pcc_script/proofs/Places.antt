@@ -18,7 +18,8 @@ pub record Stands (p m : ℕ) (r : Statement) : Type 0 where
   pub fields : AllRight 1 (steps_of r.word (fields_of r)) (fields_of r) r.values
 
 -- lines of one place, where those before leave room
-pub run_of : (p m : ℕ) (rs before : List Statement) → AllByRecursion (Stands p m) rs → next_of before ≤ p → count_at p before + length rs ≤ m → InOrder before rs
+pub run_of : (p m : ℕ) (rs before : List Statement) → AllByRecursion (Stands p m) rs → next_of before ≤ p → count_at p before + length rs ≤ m
+    → InOrder before rs
 run_of p m [] before h n c = tt
 run_of p m (r ∷ rs) before h n c =
     let at_p : place r.word ≡ p = h.0.place_is in
@@ -35,7 +36,8 @@ next_run p m [] h = omega arith
 next_run p m (r ∷ rs) h = let e = next_run p m rs h.1 in let b : behind r.word ≡ p = h.0.behind_is in omega arith
 
 -- one more run, behind lines of lower places
-pub more_run : (p m : ℕ) (before rs : List Statement) → InOrder [] before → next_of before < p → AllByRecursion (Stands p m) rs → length rs ≤ m → InOrder [] (before ++ rs) × (next_of (before ++ rs) ≤ p)
+pub more_run : (p m : ℕ) (before rs : List Statement) → InOrder [] before → next_of before < p → AllByRecursion (Stands p m) rs → length rs ≤ m
+    → InOrder [] (before ++ rs) × (next_of (before ++ rs) ≤ p)
 more_run p m before rs o n h l =
     let zero : count_at p before ≡ 0 = none_there p before n in
     let e = next_append before rs in
@@ -51,7 +53,8 @@ order_split before (r ∷ a) b h =
     ((h.0, p.0), subst (λ (rs : List Statement). InOrder rs b) (append_assoc before (r ∷ []) a) p.1)
 
 -- the lines of a place are no more than it allows
-pub run_len : (p m : ℕ) (rs before : List Statement) → AllByRecursion (Stands p m) rs → count_at p before ≤ m → InOrder before rs → count_at p before + length rs ≤ m
+pub run_len : (p m : ℕ) (rs before : List Statement) → AllByRecursion (Stands p m) rs → count_at p before ≤ m → InOrder before rs
+    → count_at p before + length rs ≤ m
 run_len p m [] before h n o = omega arith
 run_len p m (r ∷ rs) before h n o =
     let at_p : place r.word ≡ p = h.0.place_is in

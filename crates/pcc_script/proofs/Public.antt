@@ -26,7 +26,8 @@ only_err : (e : ScriptError) (rs : List Statement) (ls : Lines) → ls ≡ lines
 only_err error.NoMemory rs ls i h = refl
 only_err (error.Fault n k) rs ls i h = let f : ls.fault ≡ None = ap (λ (l : Lines). l.fault) i in cc
 
-pub is_only : (text : List ℕ) (r : Result Scenario ScriptError) (s : Scenario) → Tells statements_of r (read_text text) → IsScenario s → text ≡ script_text s → IsReadAs s r
+pub is_only : (text : List ℕ) (r : Result Scenario ScriptError) (s : Scenario) → Tells statements_of r (read_text text) → IsScenario s
+    → text ≡ script_text s → IsReadAs s r
 unfolding script_text
 is_only text (Ok t) s h ok e = same_scenario t s (right_same (statements_of t) (statements_of s) (sym h ∙ reads_again text (statements_of s) ok.right ok.whole e))
 is_only text (Err d) s h ok e = only_err d (statements_of s) (read_text text) (reads_again text (statements_of s) ok.right ok.whole e) h
@@ -36,7 +37,8 @@ is_wrong text (Ok s) h = tt
 is_wrong text (Err error.NoMemory) h = tt
 is_wrong text (Err (error.Fault n k)) h = reads_wrong text k n h.0 h.1
 
-pub is_first : (text : List ℕ) (r : Result Scenario ScriptError) (line : ℕ) (kind : ScriptKind) → Tells statements_of r (read_text text) → TextWrong text line kind → IsRefusedAt line kind r
+pub is_first : (text : List ℕ) (r : Result Scenario ScriptError) (line : ℕ) (kind : ScriptKind) → Tells statements_of r (read_text text)
+    → TextWrong text line kind → IsRefusedAt line kind r
 is_first text (Ok s) n k h w =
     let m = reads_fails text n k w in
     let f : (read_text text).fault ≡ None = ap (λ (l : Lines). l.fault) h in

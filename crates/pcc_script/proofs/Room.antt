@@ -7,7 +7,7 @@ use Rattle.pcc_script.specs.declared.word.Word.TheVariants as word
 use Rattle.pcc_script.specs.Rows.{most, place}
 use Rattle.pcc_script.specs.Reading.{count_for, seen_after, start}
 use Rattle.pcc_script.proofs.Counting.{place_behind}
-use Rattle.pcc_script.proofs.Lines.{not_same, same}
+use Rattle.std.proofs.lemmas.Bool.{eqb-false, eqb-true}
 
 -- how many lines there may be at a place
 abbrev pub most_at : ℕ → ℕ
@@ -74,21 +74,23 @@ pub record Counted (line : ℕ) (seen : Seen) : Type 0 where
 pub counted_start : Counted 1 start
 counted_start = record { from = omega arith; full = omega arith; few = omega arith; short = omega arith }
 
-few_case : (t : Bool) (line : ℕ) (seen : Seen) (w : Word) → Counted line seen → seen.next ≤ place w → eqb (place w) seen.place ≡ t → line ≤ below_place (place w) + cond t seen.count 0 + 1
+few_case : (t : Bool) (line : ℕ) (seen : Seen) (w : Word) → Counted line seen → seen.next ≤ place w → eqb (place w) seen.place ≡ t
+    → line ≤ below_place (place w) + cond t seen.count 0 + 1
 few_case true line seen w c le e =
-    let b : below_place (place w) ≡ below_place seen.place = ap below_place (same (place w) seen.place e) in
+    let b : below_place (place w) ≡ below_place seen.place = ap below_place (eqb-true (place w) seen.place e) in
     let few : line ≤ below_place seen.place + seen.count + 1 = c.few in
     omega arith
 few_case false line seen w c le e =
     let from : seen.place ≤ seen.next = c.from in
     let full : seen.count ≤ most_at seen.place = c.full in
     let few : line ≤ below_place seen.place + seen.count + 1 = c.few in
-    let other : place w ≡ seen.place → ⊥ = not_same (place w) seen.place e in
+    let other : place w ≡ seen.place → ⊥ = eqb-false (place w) seen.place e in
     let above : suc seen.place ≤ place w = grind arith in
     let b : below_place seen.place + most_at seen.place ≤ below_place (place w) = below_le (suc seen.place) (place w) above in
     omega arith
 
-pub counted_more : (line : ℕ) (seen : Seen) (w : Word) → seen.next ≤ place w → count_for seen w < most w → Counted line seen → Counted (line + 1) (seen_after seen w)
+pub counted_more : (line : ℕ) (seen : Seen) (w : Word) → seen.next ≤ place w → count_for seen w < most w → Counted line seen
+    → Counted (line + 1) (seen_after seen w)
 counted_more line seen w le room c =
     let few : line ≤ below_place (place w) + count_for seen w + 1 = few_case (eqb (place w) seen.place) line seen w c le refl in
     let e : most w ≡ most_at (place w) = most_is w in

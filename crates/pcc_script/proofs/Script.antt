@@ -7,44 +7,16 @@ use Rattle.std.proofs.lemmas.Bool.{and_parts, leb-true}
 use Rattle.std.proofs.lemmas.List.{append_assoc, append-nil}
 use Rattle.std.proofs.lemmas.List.Splits.{slice_split_none, slice_split_at}
 use Rattle.std.proofs.lemmas.Grind.{flat_map-append}
-use Rattle.pcc_bytes.specs.Fields.{split_at, line_text}
+use Rattle.pcc_bytes.specs.Fields.{front_of, last_in, last_of, line_text, lines_of, split_at}
 use Rattle.pcc_text.proofs.Laws.{lacks, EachLacks, text_of_parts, All-from_lacks}
 use Rattle.pcc_script.specs.declared.fault.ScriptKind.{ScriptKind}
 use Rattle.pcc_script.specs.declared.fault.ScriptKind.TheVariants as kind
 use Rattle.pcc_script.specs.Text.{Statement, line_of, count_at, InOrder, IsWhole, statements_text}
 use Rattle.pcc_script.specs.Faults.{TextWrong, AtLine, NoEnd, NotWhole}
-use Rattle.pcc_script.specs.Reading.{Lines, with_front, read_lines, start, front_of, last_of, is_whole, end_fault, ended_by, ended, read_text}
+use Rattle.pcc_script.specs.Reading.{Lines, with_front, read_lines, start, is_whole, end_fault, ended_by, ended, read_text}
 use Rattle.pcc_script.proofs.Sequence.{sees_start, statement_one, EndsSo, lines_read, lines_again, lines_fail}
 use Rattle.pcc_script.proofs.Going.{Met}
-use Rattle.pcc_script.proofs.Parts.{front_push, last_push, parts_are, split_some}
-
--- ---- parts
-
-lacks_onto : (c x : ℕ) (ps : List (List ℕ)) → eqb x c ≡ false → EachLacks c ps → EachLacks c (onto_first x ps)
-lacks_onto c x [] e h = (rw e refl, tt)
-lacks_onto c x (p ∷ ps) e h = (rw e h.0, h.1)
-
-split_case : (c x : ℕ) (t : Bool) (ps : List (List ℕ)) → eqb x c ≡ t → EachLacks c ps → EachLacks c (cond t ([] ∷ ps) (onto_first x ps))
-split_case c x true ps e h = (refl, h)
-split_case c x false ps e h = lacks_onto c x ps e h
-
-split_lacks : (c : ℕ) (bs : List ℕ) → EachLacks c (split_at c bs)
-split_lacks c [] = (refl, tt)
-split_lacks c (x ∷ xs) = split_case c x (eqb x c) (split_at c xs) refl (split_lacks c xs)
-
-each_front : (c : ℕ) (ls : List (List ℕ)) (x : List ℕ) (ms : List (List ℕ)) → EachLacks c (ls ++ x ∷ ms) → lacks c x ≡ true
-each_front c [] x ms h = h.0
-each_front c (l ∷ ls) x ms h = each_front c ls x ms h.1
-
--- lines joined, with bytes behind the last line feed
-join_is : (ls : List (List ℕ)) (x : List ℕ) → join_with_byte 10 (ls ++ x ∷ []) ≡ flat_map line_text ls ++ x
-join_is [] x = refl
-join_is (l ∷ []) x = sym (append_assoc l (10 ∷ []) x) ∙ ap (λ (v : List ℕ). v ++ x) (sym (append-nil (l ++ 10 ∷ [])))
-join_is (l ∷ m ∷ ms) x =
-    ap (λ (v : List ℕ). l ++ 10 ∷ v) (join_is (m ∷ ms) x) ∙ sym (append_assoc l (10 ∷ []) (flat_map line_text (m ∷ ms) ++ x)) ∙ sym (append_assoc (l ++ 10 ∷ []) (flat_map line_text (m ∷ ms)) x)
-
-text_is : (text : List ℕ) → text ≡ flat_map line_text (front_of (split_at 10 text)) ++ last_of (split_at 10 text)
-text_is text = text_of_parts 10 text (front_of (split_at 10 text) ++ last_of (split_at 10 text) ∷ []) (parts_are (split_at 10 text) (split_some 10 text)) ∙ join_is (front_of (split_at 10 text)) (last_of (split_at 10 text))
+use Rattle.pcc_text.proofs.Lines.{each_front, front_lacks, front_push, last_push, parts_are, split_more, split_some, text_is}
 
 -- ---- what is read
 
@@ -71,11 +43,13 @@ abbrev Ended : List ℕ → Option ScriptKind → List Statement → Type 0
 Ended text None rs = Found text rs
 Ended text (Some k) rs = TextWrong text (suc (length rs)) k
 
-missing_case : (t : Bool) (text : List ℕ) (rs : List Statement) → is_whole rs ≡ t → InOrder [] rs → text ≡ statements_text rs → Ended text (cond t None (Some kind.Missing)) rs
+missing_case : (t : Bool) (text : List ℕ) (rs : List Statement) → is_whole rs ≡ t → InOrder [] rs → text ≡ statements_text rs
+    → Ended text (cond t None (Some kind.Missing)) rs
 missing_case true text rs e h is = record { order = h; whole = whole_from rs e; is = is }
 missing_case false text rs e h is = NotWhole rs h (λ w. let t : is_whole rs ≡ true = whole_is rs w in cc) is
 
-end_case : (text : List ℕ) (rs : List Statement) (last : List ℕ) → InOrder [] rs → lacks 10 last ≡ true → text ≡ statements_text rs ++ last → Ended text (end_fault rs last) rs
+end_case : (text : List ℕ) (rs : List Statement) (last : List ℕ) → InOrder [] rs → lacks 10 last ≡ true → text ≡ statements_text rs ++ last
+    → Ended text (end_fault rs last) rs
 end_case text rs [] h l is = missing_case (is_whole rs) text rs refl h (is ∙ append-nil (statements_text rs))
 end_case text rs (b ∷ bs) h l is = NoEnd rs (b ∷ bs) h l (omega arith) is
 
@@ -96,10 +70,9 @@ fault_case (Some k) text rs lines last h s l is =
 read_ended : (text : List ℕ) → let e = read_text text in Ended text e.fault e.right
 unfolding read_text
 read_ended text =
-    let ps = split_at 10 text in
-    let ls = read_lines start (front_of ps) in
-    let r = lines_read (front_of ps) start [] sees_start in
-    fault_case ls.fault text ls.right (front_of ps) (last_of ps) r.order r.ends (subst (EachLacks 10) (parts_are ps (split_some 10 text)) (split_lacks 10 text)) (text_is text)
+    let ls = read_lines start (lines_of text) in
+    let r = lines_read (lines_of text) start [] sees_start in
+    fault_case ls.fault text ls.right (lines_of text) (last_in text) r.order r.ends (front_lacks text) (text_is text)
 
 pub reads_found : (text : List ℕ) (rs : List Statement) → read_text text ≡ record { right = rs; fault = None } → Found text rs
 reads_found text rs e = let P : Lines → Type 0 = λ ls. Ended text ls.fault ls.right in subst P e (read_ended text)
@@ -112,18 +85,13 @@ reads_wrong text k n e l =
 
 -- ---- what is right is read, and what is wrong is the fault
 
-split_more : (lines : List (List ℕ)) (tail : List ℕ) → EachLacks 10 lines → split_at 10 (flat_map line_text lines ++ tail) ≡ lines ++ split_at 10 tail
-split_more [] tail h = refl
-split_more (x ∷ xs) tail h =
-    let re : flat_map line_text (x ∷ xs) ++ tail ≡ x ++ 10 ∷ (flat_map line_text xs ++ tail) = simp append_assoc in
-    ap (split_at 10) re ∙ slice_split_at (λ b. eqb b 10) x 10 (flat_map line_text xs ++ tail) (All-from_lacks 10 x h.0) refl ∙ ap (λ (v : List (List ℕ)). x ∷ v) (split_more xs tail h.1)
-
 statements_lack : (before rs : List Statement) → InOrder before rs → EachLacks 10 (map line_of rs)
 statements_lack before [] h = tt
 statements_lack before (r ∷ rs) h = (statement_one before r h.0, statements_lack (before ++ r ∷ []) rs h.1)
 
 -- what is read, where the text is cut so
-read_cut : (text : List ℕ) (lines : List (List ℕ)) (last : List ℕ) → split_at 10 text ≡ lines ++ last ∷ [] → read_text text ≡ ended (read_lines start lines) last
+read_cut : (text : List ℕ) (lines : List (List ℕ)) (last : List ℕ) → split_at 10 text ≡ lines ++ last ∷ []
+    → read_text text ≡ ended (read_lines start lines) last
 unfolding read_text
 read_cut text lines last e = rw (e, front_push lines last, last_push lines last) refl
 
@@ -135,7 +103,8 @@ read_right rs h =
     let a = lines_again rs start [] [] sees_start h in
     ap (read_lines start) (sym (append-nil (map line_of rs))) ∙ a.is ∙ ap right_lines (append-nil rs)
 
-pub reads_again : (text : List ℕ) (rs : List Statement) → InOrder [] rs → IsWhole rs → text ≡ statements_text rs → read_text text ≡ record { right = rs; fault = None }
+pub reads_again : (text : List ℕ) (rs : List Statement) → InOrder [] rs → IsWhole rs → text ≡ statements_text rs
+    → read_text text ≡ record { right = rs; fault = None }
 unfolding statements_text
 reads_again text rs h w e =
     let cut : split_at 10 text ≡ map line_of rs ++ [] ∷ [] = ap (split_at 10) (e ∙ sym (append-nil (flat_map line_text (map line_of rs)))) ∙ split_more (map line_of rs) [] (statements_lack [] rs h) in

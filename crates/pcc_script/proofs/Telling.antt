@@ -1,6 +1,7 @@
 -- Right lines that are whole are those of a scenario, so that a text spells one or has a fault.
 use Rattle.std.proofs.Common.{◌≡◌, ℕ, zero, suc, ◌≤◌, max, Bool, true, false, cond, List, [], ◌∷◌, ◌++◌, length, refl, sym, ap, ◌∙◌, subst, arith, lit<, ◌⊎◌, inl, inr}
 use Rattle.std.specs.Prelude.{Option, Some, None, codes, bytes_eq}
+use Rattle.std.proofs.lemmas.Bool.{both_ways}
 use Rattle.std.proofs.lemmas.List.{append_assoc, append-nil}
 use Rattle.pcc_script.specs.declared.word.Word.{Word}
 use Rattle.pcc_script.specs.declared.word.Word.TheVariants as word
@@ -260,7 +261,8 @@ line_more before p r e h =
     subst M en.1 (entry_more p en.0 (subst E (sym en.1) (empty_later (next_of before) (place r.word) p h.placed e)))
 
 -- right lines are those of something read
-grown : (before rs : List Statement) (p : Partial) → so_far p ≡ before → Empty (next_of before) p → InOrder before rs → (q : Partial) × (so_far q ≡ before ++ rs)
+grown : (before rs : List Statement) (p : Partial) → so_far p ≡ before → Empty (next_of before) p → InOrder before rs
+    → (q : Partial) × (so_far q ≡ before ++ rs)
 grown before [] p s e h = (p, s ∙ sym (append-nil before))
 grown before (r ∷ rs) p s e h =
     let m = line_more before p r e h.0 in
@@ -285,18 +287,16 @@ empty_nothing = record { table = λ h. refl; clock = λ h. refl; opens = λ h. r
 abbrev IsSpelled : List Statement → Type 0
 IsSpelled rs = (s : Scenario) × (rs ≡ statements_of s)
 
-not_whole : {X : Type 0} (b : Bool) → b ≡ true → b ≡ false → X
-not_whole b e f = cc
-
-opened : (q : Partial) (t : List ℕ) (c : ClockLine) → q.table ≡ Some t → q.clock ≡ Some c → is_whole (so_far q) ≡ true → (n : ℕ) → length q.opens ≡ n → IsSpelled (so_far q)
-opened q t c e k w zero o = not_whole (is_whole (so_far q)) w (no_opens q o)
+opened : (q : Partial) (t : List ℕ) (c : ClockLine) → q.table ≡ Some t → q.clock ≡ Some c → is_whole (so_far q) ≡ true → (n : ℕ) → length q.opens ≡ n
+    → IsSpelled (so_far q)
+opened q t c e k w zero o = absurd (both_ways (is_whole (so_far q)) (no_opens q o) w)
 opened q t c e k w (suc n) o =
     let s : Scenario = record { table = t; start = c.start; step = c.step; opens = q.opens; cpus = q.cpus; caps = q.caps; actions = q.actions; picks = q.picks } in
     (s, (completed q [] t c refl e k (omega arith)).1)
 
 whole_is_spelled : (q : Partial) (t : Option (List ℕ)) (c : Option ClockLine) → q.table ≡ t → q.clock ≡ c → is_whole (so_far q) ≡ true → IsSpelled (so_far q)
-whole_is_spelled q None c e k w = not_whole (is_whole (so_far q)) w (no_table q e)
-whole_is_spelled q (Some t) None e k w = not_whole (is_whole (so_far q)) w (no_clock q k)
+whole_is_spelled q None c e k w = absurd (both_ways (is_whole (so_far q)) (no_table q e) w)
+whole_is_spelled q (Some t) None e k w = absurd (both_ways (is_whole (so_far q)) (no_clock q k) w)
 whole_is_spelled q (Some t) (Some c) e k w = opened q t c e k w (length q.opens) refl
 
 pub right_is_spelled : (rs : List Statement) → InOrder [] rs → IsWhole rs → IsSpelled rs

@@ -55,7 +55,8 @@ head_right t a b h i j = (
   (record { placed = omega arith; few = omega arith; fields = (refl, ((a, refl, i), refl, ((b, refl, j), refl, refl))) }, tt),
 )
 
-picks_right : (before : List Statement) (o : Option (List Letter)) → InOrder [] before → next_of before < 6 → IfSome o (λ ls. (1 ≤ length ls) × (length ls ≤ MAX_LETTERS)) → InOrder [] (before ++ pick_statements o)
+picks_right : (before : List Statement) (o : Option (List Letter)) → InOrder [] before → next_of before < 6
+    → IfSome o (λ ls. (1 ≤ length ls) × (length ls ≤ MAX_LETTERS)) → InOrder [] (before ++ pick_statements o)
 picks_right before None r n h = subst (InOrder []) (sym (append-nil before)) r
 picks_right before (Some ls) r n h =
     let zero : count_at 6 before ≡ 0 = none_there 6 before n in
@@ -118,11 +119,13 @@ open_in id Bank h = record { id = number_in Id id h.1.0; device = tt }
 open_in id (Cppc image) h = record { id = number_in Id id h.1.0; device = bytes_in image h.1.2.2.1.0 }
 
 -- of each line of a list, what its fields say
-each_in : {A : Type 0} (f : A → Statement) (P : A → Type 0) → ((x : A) → FieldsRight (f x) → P x) → (xs : List A) (before : List Statement) → InOrder before (map f xs) → AllByRecursion P xs
+each_in : {A : Type 0} (f : A → Statement) (P : A → Type 0) → ((x : A) → FieldsRight (f x) → P x) → (xs : List A) (before : List Statement)
+    → InOrder before (map f xs) → AllByRecursion P xs
 each_in f P g [] before h = tt
 each_in f P g (x ∷ xs) before h = (g x h.0.fields, each_in f P g xs (before ++ f x ∷ []) h.1)
 
-picks_in : (before : List Statement) (o : Option (List Letter)) → InOrder before (pick_statements o) → IfSome o (λ ls. (1 ≤ length ls) × (length ls ≤ MAX_LETTERS))
+picks_in : (before : List Statement) (o : Option (List Letter)) → InOrder before (pick_statements o)
+    → IfSome o (λ ls. (1 ≤ length ls) × (length ls ≤ MAX_LETTERS))
 picks_in before None h = tt
 picks_in before (Some ls) h =
     let f = h.0.fields in

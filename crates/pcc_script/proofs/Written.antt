@@ -13,25 +13,6 @@ use Rattle.pcc_script.specs.Rows.{letter_text, spell, text_of, Value}
 use Rattle.pcc_script.specs.Text.{action_statement, cap_statement, clock_statement, cpu_statement, line_of, open_statement, pick_statement, pick_statements, script_text, Statement, statements_text, table_statement}
 use Rattle.pcc_script.specs.Writing.{spaced, statement_text, statement_with, value_of}
 
--- ---- lists that are written item by item
-
--- of a list that is written item by item, each by f, the first i are written behind what was there first
-pub record Writing {A : Type 0} (f : A → List ℕ) (first out : List ℕ) (xs : List A) (i : ℕ) : Type 0 where
-  pub whole : out ++ flat_map f (drop i xs) ≡ first ++ flat_map f xs
-
-pub writing_start : {A : Type 0} (f : A → List ℕ) (out : List ℕ) (xs : List A) → Writing f out out xs 0
-writing_start f out xs = record { whole = refl }
-
-pub writing_more : {A : Type 0} (f : A → List ℕ) (first out out' : List ℕ) (xs : List A) (i : ℕ) (d : A) → i < length xs → out' ≡ out ++ f (get_or xs i d) → Writing f first out xs i → Writing f first out' xs (i + 1)
-writing_more f first out out' xs i d lt e w =
-    let step : flat_map f (drop i xs) ≡ f (get_or xs i d) ++ flat_map f (drop (i + 1) xs) = ap (flat_map f) (drop_more xs i d lt) in
-    record { whole = ap (λ (o : List ℕ). o ++ flat_map f (drop (i + 1) xs)) e ∙ append_assoc out (f (get_or xs i d)) (flat_map f (drop (i + 1) xs)) ∙ ap (λ (t : List ℕ). out ++ t) (sym step) ∙ w.whole }
-
-pub writing_end : {A : Type 0} (f : A → List ℕ) (first out : List ℕ) (xs : List A) (i : ℕ) → length xs ≤ i → Writing f first out xs i → out ≡ first ++ flat_map f xs
-writing_end f first out xs i le w =
-    let none : flat_map f (drop i xs) ≡ [] = ap (flat_map f) (drop_all i xs le) in
-    sym (append-nil out) ∙ ap (λ (t : List ℕ). out ++ t) (sym none) ∙ w.whole
-
 -- ---- fields
 
 abbrev pub one_letter : Letter → List ℕ
@@ -71,7 +52,8 @@ pub picks_none : (out : List ℕ) (o : Option (List Letter)) → o ≡ None → 
 unfolding statements_text
 picks_none out o e = rw e (sym (append-nil out))
 
-pub picks_some : (out : List ℕ) (o : Option (List Letter)) (ls : List Letter) → o ≡ Some ls → out ++ statement_text (pick_statement ls) ≡ out ++ statements_text (pick_statements o)
+pub picks_some : (out : List ℕ) (o : Option (List Letter)) (ls : List Letter) → o ≡ Some ls
+    → out ++ statement_text (pick_statement ls) ≡ out ++ statements_text (pick_statements o)
 unfolding statements_text statement_text
 picks_some out o ls e = rw e (ap (λ (t : List ℕ). out ++ t) (sym (append-nil (line_text (line_of (pick_statement ls))))))
 
@@ -86,7 +68,8 @@ unfolding statements_text statement_text
 text_cons r rs = refl
 
 -- the texts of its parts, one behind the other
-pub scenario_written : (s : Scenario) → (((((statement_text (table_statement s.table) ++ statement_text (clock_statement s.start s.step)) ++ statements_text (map open_statement s.opens)) ++ statements_text (map cpu_statement s.cpus)) ++ statements_text (map cap_statement s.caps)) ++ statements_text (map action_statement s.actions)) ++ statements_text (pick_statements s.picks) ≡ script_text s
+pub scenario_written : (s : Scenario)
+    → (((((statement_text (table_statement s.table) ++ statement_text (clock_statement s.start s.step)) ++ statements_text (map open_statement s.opens)) ++ statements_text (map cpu_statement s.cpus)) ++ statements_text (map cap_statement s.caps)) ++ statements_text (map action_statement s.actions)) ++ statements_text (pick_statements s.picks) ≡ script_text s
 unfolding script_text
 scenario_written s =
     let o = map open_statement s.opens in let c = map cpu_statement s.cpus in let p = map cap_statement s.caps in let a = map action_statement s.actions in let k = pick_statements s.picks in

@@ -1,8 +1,9 @@
--- The limits of a scenario, said of its fields alone.
+-- The limits of a scenario, as facts of its fields alone.
 use Rattle.std.specs.Prelude.{ℕ, ◌≤◌, ◌-◌, ◌^◌, length, IfSome}
 use Rattle.std.specs.List.{AllByRecursion}
 use Rattle.pcc_bytes.specs.Bytes.{IsBytes}
-use Rattle.pcc_script.specs.declared.limits.TheConstants.{MAX_ACTIONS, MAX_CAPS, MAX_CODE, MAX_CPU, MAX_CPUS, MAX_HOLD, MAX_ID, MAX_LETTERS, MAX_OPENS, MAX_POLLS, MAX_WORKER}
+use Rattle.pcc_script.specs.declared.limits.TheConstants.{MAX_CODE, MAX_CPU, MAX_HOLD, MAX_ID, MAX_POLLS, MAX_WORKER}
+use Rattle.pcc_script.specs.declared.limits.TheConstants.{MAX_ACTIONS, MAX_CAPS, MAX_CPUS, MAX_LETTERS, MAX_OPENS}
 use Rattle.pcc_script.specs.declared.scenario.Device.{Device}
 use Rattle.pcc_script.specs.declared.scenario.Device.TheVariants.{Bank, Cppc}
 use Rattle.pcc_script.specs.declared.scenario.Line.{Line}
@@ -39,9 +40,11 @@ pub record IsBudget (polls hold : ℕ) : Type 0 where
 
 -- an action within the limits
 abbrev pub IsAction : Line → Type 0
-IsAction (line.Call worker subspace code bytes polls hold) = (worker ≤ MAX_WORKER) × (subspace ≤ MAX_ID) × (code ≤ MAX_CODE) × IsBytes bytes × IsBudget polls hold
+IsAction (line.Call worker subspace code bytes polls hold) =
+    (worker ≤ MAX_WORKER) × (subspace ≤ MAX_ID) × (code ≤ MAX_CODE) × IsBytes bytes × IsBudget polls hold
 IsAction (line.Read worker cpu polls hold) = (worker ≤ MAX_WORKER) × (cpu ≤ MAX_CPU) × IsBudget polls hold
-IsAction (line.Set worker wish polls hold) = (worker ≤ MAX_WORKER) × (wish.cpu ≤ MAX_CPU) × IfSome wish.min IsU64 × IsU64 wish.desired × IfSome wish.max IsU64 × IsBudget polls hold
+IsAction (line.Set worker wish polls hold) =
+    (worker ≤ MAX_WORKER) × (wish.cpu ≤ MAX_CPU) × IfSome wish.min IsU64 × IsU64 wish.desired × IfSome wish.max IsU64 × IsBudget polls hold
 IsAction (line.Wait n) = IsU64 n
 
 -- each number, the number of lines of each kind and the number of letters are within their limits

@@ -1,6 +1,7 @@
 -- How the code reads a text, from left to right, as functions on lists. Only contracts of private functions cite these.
-use Rattle.std.specs.Prelude.{◌≡◌, ◌<◌, ℕ, zero, suc, ◌==◌, ◌&&◌, nat_lt, nat_le, Bool, if◌then◌else◌, List, [], ◌∷◌, ◌++◌, length, map, Option, Some, None, Result, Ok, Err, codes, bytes_eq}
-use Rattle.pcc_bytes.specs.Fields.{split_at}
+use Rattle.std.specs.Prelude.{◌≡◌, ◌<◌, ℕ, zero, suc, ◌==◌, ◌&&◌, nat_lt, nat_le, Bool, if◌then◌else◌, List, [], ◌∷◌, ◌++◌, length, map, Option, Some}
+use Rattle.std.specs.Prelude.{None, Result, Ok, Err, codes, bytes_eq}
+use Rattle.pcc_bytes.specs.Fields.{last_in, lines_of, split_at}
 use Rattle.pcc_text.specs.Reading.{hex_of, number_of}
 use Rattle.pcc_script.specs.declared.fault.ScriptError.{ScriptError}
 use Rattle.pcc_script.specs.declared.fault.ScriptError.TheVariants as error
@@ -18,8 +19,11 @@ use Rattle.pcc_script.specs.declared.scenario.Letter.TheVariants.{O, P}
 use Rattle.pcc_script.specs.declared.scenario.Scenario.{Scenario}
 use Rattle.pcc_script.specs.declared.word.Word.{Word}
 use Rattle.pcc_script.specs.declared.word.Word.TheVariants as word
-use Rattle.pcc_script.specs.Rows.{Any, AtLeast, AtMost, behind, DeviceText, Exactly, field_at, HexBytes, Kind, LetterText, most, most_of, NamedBank, NamedCppc, OfBytes, OfDevice, OfLetters, OfNumber, OfOptional, Optional, place, Positive, Step, steps_of, Takes, text_of, Value, Whole, words}
-use Rattle.pcc_script.specs.Text.{action_statement, cap_statement, clock_statement, count_at, cpu_statement, open_statement, pick_statement, pick_statements, Statement, statements_of, table_statement}
+use Rattle.pcc_script.specs.Rows.{Any, AtLeast, AtMost, behind, DeviceText, Exactly, field_at, HexBytes, Kind, LetterText, most, most_of, NamedBank}
+use Rattle.pcc_script.specs.Rows.{NamedCppc, OfBytes, OfDevice, OfLetters, OfNumber, OfOptional, Optional, place, Positive, Step, steps_of, Takes}
+use Rattle.pcc_script.specs.Rows.{text_of, Value, Whole, words}
+use Rattle.pcc_script.specs.Text.{action_statement, cap_statement, clock_statement, count_at, cpu_statement, open_statement, pick_statement}
+use Rattle.pcc_script.specs.Text.{pick_statements, Statement, statements_of, table_statement}
 
 infixl 10 ◌>>=◌
 abbrev pub ◌>>=◌ : {A B : Type 0} → Result A ScriptKind → (A → Result B ScriptKind) → Result B ScriptKind
@@ -81,7 +85,9 @@ read_field (Whole limit) f = number_value (number_of (most_of limit) f)
 read_field (Positive limit) f = positive_value (number_of (most_of limit) f)
 read_field Optional f = if bytes_eq f (45 ∷ []) then Ok (OfOptional None) else some_value (number_of (most_of Any) f)
 read_field HexBytes f = bytes_value (hex_of f)
-read_field DeviceText f = if bytes_eq f (codes "cppc") then Ok (OfDevice NamedCppc) else if bytes_eq f (codes "bank") then Ok (OfDevice NamedBank) else Err kind.Name
+read_field DeviceText f =
+    if bytes_eq f (codes "cppc") then Ok (OfDevice NamedCppc)
+    else if bytes_eq f (codes "bank") then Ok (OfDevice NamedBank) else Err kind.Name
 read_field LetterText f = letters_value (letters_of f)
 
 -- ---- a line
@@ -112,7 +118,7 @@ statement_of w f = do
   vs ← read_at 1 (steps_of w f) f
   Ok (record { word = w; values = vs })
 
--- how many lines so far stand at the place of a word
+-- how many lines so far are at the place of a word
 abbrev pub count_for : Seen → Word → ℕ
 count_for seen w = if place w == seen.place then seen.count else 0
 
@@ -156,7 +162,8 @@ abbrev pub read_lines : Seen → List (List ℕ) → Lines
 read_lines seen [] = record { right = []; fault = None }
 read_lines seen (line ∷ lines) = go_on (read_statement seen (split_at 32 line)) (λ (s : Statement). read_lines (seen_after seen s.word) lines)
 
--- what a function told of lines: what it returned, seen by a view, is all of them, or it named the number of the first that is wrong, and its fault
+-- what a function reported of lines: what it returned, seen by a view, is all of them, or it named the number of the first that is wrong,
+-- and its fault
 abbrev pub Blames : ScriptError → Lines → Type 0
 Blames error.NoMemory read = Unit {0}
 Blames (error.Fault n k) read = (read.fault ≡ Some k) × (suc (length read.right) ≡ n)
@@ -177,7 +184,9 @@ clocks (Some c) = clock_statement c.start c.step ∷ []
 
 -- the lines of what is read so far
 abbrev pub so_far : Partial → List Statement
-so_far p = tables p.table ++ (clocks p.clock ++ (map open_statement p.opens ++ (map cpu_statement p.cpus ++ (map cap_statement p.caps ++ (map action_statement p.actions ++ pick_statements p.picks)))))
+so_far p =
+    tables p.table ++ (clocks p.clock ++ (map open_statement p.opens ++ (map cpu_statement p.cpus ++ (map cap_statement p.caps
+    ++ (map action_statement p.actions ++ pick_statements p.picks)))))
 
 -- what still has to be empty, where `next` is the least place of the next line
 pub record Empty (next : ℕ) (p : Partial) : Type 0 where
@@ -191,26 +200,16 @@ pub record Empty (next : ℕ) (p : Partial) : Type 0 where
 
 -- ---- a text
 
--- the parts before the last
-abbrev pub front_of : List (List ℕ) → List (List ℕ)
-front_of [] = []
-front_of (x ∷ []) = []
-front_of (x ∷ y ∷ ys) = x ∷ front_of (y ∷ ys)
-
-abbrev pub last_of : List (List ℕ) → List ℕ
-last_of [] = []
-last_of (x ∷ []) = x
-last_of (x ∷ y ∷ ys) = last_of (y ∷ ys)
-
 abbrev pub is_whole : List Statement → Bool
-is_whole statements = nat_le 1 (count_at (place word.Table) statements) && (nat_le 1 (count_at (place word.Clock) statements) && nat_le 1 (count_at (place word.Open) statements))
+is_whole statements =
+    nat_le 1 (count_at (place word.Table) statements) && (nat_le 1 (count_at (place word.Clock) statements) && nat_le 1 (count_at (place word.Open) statements))
 
--- what is wrong behind the last line feed, where these bytes stand there
+-- what is wrong after the last line feed, where these bytes are
 abbrev pub end_fault : List Statement → List ℕ → Option ScriptKind
 end_fault statements [] = if is_whole statements then None else Some kind.Missing
 end_fault statements (b ∷ bs) = Some kind.Newline
 
--- a function took these lines to the scenario that they are, or told what is wrong behind the last line feed
+-- a function took these lines to the scenario that they are, or reported what is wrong after the last line feed
 abbrev pub Completes : Result Scenario ScriptKind → List Statement → List ℕ → Type 0
 Completes (Ok s) statements last = (end_fault statements last ≡ None) × (statements ≡ statements_of s)
 Completes (Err k) statements last = end_fault statements last ≡ Some k
@@ -223,4 +222,4 @@ abbrev pub ended : Lines → List ℕ → Lines
 ended ls last = ended_by ls.fault ls.right last
 
 unfoldable pub read_text : List ℕ → Lines
-read_text text = ended (read_lines start (front_of (split_at 10 text))) (last_of (split_at 10 text))
+read_text text = ended (read_lines start (lines_of text)) (last_in text)

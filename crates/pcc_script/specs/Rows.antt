@@ -1,8 +1,10 @@
 -- The language as rows of data: of each word its text, the place of its lines, how many there may be, and the tests of a line from left to right.
-use Rattle.std.specs.Prelude.{◌≡◌, ◌≤◌, ◌-◌, ◌^◌, ℕ, if◌then◌else◌, List, [], ◌∷◌, length, map, slice_index_or, Option, Some, None, IfSome, decimal, codes, bytes_eq}
+use Rattle.std.specs.Prelude.{◌≡◌, ◌≤◌, ◌-◌, ◌^◌, ℕ, if◌then◌else◌, List, [], ◌∷◌, length, map, slice_index_or, Option, Some, None, IfSome, decimal}
+use Rattle.std.specs.Prelude.{codes, bytes_eq}
 use Rattle.pcc_bytes.specs.Bytes.{IsBytes}
 use Rattle.pcc_bytes.specs.Fields.{hex_text}
-use Rattle.pcc_script.specs.declared.limits.TheConstants.{MAX_ACTIONS, MAX_CAPS, MAX_CODE, MAX_CPU, MAX_CPUS, MAX_HOLD, MAX_ID, MAX_LETTERS, MAX_OPENS, MAX_POLLS, MAX_WORKER}
+use Rattle.pcc_script.specs.declared.limits.TheConstants.{MAX_ACTIONS, MAX_CAPS, MAX_CODE, MAX_CPU, MAX_CPUS, MAX_HOLD, MAX_ID, MAX_LETTERS}
+use Rattle.pcc_script.specs.declared.limits.TheConstants.{MAX_OPENS, MAX_POLLS, MAX_WORKER}
 use Rattle.pcc_script.specs.declared.word.Word.{Word}
 use Rattle.pcc_script.specs.declared.word.Word.TheVariants as word
 use Rattle.pcc_script.specs.declared.scenario.Letter.{Letter}
@@ -30,7 +32,7 @@ abbrev pub letter_text : Letter → ℕ
 letter_text O = 111
 letter_text P = 112
 
--- the one text of a value: numbers in decimal, bytes in hexadecimal, `-` where there is no number
+-- the one text of a value: numbers in decimal, bytes in hexadecimal, `-` if there is no number
 abbrev pub spell : Value → List ℕ
 spell (OfNumber n) = decimal n
 spell (OfOptional None) = 45 ∷ []
@@ -42,7 +44,7 @@ spell (OfLetters letters) = map letter_text letters
 
 -- ---- kinds of fields
 
--- what a number stands for, which says how large it may be
+-- what a number means, which says how large it may be
 pub data Limit : Type 0 where
   Worker : Limit
   Cpu : Limit
@@ -62,7 +64,7 @@ most_of Polls = MAX_POLLS
 most_of Hold = MAX_HOLD
 most_of Any = 2 ^ 64 - 1
 
--- what may stand in a field: a number from 0 or from 1 up to a limit, any number or `-`, bytes, the name of a device, or letters
+-- what a field may hold: a number from 0 or from 1 up to a limit, any number or `-`, bytes, the name of a device, or letters
 pub data Kind : Type 0 where
   Whole : Limit → Kind
   Positive : Limit → Kind
@@ -91,7 +93,7 @@ field_fault LetterText = kind.Name
 
 -- ---- the tests of a line
 
--- a test: at least so many fields, exactly so many, a field with at most so many bytes, or the next field is of this kind
+-- a test: at least n fields, exactly n, a field with at most n bytes, or the next field is of this kind
 pub data Step : Type 0 where
   AtLeast : ℕ → Step
   Exactly : ℕ → Step
@@ -117,7 +119,7 @@ text_of word.Set = codes "set"
 text_of word.Wait = codes "wait"
 text_of word.Pick = codes "pick"
 
--- the place of its lines, which stand in the order of their places; the four words of actions share one
+-- the place of its lines, which are in the order of their places; the four words of actions share one
 abbrev pub place : Word → ℕ
 place word.Table = 0
 place word.Clock = 1
@@ -130,7 +132,7 @@ place word.Set = 5
 place word.Wait = 5
 place word.Pick = 6
 
--- the least place of a line behind one of its lines: behind a word that stands once it is the next place
+-- the least place of a line after one of its lines: after a word that occurs once it is the next place
 abbrev pub behind : Word → ℕ
 behind word.Table = 1
 behind word.Clock = 2
@@ -161,9 +163,12 @@ steps_of word.Clock f = Exactly 3 ∷ Takes (Whole Any) ∷ Takes (Whole Any) �
 steps_of word.Open f = AtLeast 3 ∷ Takes (Whole Id) ∷ device_steps f
 steps_of word.Cpu f = Exactly 2 ∷ Takes HexBytes ∷ []
 steps_of word.Cap f = Exactly 4 ∷ Takes (Whole Id) ∷ Takes (Whole Any) ∷ Takes (Whole Any) ∷ []
-steps_of word.Call f = Exactly 7 ∷ Takes (Whole Worker) ∷ Takes (Whole Id) ∷ Takes (Whole Code) ∷ Takes HexBytes ∷ Takes (Positive Polls) ∷ Takes (Whole Hold) ∷ []
+steps_of word.Call f =
+    Exactly 7 ∷ Takes (Whole Worker) ∷ Takes (Whole Id) ∷ Takes (Whole Code) ∷ Takes HexBytes ∷ Takes (Positive Polls) ∷ Takes (Whole Hold) ∷ []
 steps_of word.Read f = Exactly 5 ∷ Takes (Whole Worker) ∷ Takes (Whole Cpu) ∷ Takes (Positive Polls) ∷ Takes (Whole Hold) ∷ []
-steps_of word.Set f = Exactly 8 ∷ Takes (Whole Worker) ∷ Takes (Whole Cpu) ∷ Takes Optional ∷ Takes (Whole Any) ∷ Takes Optional ∷ Takes (Positive Polls) ∷ Takes (Whole Hold) ∷ []
+steps_of word.Set f =
+    Exactly 8 ∷ Takes (Whole Worker) ∷ Takes (Whole Cpu) ∷ Takes Optional ∷ Takes (Whole Any) ∷ Takes Optional
+    ∷ Takes (Positive Polls) ∷ Takes (Whole Hold) ∷ []
 steps_of word.Wait f = Exactly 2 ∷ Takes (Whole Any) ∷ []
 steps_of word.Pick f = Exactly 2 ∷ Takes LetterText ∷ AtMost 1 MAX_LETTERS ∷ []
 

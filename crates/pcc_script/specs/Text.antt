@@ -1,4 +1,4 @@
--- The text of a scenario: its lines, each a word and the values of its fields, one behind the other in their order.
+-- The text of a scenario: its lines, each a word and the values of its fields, one after the other in their order.
 use Rattle.std.specs.Prelude.{◌≡◌, ◌<◌, ◌≤◌, ℕ, suc, ◌+◌, ◌==◌, max, if◌then◌else◌, List, [], ◌∷◌, ◌++◌, length, map, Option, Some, None}
 use Rattle.std.specs.List.{flat_map}
 use Rattle.pcc_bytes.specs.Fields.{joined, line_text}
@@ -12,9 +12,10 @@ use Rattle.pcc_script.specs.declared.scenario.OpenLine.{OpenLine}
 use Rattle.pcc_script.specs.declared.scenario.CapLine.{CapLine}
 use Rattle.pcc_script.specs.declared.scenario.Letter.{Letter}
 use Rattle.pcc_script.specs.declared.scenario.Scenario.{Scenario}
-use Rattle.pcc_script.specs.Rows.{behind, Exactly, field_at, IsOf, AtLeast, most, NamedBank, NamedCppc, OfBytes, OfDevice, OfLetters, OfNumber, OfOptional, place, AtMost, spell, Step, steps_of, Takes, text_of, Value}
+use Rattle.pcc_script.specs.Rows.{behind, Exactly, field_at, IsOf, AtLeast, most, NamedBank, NamedCppc, OfBytes, OfDevice, OfLetters, OfNumber}
+use Rattle.pcc_script.specs.Rows.{OfOptional, place, AtMost, spell, Step, steps_of, Takes, text_of, Value}
 
--- a line: its word and the values of the fields behind it
+-- a line: its word and the values of the fields after it
 pub record Statement : Type 0 where
   pub word : Word
   pub values : List Value
@@ -61,7 +62,8 @@ action_statement (line.Call worker subspace code bytes polls hold) =
 action_statement (line.Read worker cpu polls hold) =
     record { word = word.Read; values = OfNumber worker ∷ OfNumber cpu ∷ OfNumber polls ∷ OfNumber hold ∷ [] }
 action_statement (line.Set worker wish polls hold) =
-    record { word = word.Set; values = OfNumber worker ∷ OfNumber wish.cpu ∷ OfOptional wish.min ∷ OfNumber wish.desired ∷ OfOptional wish.max ∷ OfNumber polls ∷ OfNumber hold ∷ [] }
+    let asked = OfNumber wish.cpu ∷ OfOptional wish.min ∷ OfNumber wish.desired ∷ OfOptional wish.max ∷ OfNumber polls ∷ OfNumber hold ∷ [] in
+    record { word = word.Set; values = OfNumber worker ∷ asked }
 action_statement (line.Wait n) = record { word = word.Wait; values = OfNumber n ∷ [] }
 
 -- `pick LETTERS`
@@ -75,7 +77,10 @@ pick_statements (Some letters) = pick_statement letters ∷ []
 
 -- the lines of a scenario, in their order
 abbrev pub statements_of : Scenario → List Statement
-statements_of s = table_statement s.table ∷ clock_statement s.start s.step ∷ (map open_statement s.opens ++ (map cpu_statement s.cpus ++ (map cap_statement s.caps ++ (map action_statement s.actions ++ pick_statements s.picks))))
+statements_of s =
+    table_statement s.table ∷ clock_statement s.start s.step
+    ∷ (map open_statement s.opens ++ (map cpu_statement s.cpus
+    ++ (map cap_statement s.caps ++ (map action_statement s.actions ++ pick_statements s.picks))))
 
 -- the text of lines, each of which ends with a line feed
 unfoldable pub statements_text : List Statement → List ℕ
@@ -87,24 +92,25 @@ script_text s = statements_text (statements_of s)
 
 -- ---- what is right
 
--- the least place that a line may have behind these lines
+-- the least place that a line may have after these lines
 abbrev pub next_of : List Statement → ℕ
 next_of [] = 0
 next_of (s ∷ more) = max (behind s.word) (next_of more)
 
--- how many lines stand at a place
+-- how many lines are at a place
 abbrev pub count_at : ℕ → List Statement → ℕ
 count_at p [] = 0
 count_at p (s ∷ more) = (if place s.word == p then 1 else 0) + count_at p more
 
--- what a test demands of a line's fields, where the next field is at i: of the number of fields, of the length of a field, or that the next field is the text of a value of this kind
+-- what a test demands of a line's fields, where the next field is at i: of the number of fields, of the length of a field, or that the next
+-- field is the text of a value of this kind
 abbrev pub IsRight : ℕ → List (List ℕ) → Step → Type 0
 IsRight i f (AtLeast n) = n ≤ length f
 IsRight i f (Exactly n) = length f ≡ n
 IsRight i f (AtMost j n) = length (field_at f j) ≤ n
 IsRight i f (Takes k) = (v : Value) × IsOf k v × (field_at f i ≡ spell v)
 
--- where the next field is behind a test
+-- the place of the next field after a test
 abbrev pub after : ℕ → Step → ℕ
 after i (Takes k) = suc i
 after i _ = i
@@ -118,20 +124,21 @@ AllRight i (AtMost j n ∷ ss) f vs = IsRight i f (AtMost j n) × AllRight i ss 
 AllRight i (Takes k ∷ ss) f [] = ⊥
 AllRight i (Takes k ∷ ss) f (v ∷ vs) = IsOf k v × (field_at f i ≡ spell v) × AllRight (suc i) ss f vs
 
--- a line may stand behind these lines, and its fields are right
+-- a line may follow these lines, and its fields are right
 pub record LineRight (before : List Statement) (s : Statement) : Type 0 where
   pub placed : next_of before ≤ place s.word
   pub few : count_at (place s.word) before < most s.word
   pub fields : AllRight 1 (steps_of s.word (fields_of s)) (fields_of s) s.values
 
--- each of these lines is right behind the lines `before` and those of its own before it
+-- each of these lines is right after the lines `before` and the earlier ones of these
 abbrev pub InOrder : List Statement → List Statement → Type 0
 InOrder before [] = Unit {0}
 InOrder before (s ∷ more) = LineRight before s × InOrder (before ++ s ∷ []) more
 
 -- the lines that have to be are there: `table`, `clock` and `open`
 abbrev pub IsWhole : List Statement → Type 0
-IsWhole statements = (1 ≤ count_at (place word.Table) statements) × (1 ≤ count_at (place word.Clock) statements) × (1 ≤ count_at (place word.Open) statements)
+IsWhole statements =
+    (1 ≤ count_at (place word.Table) statements) × (1 ≤ count_at (place word.Clock) statements) × (1 ≤ count_at (place word.Open) statements)
 
 -- a scenario that has a text: its lines are right and whole
 pub record IsScenario (s : Scenario) : Type 0 where

@@ -17,7 +17,7 @@ value_of field.Bank = OfDevice NamedBank
 value_of field.Cppc = OfDevice NamedCppc
 value_of (field.Letters letters) = OfLetters letters.now
 
--- the texts of values, each behind a space
+-- the texts of values, each after a space
 abbrev pub spaced : List Value → List ℕ
 spaced values = flat_map (λ v. 32 ∷ spell v) values
 

@@ -11,7 +11,7 @@ pub enum ScriptKind {
     Newline,
     /// The first field is none of the ten words.
     Unknown,
-    /// A line before it stands later in the order of the lines, or the word stands in a script only once and has stood already.
+    /// An earlier line is later in the order of the lines, or the word may occur only once and has occurred already.
     Misplaced,
     /// There is one line more of this kind, or one letter more, than a script may have.
     Many,
@@ -30,7 +30,7 @@ pub enum ScriptKind {
 /// Why a text gives no scenario.
 #[derive(Clone, Copy, Debug, PartialEq, Eq)]
 pub enum ScriptError {
-    /// The first line that is wrong, counted from 1, and its first fault. Where a line is missing it is the line behind the last.
+    /// The first line that is wrong, counted from 1, and its first fault. If a line is missing, it is the line after the last.
     Fault { line: u32, kind: ScriptKind },
     NoMemory,
 }

@@ -1,4 +1,4 @@
-//! The script language: what a run is set up with and the actions that it makes, as a text. A text is read to the one scenario that it spells, or to its first fault.
+//! The script language: the set-up of a run and its actions, as a text. A text is read to the one scenario that it spells, or to its first fault.
 #![tactic(auto)]
 
 mod fault;

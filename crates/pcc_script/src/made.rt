@@ -81,7 +81,7 @@ fn calls(alloc: Global, n: u32) -> Result<Actions, NoMemory>
     Ok(actions)
 }
 
-/// A scenario of `n` calls that is made up: a table with one generic subspace, a clock from 0 on in steps of 10 microseconds, a Bank behind the subspace, and
+/// A scenario of `n` calls that is made up: a table with one generic subspace, a clock from 0 on in steps of 10 microseconds, a Bank as its device, and
 /// calls with eight bytes each. The same number gives the same scenario.
 #[tactic(auto, unfolding(crate::specs::Made::made_scenario_of))]
 pub fn made_scenario(alloc: Global, n: u32) -> Result<Scenario, NoMemory>

@@ -1,4 +1,4 @@
-//! The order of lines, seen from the line before: two numbers and a count tell whether the next one may stand there.
+//! The order of lines, seen from the line before: two numbers and a count decide whether the next one may be there.
 ghost use Rattle.std.specs.Prelude.{◌≡◌, ◌<◌};
 ghost use Rattle.pcc_script.specs.Rows.{most};
 ghost use Rattle.pcc_script.specs.Reading.{count_for, Gives, placed, seen_after, start};
@@ -13,7 +13,7 @@ pub struct Seen {
     place: u32,
     /// The least place of the next one.
     next: u32,
-    /// How many lines stand at `place`.
+    /// How many lines are at `place`.
     count: u32,
 }
 
@@ -29,7 +29,7 @@ impl Seen {
         }
     }
 
-    /// How many lines stand at the place of a word.
+    /// How many lines are at the place of a word.
     fn count_for(&self, word: Word) -> u32
         ensures { result ≡ count_for self.now word }
     {
@@ -40,7 +40,7 @@ impl Seen {
         }
     }
 
-    /// Whether a line of this word may come next.
+    /// Whether a line of this word may be next.
     pub fn place_test(&self, word: Word) -> Result<(), Stop>
         ensures { Gives (λ _. word) result (placed self.now.next (count_for self.now word) word) }
     {
@@ -53,7 +53,7 @@ impl Seen {
         Ok(())
     }
 
-    /// Behind a line of this word.
+    /// After a line of this word.
     pub fn after(&self, word: Word) -> Seen
         requires { count_for self.now word < most word }
         ensures { result ≡ seen_after self.now word }

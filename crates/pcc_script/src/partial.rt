@@ -45,7 +45,7 @@ impl Partial {
         }
     }
 
-    /// Puts what a line gives behind what the lines before it gave.
+    /// Puts what a line gives after what the lines before it gave.
     pub fn put(&mut self, entry: Entry) -> Result<(), NoMemory>
         requires { Empty (place (entry_statement entry).word) self.old }
         ensures lines { IfOk result (λ _. so_far self.new ≡ so_far self.old ++ entry_statement entry ∷ []) }
@@ -72,7 +72,7 @@ impl Partial {
     }
 }
 
-/// The scenario, if nothing stands behind the last line feed and each line that has to be was there.
+/// The scenario, if nothing follows the last line feed and each line that has to be was there.
 #[tactic(auto, using(crate::proofs::Completing::no_table, crate::proofs::Completing::no_clock, crate::proofs::Completing::no_opens, crate::proofs::Completing::all_there))]
 pub fn complete(partial: Partial, last: &[u8]) -> Result<Scenario, ScriptKind>
     ensures { Completes result (so_far partial) last.now }

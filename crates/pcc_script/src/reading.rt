@@ -32,7 +32,7 @@ fn next_entry(alloc: Global, seen: &Seen, line: &[u8]) -> Result<Entry, Stop>
     entry_of(alloc, word, &fields)
 }
 
-/// The scenario of what was read, with `last` behind the last line feed. The line behind the last has this number.
+/// The scenario of what was read, with `last` after the last line feed. The line after the last has this number.
 fn finish(partial: Partial, last: &[u8], line: u32) -> Result<Scenario, ScriptError>
     requires { suc (length (so_far partial)) ≡ line }
     ensures { Tells statements_of result (ended (record { right = so_far partial; fault = None }) last.now) }
@@ -70,8 +70,12 @@ fn read(alloc: Global, text: &[u8]) -> Result<Scenario, ScriptError>
 
 /// The scenario that a text spells. A text spells at most one, and each scenario within the limits has one text.
 ///
-/// A line feed ends each line, and one space stands between two fields. Numbers are decimal without leading zeros, bytes are lower-case hexadecimal digits, or `-` for none.
-/// The lines are, in this order: one `table HEX`, one `clock START STEP`, 1 to `MAX_OPENS` lines `open ID bank` or `open ID cppc HEX`, up to `MAX_CPUS` lines `cpu HEX`, up to `MAX_CAPS` lines `cap ID COUNT VALUE`, up to `MAX_ACTIONS` actions (`call WORKER ID CODE HEX POLLS HOLD`, `read WORKER CPU POLLS HOLD`, `set WORKER CPU MIN DESIRED MAX POLLS HOLD`, `wait N`) and at most one `pick LETTERS`.
+/// A line feed ends each line, and one space separates two fields. Numbers are decimal without leading zeros, bytes are lower-case
+/// hexadecimal digits, or `-` for none.
+///
+/// The lines are, in this order: one `table HEX`, one `clock START STEP`, 1 to `MAX_OPENS` lines `open ID bank` or `open ID cppc HEX`, up to
+/// `MAX_CPUS` lines `cpu HEX`, up to `MAX_CAPS` lines `cap ID COUNT VALUE`, up to `MAX_ACTIONS` actions (`call WORKER ID CODE HEX POLLS HOLD`,
+/// `read WORKER CPU POLLS HOLD`, `set WORKER CPU MIN DESIRED MAX POLLS HOLD`, `wait N`) and at most one `pick LETTERS`.
 #[tactic(auto, using(crate::proofs::Public::is_found, crate::proofs::Public::is_only, crate::proofs::Public::is_wrong, crate::proofs::Public::is_first))]
 pub fn scenario_from(alloc: Global, text: &[u8]) -> Result<Scenario, ScriptError>
     // What is read is within the limits, and the text spells it.
@@ -79,15 +83,15 @@ pub fn scenario_from(alloc: Global, text: &[u8]) -> Result<Scenario, ScriptError
     // A scenario that the text spells is read, unless memory runs out.
     ensures only { (s : Scenario) → IsScenario s → text.now ≡ script_text s → IsReadAs s result }
 
-    // A fault that is told is the first of the text.
+    // A fault that is reported is the first of the text.
     ensures fault { IfFault result (TextWrong text.now) }
-    // The first fault of the text is told, unless memory runs out.
+    // The first fault of the text is reported, unless memory runs out.
     ensures first { (line : ℕ) (kind : ScriptKind) → TextWrong text.now line kind → IsRefusedAt line kind result }
 {
     read(alloc, text)
 }
 
-/// A scenario has a text exactly where its fields are within the limits.
+/// A scenario has a text exactly when its fields are within the limits.
 pub fn within_limits()
     ensures { (s : Scenario) → IsWithin s ↔ IsScenario s }
 {}

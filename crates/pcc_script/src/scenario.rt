@@ -10,7 +10,7 @@ pub enum Device {
     Cppc { image: Bytes },
 }
 
-/// `open ID bank` or `open ID cppc HEX`: the subspace of this ID is opened, with this device behind it.
+/// `open ID bank` or `open ID cppc HEX`: the subspace of this ID is opened, with this device.
 #[derive(Debug, Drop)]
 pub struct OpenLine {
     pub id: u8,
@@ -34,7 +34,8 @@ pub struct Wish1 {
     pub max: Option<u64>,
 }
 
-/// An action of a worker. `polls` says how often it looks for completion, and `hold` how many turns the answering side lets pass before it executes the command.
+/// An action of a worker. `polls` says how often it looks for completion, and `hold` how many turns the answering side lets pass before it
+/// executes the command.
 #[derive(Debug, Drop)]
 pub enum Line {
     /// `call WORKER ID CODE HEX POLLS HOLD`: a command of these bytes on a subspace.

@@ -2,7 +2,7 @@ use super::*;
 use std::alloc::{AllocError, Global};
 use std::test::Fail;
 
-// A part that stands so many times between two others.
+// A part that occurs this many times between two others.
 fn repeated(
     alloc: Global,
     front: &[u8],
@@ -85,7 +85,7 @@ fn reads_all_ten_words(rt: HostRuntime) -> Result<(), Fail> {
 fn tells_the_first_fault(rt: HostRuntime) {
     use ScriptKind::*;
     let faults = [
-        // An empty text has no table; a line that is skipped is missing behind the last line.
+        // An empty text has no table; a line that is skipped is missing after the last line.
         ("", 1, Missing),
         ("table -\n", 2, Missing),
         ("table -\nclock 0 10\n", 3, Missing),
@@ -166,7 +166,7 @@ fn counts_lines_and_letters(rt: HostRuntime) -> Result<(), Fail> {
             65_537,
             Many,
         ),
-        // As many letters as there may be are right, and the table is missing behind them.
+        // As many letters as there may be are right, and the table is missing after them.
         ("pick ", "p", 65_536, "\n", 2, Missing),
         ("pick ", "p", 65_537, "\n", 1, Many),
         ("pick ", "p", 65_537, "x\n", 1, Name),

@@ -1,4 +1,4 @@
-//! The ten words that begin the lines of a script, and where their lines may stand.
+//! The ten words that begin the lines of a script, and the places of their lines.
 ghost use Rattle.std.specs.Prelude.{◌≡◌};
 ghost use Rattle.pcc_script.specs.Rows.{behind, most, place, text_of};
 ghost use Rattle.pcc_script.specs.Reading.{Gives, word_named};
@@ -94,7 +94,7 @@ impl Word {
         }
     }
 
-    /// The least place of a line behind it. A word that stands once leaves its place.
+    /// The least place of a line after it. A word that occurs once leaves its place.
     pub fn behind(self) -> u32
         ensures { result ≡ behind self }
     {

@@ -1,7 +1,8 @@
 //! A scenario is written line by line, each a word and the values of its fields.
 ghost use Rattle.std.specs.Prelude.{◌≡◌, ◌∷◌, ◌++◌, [], IfOk, map, OnOk};
 ghost use Rattle.pcc_script.specs.Rows.{letter_text, spell};
-ghost use Rattle.pcc_script.specs.Text.{action_statement, cap_statement, clock_statement, cpu_statement, IsScenario, open_statement, pick_statements, script_text, statements_text, table_statement};
+ghost use Rattle.pcc_script.specs.Text.{action_statement, cap_statement, clock_statement, cpu_statement, IsScenario, open_statement, pick_statements};
+ghost use Rattle.pcc_script.specs.Text.{script_text, statements_text, table_statement};
 ghost use Rattle.pcc_script.specs.Writing.{spaced, statement_text, statement_with, value_of};
 
 use crate::scenario::{
@@ -12,7 +13,7 @@ use pcc_io::{Bytes, NoMemory};
 use pcc_text::{put, put_hex, put_number};
 use std::alloc::Global;
 
-/// A field of a line behind its word.
+/// A field of a line after its word.
 #[derive(Clone, Copy)]
 enum Field<'a> {
     /// A number in decimal.
@@ -29,7 +30,7 @@ enum Field<'a> {
     Letters(&'a Picks),
 }
 
-#[tactic(auto, using(crate::proofs::Written::writing_start, crate::proofs::Written::writing_more, crate::proofs::Written::writing_end, crate::proofs::Written::letters_text))]
+#[tactic(auto, using(pcc_text::proofs::Appending::appending_start, pcc_text::proofs::Appending::appending_more, pcc_text::proofs::Appending::appending_end, crate::proofs::Written::letters_text))]
 fn put_letters(out: &mut Vec<u8>, letters: &[Letter]) -> Result<(), NoMemory>
     ensures { OnOk result (out.new.items ≡ out.old.items ++ map letter_text letters.now) }
 {
@@ -65,7 +66,7 @@ fn put_spaced(out: &mut Vec<u8>, field: &Field) -> Result<(), NoMemory>
     put_field(out, field)
 }
 
-#[tactic(auto, using(crate::proofs::Written::writing_start, crate::proofs::Written::writing_more, crate::proofs::Written::writing_end, crate::proofs::Written::spaced_text))]
+#[tactic(auto, using(pcc_text::proofs::Appending::appending_start, pcc_text::proofs::Appending::appending_more, pcc_text::proofs::Appending::appending_end, crate::proofs::Written::spaced_text))]
 fn put_fields(out: &mut Vec<u8>, fields: &[Field]) -> Result<(), NoMemory>
     ensures { OnOk result (out.new.items ≡ out.old.items ++ spaced (map value_of fields.now)) }
 {
@@ -122,7 +123,7 @@ fn put_open(out: &mut Vec<u8>, line: &OpenLine) -> Result<(), NoMemory>
     }
 }
 
-#[tactic(auto, using(crate::proofs::Written::writing_start, crate::proofs::Written::writing_more, crate::proofs::Written::writing_end, crate::proofs::Written::lines_text))]
+#[tactic(auto, using(pcc_text::proofs::Appending::appending_start, pcc_text::proofs::Appending::appending_more, pcc_text::proofs::Appending::appending_end, crate::proofs::Written::lines_text))]
 fn put_opens(out: &mut Vec<u8>, opens: &Opens) -> Result<(), NoMemory>
     ensures { OnOk result (out.new.items ≡ out.old.items ++ statements_text (map open_statement opens.now)) }
 {
@@ -138,7 +139,7 @@ fn put_cpu(out: &mut Vec<u8>, bytes: &Bytes) -> Result<(), NoMemory>
     put_line(out, Word::Cpu, &[Field::Bytes(bytes)])
 }
 
-#[tactic(auto, using(crate::proofs::Written::writing_start, crate::proofs::Written::writing_more, crate::proofs::Written::writing_end, crate::proofs::Written::lines_text))]
+#[tactic(auto, using(pcc_text::proofs::Appending::appending_start, pcc_text::proofs::Appending::appending_more, pcc_text::proofs::Appending::appending_end, crate::proofs::Written::lines_text))]
 fn put_cpus(out: &mut Vec<u8>, cpus: &Packages) -> Result<(), NoMemory>
     ensures { OnOk result (out.new.items ≡ out.old.items ++ statements_text (map cpu_statement cpus.now)) }
 {
@@ -162,7 +163,7 @@ fn put_cap(out: &mut Vec<u8>, cap: &CapLine) -> Result<(), NoMemory>
     )
 }
 
-#[tactic(auto, using(crate::proofs::Written::writing_start, crate::proofs::Written::writing_more, crate::proofs::Written::writing_end, crate::proofs::Written::lines_text))]
+#[tactic(auto, using(pcc_text::proofs::Appending::appending_start, pcc_text::proofs::Appending::appending_more, pcc_text::proofs::Appending::appending_end, crate::proofs::Written::lines_text))]
 fn put_caps(out: &mut Vec<u8>, caps: &CapLines) -> Result<(), NoMemory>
     ensures { OnOk result (out.new.items ≡ out.old.items ++ statements_text (map cap_statement caps.now)) }
 {
@@ -232,7 +233,7 @@ fn put_action(out: &mut Vec<u8>, action: &Line) -> Result<(), NoMemory>
     }
 }
 
-#[tactic(auto, using(crate::proofs::Written::writing_start, crate::proofs::Written::writing_more, crate::proofs::Written::writing_end, crate::proofs::Written::lines_text))]
+#[tactic(auto, using(pcc_text::proofs::Appending::appending_start, pcc_text::proofs::Appending::appending_more, pcc_text::proofs::Appending::appending_end, crate::proofs::Written::lines_text))]
 fn put_actions(out: &mut Vec<u8>, actions: &Actions) -> Result<(), NoMemory>
     ensures { OnOk result (out.new.items ≡ out.old.items ++ statements_text (map action_statement actions.now)) }
 {

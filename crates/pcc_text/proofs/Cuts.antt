@@ -2,15 +2,12 @@
 use Rattle.std.proofs.Common.{◌≡◌, ℕ, ◌+◌, ◌<◌, ◌≤◌, eqb, true, false, Bool, List, [], ◌∷◌, ◌++◌, length, take, drop, get_or, refl, sym, ap, ◌∙◌, subst, arith}
 use Rattle.std.specs.Prelude.{slice_index}
 use Rattle.std.specs.List.{All}
+use Rattle.std.proofs.lemmas.Bool.{false_from_ne_true}
 use Rattle.std.proofs.lemmas.List.{drop_more, length-take, get_or-take, take-append-drop, take_all}
 use Rattle.std.proofs.lemmas.List.Elements.{All-from_get_or}
 use Rattle.std.proofs.lemmas.List.Splits.{slice_split_none, slice_split_at}
 use Rattle.memchr.specs.Find.{NoneBefore, Nowhere, Passes, is_byte}
 use Rattle.pcc_bytes.specs.Fields.{split_at}
-
-not_true : (b : Bool) → (b ≡ true → ⊥) → b ≡ false
-not_true true h = absurd (h refl)
-not_true false h = refl
 
 -- no byte before a place is the cut
 clean : (c : ℕ) (text : List ℕ) (k : ℕ) → k ≤ length text → Nowhere (Passes (is_byte c) text) 0 k → All (λ b. eqb b c ≡ false) (take k text)
@@ -21,7 +18,7 @@ clean c text k le none = All-from_get_or (λ b. eqb b c ≡ false) (take k text)
         let n = length-take k text in
         let within : i < k = omega arith in
         let same : get_or (take k text) i 0 ≡ get_or text i 0 = get_or-take k text i 0 within in
-        rw same (not_true (eqb (get_or text i 0) c) (none i (omega arith) within))
+        rw same (false_from_ne_true (eqb (get_or text i 0) c) (none i (omega arith) within))
 
 -- there is no cut
 pub uncut : (c : ℕ) (text : List ℕ) → Nowhere (Passes (is_byte c) text) 0 (length text) → split_at c text ≡ text ∷ []
@@ -30,7 +27,8 @@ uncut c text none =
     slice_split_none (λ b. eqb b c) text (subst (All (λ b. eqb b c ≡ false)) all (clean c text (length text) (omega arith) none))
 
 -- the first cut
-pub cut_once : (c : ℕ) (text : List ℕ) (place : ℕ) → NoneBefore (Passes (is_byte c) text) 0 (length text) place → Passes (is_byte c) text place → split_at c text ≡ take place text ∷ split_at c (drop (place + 1) text)
+pub cut_once : (c : ℕ) (text : List ℕ) (place : ℕ) → NoneBefore (Passes (is_byte c) text) 0 (length text) place → Passes (is_byte c) text place
+    → split_at c text ≡ take place text ∷ split_at c (drop (place + 1) text)
 cut_once c text place first here =
     let high : place < length text = first.high in
     let tail : drop place text ≡ slice_index text place ∷ drop (place + 1) text = drop_more text place 0 high in

@@ -1,16 +1,14 @@
 -- The digits by arithmetic are those of the table, and are read back.
 use Rattle.std.proofs.Common.{◌≡◌, ℕ, zero, suc, ◌+◌, ◌*◌, ◌/◌, ◌%◌, ◌<◌, ◌≤◌, ◌==◌, Bool, true, ◌&&◌, inl, inr, List, [], ◌∷◌, ◌++◌, length, take, slice_index, slice_set, refl, sym, ap, ◌∙◌, subst, arith}
 use Rattle.std.specs.Prelude.{nat_lt, if◌then◌else◌}
-use Rattle.std.proofs.lemmas.Bool.{and_parts, cases_lt, eqb-true}
+use Rattle.std.proofs.lemmas.Bool.{and_from, and_parts, cases_lt, eq-eqb, eqb-true, ltb-true}
 use Rattle.std.proofs.lemmas.Bool.Decides.{nat_tests}
 use Rattle.std.proofs.lemmas.List.{append_assoc, take_all, take_more, take_more_set}
+use Rattle.std.specs.Prelude.{bit_and}
 use Rattle.hex.specs.Hex.{encode_lower, encode_with, lower_digits}
 use Rattle.hex.proofs.HexLemmas.{length-encode_with}
 use Rattle.pcc_bytes.specs.Bytes.{IsBytes}
-use Rattle.pcc_text.specs.Digits.{value_of}
-
-abbrev pub digit_of : ℕ → ℕ
-digit_of value = if nat_lt value 10 then 48 + value else 87 + value
+use Rattle.pcc_text.specs.Digits.{pair_of}
 
 -- a test of all numbers below one
 abbrev all_below : (ℕ → Bool) → ℕ → Bool
@@ -28,11 +26,31 @@ all_below-at test (suc n) k h lt =
           rw e parts.0
     ]
 
-pub digit_is : (value : ℕ) → value < 16 → digit_of value ≡ slice_index lower_digits value
-digit_is value h = eqb-true (digit_of value) (slice_index lower_digits value) (all_below-at (λ v. digit_of v == slice_index lower_digits v) 16 value refl h)
+-- the digits of a byte with these halves, as the code finds them
+abbrev paired : ℕ → ℕ → ℕ
+paired high low =
+    ((high + 256 * low + 12336) % 65536 + bit_and ((high + 256 * low + 1542) % 65536 / 16) 257 * 39 % 65536) % 65536
 
-pub value_back : (value : ℕ) → value < 16 → value_of (slice_index lower_digits value) ≡ value
-value_back value h = eqb-true (value_of (slice_index lower_digits value)) value (all_below-at (λ v. value_of (slice_index lower_digits v) == v) 16 value refl h)
+pub pair_is : (byte high low : ℕ) → byte < 256 → high ≡ byte / 16 → low ≡ byte % 16 → paired high low ≡ pair_of byte
+pair_is byte high low small h l =
+    rw (h, l) (eqb-true _ _ (all_below-at (λ b. paired (b / 16) (b % 16) == pair_of b) 256 byte refl small))
+
+abbrev pub unpaired : ℕ → ℕ
+unpaired pair =
+    (bit_and pair 3855 + bit_and (pair / 64) 257 * 9 % 65536) % 65536 * 16 % 65536 % 256 + (bit_and pair 3855 + bit_and (pair / 64) 257 * 9 % 65536) % 65536 / 256 % 16
+
+pub byte_is : (pair byte : ℕ) → byte < 256 → pair ≡ pair_of byte → unpaired pair ≡ byte
+byte_is pair byte small e =
+    ap unpaired e ∙ eqb-true _ _ (all_below-at (λ b. unpaired (pair_of b) == b) 256 byte refl small)
+
+small_digit : (value : ℕ) → value < 16 → slice_index lower_digits value < 256
+small_digit value h = ltb-true (slice_index lower_digits value) 256 (all_below-at (λ v. nat_lt (slice_index lower_digits v) 256) 16 value refl h)
+
+pub first_of : (byte : ℕ) → byte < 256 → pair_of byte % 256 ≡ slice_index lower_digits (byte / 16)
+first_of byte h = let a = small_digit (byte / 16) (omega arith) in omega (arith, a)
+
+pub second_of : (byte : ℕ) → byte < 256 → pair_of byte / 256 ≡ slice_index lower_digits (byte % 16)
+second_of byte h = let a = small_digit (byte / 16) (omega arith) in omega (arith, a)
 
 -- the digits of the byte at a place of an encoding
 high_at : (t bytes : List ℕ) (i : ℕ) → i < length bytes → slice_index (encode_with t bytes) (2 * i) ≡ slice_index t (slice_index bytes i / 16)
@@ -51,14 +69,10 @@ low_at t (b ∷ bs) (suc i) h =
     let e : 2 * (suc i) + 1 ≡ suc (suc (2 * i + 1)) = omega arith in
     rw e (low_at t bs i (omega arith))
 
--- one byte is read back
-byte_back : (bytes : List ℕ) (i : ℕ) → IsBytes bytes → i < length bytes
-    → value_of (slice_index (encode_lower bytes) (2 * i)) * 16 + value_of (slice_index (encode_lower bytes) (2 * i + 1)) ≡ slice_index bytes i
-byte_back bytes i small h =
-    let s : slice_index bytes i < 256 = small.fits i in
-    let a = value_back (slice_index bytes i / 16) (omega arith) in
-    let b = value_back (slice_index bytes i % 16) (omega arith) in
-    rw (high_at lower_digits bytes i h, low_at lower_digits bytes i h, a, b) (omega arith)
+-- the pair of digits of the byte at a place of an encoding
+pair_at : (bytes : List ℕ) (i : ℕ) → i < length bytes
+    → slice_index (encode_lower bytes) (2 * i) + 256 * slice_index (encode_lower bytes) (2 * i + 1) ≡ pair_of (slice_index bytes i)
+pair_at bytes i h = rw (high_at lower_digits bytes i h, low_at lower_digits bytes i h) refl
 
 -- ---- a text that is read
 
@@ -92,41 +106,40 @@ take_two text i h =
     ∙ append_assoc (take (2 * i) text) (slice_index text (2 * i) ∷ []) (slice_index text (2 * i + 1) ∷ [])
     )
 
-pub check_more : (text out : List ℕ) (i v : ℕ) (same next : Bool) → i < length out → length text ≡ 2 * length out
-    → v ≡ value_of (slice_index text (2 * i)) * 16 + value_of (slice_index text (2 * i + 1))
-    → next ≡ (same && (slice_index lower_digits (v / 16) == slice_index text (2 * i) && slice_index lower_digits (v % 16) == slice_index text (2 * i + 1)))
+-- the halves of equal pairs
+halves : (a b c d : ℕ) → a < 256 → c < 256 → a + 256 * b ≡ c + 256 * d → (a ≡ c) × (b ≡ d)
+halves a b c d h k e = (omega arith, omega arith)
+
+pub check_more : (text out : List ℕ) (i v : ℕ) (same next : Bool) → i < length out → length text ≡ 2 * length out → slice_index text (2 * i) < 256
+    → v < 256
+    → ((byte : ℕ) → byte < 256 → slice_index text (2 * i) + 256 * slice_index text (2 * i + 1) ≡ pair_of byte → v ≡ byte)
+    → next ≡ (same && pair_of v == slice_index text (2 * i) + 256 * slice_index text (2 * i + 1))
     → Checked text out i same → Checked text (slice_set out i v) (i + 1) next
-check_more text out i v same next h len e n c = record {
+check_more text out i v same next h len low small e n c = record {
   front = λ is.
       let p = and_parts same _ (sym n ∙ is) in
-      let q = and_parts (slice_index lower_digits (v / 16) == slice_index text (2 * i)) (slice_index lower_digits (v % 16) == slice_index text (2 * i + 1)) p.1 in
-      let high : slice_index lower_digits (v / 16) ≡ slice_index text (2 * i) = eqb-true _ _ q.0 in
-      let low : slice_index lower_digits (v % 16) ≡ slice_index text (2 * i + 1) = eqb-true _ _ q.1 in
+      let q : pair_of v ≡ slice_index text (2 * i) + 256 * slice_index text (2 * i + 1) = eqb-true _ _ p.1 in
+      let two = halves (slice_index lower_digits (v / 16)) (slice_index lower_digits (v % 16)) (slice_index text (2 * i)) (slice_index text (2 * i + 1)) (small_digit (v / 16) (omega arith)) low q in
+      let first : slice_index lower_digits (v / 16) ≡ slice_index text (2 * i) = two.0 in
+      let second : slice_index lower_digits (v % 16) ≡ slice_index text (2 * i + 1) = two.1 in
       let digits : slice_index lower_digits (v / 16) ∷ slice_index lower_digits (v % 16) ∷ [] ≡ slice_index text (2 * i) ∷ slice_index text (2 * i + 1) ∷ [] = cc in
       let more : encode_lower (take (i + 1) (slice_set out i v)) ≡ encode_lower (take i out) ++ slice_index text (2 * i) ∷ slice_index text (2 * i + 1) ∷ [] =
       ap encode_lower (take_more_set out i v h)
       ∙ encode_append lower_digits (take i out) (v ∷ [])
       ∙ ap (λ (w : List ℕ). encode_lower (take i out) ++ w) (encode_one lower_digits v ∙ digits) in
       take_two text i (omega arith) ∙ ap (λ (w : List ℕ). w ++ slice_index text (2 * i) ∷ slice_index text (2 * i + 1) ∷ []) (c.front p.0) ∙ sym more;
-  all = λ bytes small is.
+  all = λ bytes fits is.
       let k = length-encode_with lower_digits bytes in
       let m : length (encode_lower bytes) ≡ 2 * length out = rw is at len in
       let below : i < length bytes = omega (arith, k, m) in
-      let ev : v ≡ slice_index bytes i = rw is at e ∙ byte_back bytes i small below in
-      let high : slice_index lower_digits (v / 16) ≡ slice_index text (2 * i) =
-      ap (λ (x : ℕ). slice_index lower_digits (x / 16)) ev ∙ sym (high_at lower_digits bytes i below) ∙ ap (λ (x : List ℕ). slice_index x (2 * i)) (sym is) in
-      let low : slice_index lower_digits (v % 16) ≡ slice_index text (2 * i + 1) =
-      ap (λ (x : ℕ). slice_index lower_digits (x % 16)) ev ∙ sym (low_at lower_digits bytes i below) ∙ ap (λ (x : List ℕ). slice_index x (2 * i + 1)) (sym is) in
-      n ∙ all_true same _ _ (c.all bytes small is) (true-eqb _ _ high) (true-eqb _ _ low);
+      let pair : slice_index text (2 * i) + 256 * slice_index text (2 * i + 1) ≡ pair_of (slice_index bytes i) =
+      ap (λ (t : List ℕ). slice_index t (2 * i) + 256 * slice_index t (2 * i + 1)) is ∙ pair_at bytes i below in
+      let byte : v ≡ slice_index bytes i = e (slice_index bytes i) (fits.fits i) pair in
+      n ∙ and_from same _ (c.all bytes fits is) (eq-eqb _ _ (ap pair_of byte ∙ sym pair));
 }
-  where
-    all_true : (a b d : Bool) → a ≡ true → b ≡ true → d ≡ true → (a && (b && d)) ≡ true
-    all_true a b d e f g = rw (e, f, g) refl
 
-    true-eqb : (a b : ℕ) → a ≡ b → (a == b) ≡ true
-    true-eqb a b e = grind (arith, nat_tests)
-
-pub check_front : (text out : List ℕ) (i : ℕ) (same : Bool) → length out ≤ i → length text ≡ 2 * length out → Checked text out i same → same ≡ true → text ≡ encode_lower out
+pub check_front : (text out : List ℕ) (i : ℕ) (same : Bool) → length out ≤ i → length text ≡ 2 * length out → Checked text out i same → same ≡ true
+    → text ≡ encode_lower out
 check_front text out i same h len c e =
     sym (take_all (2 * i) text (omega arith)) ∙ c.front e ∙ ap encode_lower (take_all i out h)
 

@@ -4,7 +4,7 @@ use Rattle.std.specs.Prelude.{Option, Some, None, Result, Ok, Err, decimal, byte
 use Rattle.std.specs.List.{All, AllByRecursion, list_all, join_with_byte, flat_map}
 use Rattle.std.specs.Str.Parse.{AllDigits, digits_value}
 use Rattle.std.proofs.lemmas.Bool.Decides.{nat_tests}
-use Rattle.std.proofs.lemmas.Bool.{and_parts, leb-true}
+use Rattle.std.proofs.lemmas.Bool.{and_parts, eq-eqb, le-leb, leb-true, lt-leb, not-true}
 use Rattle.std.proofs.lemmas.Str.Parse.{digit_from_value}
 use Rattle.std.specs.Char.{is_ascii_digit}
 use Rattle.std.proofs.lemmas.Fmt.{decimal-digits_value, digits_decimal, decimal_is_IsNumeral, decimal_digit, decimal_nonempty, first_decimal}
@@ -20,7 +20,7 @@ use Rattle.pcc_bytes.specs.Fields.{split_at, line_text, hex_text}
 use Rattle.pcc_text.specs.Reading.{hex_of, hex_from, number_of, is_numeral}
 use Rattle.pcc_text.proofs.Numerals.{own, digits, long}
 
--- a value behind a test
+-- a value under a test
 pub guard : {A : Type 0} (b : Bool) (o : Option A) (y : A) → cond b o None ≡ Some y → (b ≡ true) × (o ≡ Some y)
 guard true o y h = (refl, h)
 guard false o y h = cc
@@ -36,33 +36,26 @@ bind_some None f y h = cc
 abbrev pub lacks : ℕ → List ℕ → Bool
 lacks c xs = list_all (λ x. not (eqb x c)) xs
 
-false_from_not : (b : Bool) → not b ≡ true → b ≡ false
-false_from_not true h = cc
-false_from_not false h = refl
-
 pub All-from_lacks : (c : ℕ) (xs : List ℕ) → lacks c xs ≡ true → All (λ x. eqb x c ≡ false) xs
-All-from_lacks c xs h k d lt = false_from_not _ (AllPass-from_list_all (λ (x : ℕ). not (eqb x c)) xs h k d lt)
+All-from_lacks c xs h k d lt = not-true _ (AllPass-from_list_all (λ (x : ℕ). not (eqb x c)) xs h k d lt)
 
 -- no part has the byte
 abbrev pub EachLacks : ℕ → List (List ℕ) → Type 0
 EachLacks c parts = AllByRecursion (λ part. lacks c part ≡ true) parts
 
-same_byte : (c : ℕ) → eqb c c ≡ true
-same_byte c = grind (arith, nat_tests)
-
 -- parts that are joined come apart again
 pub split_join : (c : ℕ) (x : List ℕ) (xs : List (List ℕ)) → EachLacks c (x ∷ xs) → split_at c (join_with_byte c (x ∷ xs)) ≡ x ∷ xs
 split_join c x [] h = slice_split_none (λ b. eqb b c) x (All-from_lacks c x h.0)
 split_join c x (y ∷ ys) h =
-    slice_split_at (λ b. eqb b c) x c (join_with_byte c (y ∷ ys)) (All-from_lacks c x h.0) (same_byte c) ∙ ap (λ (v : List (List ℕ)). x ∷ v) (split_join c y ys h.1)
+    slice_split_at (λ b. eqb b c) x c (join_with_byte c (y ∷ ys)) (All-from_lacks c x h.0) (eq-eqb c c refl) ∙ ap (λ (v : List (List ℕ)). x ∷ v) (split_join c y ys h.1)
 
--- lines come apart again, with nothing behind the last line feed
+-- lines come apart again, with nothing after the last line feed
 pub split_lines : (lines : List (List ℕ)) → EachLacks 10 lines → split_at 10 (flat_map line_text lines) ≡ lines ++ [] ∷ []
 split_lines [] h = refl
 split_lines (x ∷ xs) h =
     ap (split_at 10) (append_assoc x (10 ∷ []) (flat_map line_text xs)) ∙ slice_split_at (λ b. eqb b 10) x 10 (flat_map line_text xs) (All-from_lacks 10 x h.0) refl ∙ ap (λ (v : List (List ℕ)). x ∷ v) (split_lines xs h.1)
 
--- lines with nothing behind the last line feed are joined to their texts
+-- lines with nothing after the last line feed are joined to their texts
 pub join_lines : (lines : List (List ℕ)) → join_with_byte 10 (lines ++ [] ∷ []) ≡ flat_map line_text lines
 join_lines [] = refl
 join_lines (x ∷ []) = sym (append-nil (x ++ 10 ∷ []))
@@ -117,27 +110,22 @@ number_again limit n big h =
 
 -- ---- one limit and another
 
-within_limit : (n limit : ℕ) → n ≤ limit → leb n limit ≡ true
-within_limit n limit h = grind (arith, nat_tests)
-
-above_limit : (n limit : ℕ) → limit < n → leb n limit ≡ false
-above_limit n limit h = grind (arith, nat_tests)
-
 -- a number that was read is read at each limit that it keeps to
 pub number_within : (limit n : ℕ) (f : List ℕ) → number_of (2 ^ 64 - 1) f ≡ Some n → n ≤ limit → number_of limit f ≡ Some n
 unfolding number_of
 number_within limit n f h le =
     let p = number_parts (2 ^ 64 - 1) f n h in
-    rw (p.numeral, p.value, within_limit n limit le) refl
+    rw (p.numeral, p.value, le-leb n limit le) refl
 
 -- and is refused below it
 pub number_above : (limit n : ℕ) (f : List ℕ) → number_of (2 ^ 64 - 1) f ≡ Some n → limit < n → number_of limit f ≡ None
 unfolding number_of
 number_above limit n f h lt =
     let p = number_parts (2 ^ 64 - 1) f n h in
-    rw (p.numeral, p.value, above_limit n limit lt) refl
+    rw (p.numeral, p.value, lt-leb n limit lt) refl
 
-none_cases : (t : Bool) (most limit v : ℕ) → limit ≤ most → cond t (cond (leb v most) (Some v) None) None ≡ None → cond t (cond (leb v limit) (Some v) None) None ≡ None
+none_cases : (t : Bool) (most limit v : ℕ) → limit ≤ most → cond t (cond (leb v most) (Some v) None) None ≡ None
+    → cond t (cond (leb v limit) (Some v) None) None ≡ None
 none_cases false most limit v le h = refl
 none_cases true most limit v le h = grind (arith, nat_tests)
 

@@ -2,6 +2,8 @@ pub mod DigitTable
 pub mod Splitting
 pub mod Cuts
 pub mod Numerals
+pub mod Mapped
 pub mod Appending
 pub mod Laws
+pub mod Lines
 pub mod HexReading

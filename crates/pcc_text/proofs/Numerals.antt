@@ -46,7 +46,8 @@ over limit n ds h = let le : n ≤ digits_value_after 10 n ds = grows n ds in re
 at_end : (limit n : ℕ) → n ≤ limit → number_after limit n [] ≡ Some n
 at_end limit n h = grind (arith, nat_tests)
 
-pub done : (limit n i : ℕ) (ds : List ℕ) → n ≤ limit → length ds ≤ i → number_after limit n (drop i ds) ≡ number_after limit 0 ds → Some n ≡ number_after limit 0 ds
+pub done : (limit n i : ℕ) (ds : List ℕ) → n ≤ limit → length ds ≤ i → number_after limit n (drop i ds) ≡ number_after limit 0 ds
+    → Some n ≡ number_after limit 0 ds
 done limit n i ds h past same = sym (at_end limit n h) ∙ ap (λ (v : List ℕ). number_after limit n v) (sym (drop_all i ds past)) ∙ same
 
 -- what a field spells, by its first digit

@@ -1,6 +1,7 @@
--- Hexadecimal digits by arithmetic.
-use Rattle.std.specs.Prelude.{ℕ, ◌+◌, ◌*◌, ◌/◌, ◌%◌}
+-- Hexadecimal digits two at a time: the digits of a byte as a number of 16 bits, the first digit in its low half.
+use Rattle.std.specs.Prelude.{ℕ, ◌+◌, ◌*◌, ◌/◌, ◌%◌, slice_index}
+use Rattle.hex.specs.Hex.{lower_digits}
 
--- the value of a lower-case digit: 48 to 57 are `0` to `9`, 97 to 102 are `a` to `f`
-abbrev pub value_of : ℕ → ℕ
-value_of digit = (digit % 16 + 9 * (digit / 64)) % 16
+-- the two lower-case digits of a byte
+abbrev pub pair_of : ℕ → ℕ
+pair_of byte = slice_index lower_digits (byte / 16) + 256 * slice_index lower_digits (byte % 16)

@@ -1,4 +1,4 @@
--- A text as a list of pieces, each a text of its own, a number or bytes.
+-- A text as a list of pieces, each a text as it is, a number or bytes.
 use Rattle.std.specs.Prelude.{ℕ, if◌then◌else◌, List, decimal}
 use Rattle.std.specs.List.{flat_map}
 use Rattle.pcc_bytes.specs.Fields.{hex_text}
@@ -16,7 +16,7 @@ spell (Words text) = text
 spell (Decimal n) = decimal n
 spell (HexOf bytes) = hex_text bytes
 
--- the pieces, one behind the other
+-- the pieces, one after the other
 unfoldable pub spelled : List Spelled → List ℕ
 spelled pieces = flat_map spell pieces
 

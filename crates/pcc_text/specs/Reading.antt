@@ -1,5 +1,6 @@
 -- What fields spell, as functions of the bytes of a field.
-use Rattle.std.specs.Prelude.{◌==◌, ◌&&◌, ℕ, nat_lt, nat_le, Bool, false, if◌then◌else◌, List, [], ◌∷◌, length, slice_index, Option, Some, None, Result, Ok, Err, bytes_eq}
+use Rattle.std.specs.Prelude.{◌==◌, ◌&&◌, ℕ, nat_lt, nat_le, Bool, false, if◌then◌else◌, List, [], ◌∷◌, length, slice_index, bytes_eq}
+use Rattle.std.specs.Prelude.{Option, Some, None, Result, Ok, Err}
 use Rattle.std.specs.List.{list_all}
 use Rattle.std.specs.Char.{is_ascii_digit}
 use Rattle.std.specs.Str.Parse.{digits_value, digits_value_after}
@@ -20,11 +21,11 @@ number_of limit field =
     if is_numeral field then (if nat_le (digits_value 10 field) limit then Some (digits_value 10 field) else None)
     else None
 
--- the number that digits write behind those of n, if it is at most a limit
+-- the number that digits write after those of n, if it is at most a limit
 abbrev pub number_after : ℕ → ℕ → List ℕ → Option ℕ
 number_after limit n digits =
-    if list_all is_ascii_digit digits then (if nat_le (digits_value_after 10 n digits) limit then Some (digits_value_after 10 n digits) else None)
-    else None
+    let value = digits_value_after 10 n digits in
+    if list_all is_ascii_digit digits then (if nat_le value limit then Some value else None) else None
 
 -- decoded bytes, if the field is their text
 abbrev pub hex_from : List ℕ → Result (List ℕ) FromHexError → Option (List ℕ)

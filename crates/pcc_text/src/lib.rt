@@ -1,5 +1,5 @@
 //! The fields of a text, read and written: numbers in decimal, bytes in hexadecimal, and texts made of pieces.
-//! Every text of the program stands on it: scripts, tables shown as text, replies, journals and traces.
+//! All texts of the program are read and written with it: scripts, tables shown as text, replies, journals and traces.
 #![tactic(auto)]
 
 mod cutting;

@@ -1,5 +1,6 @@
 //! Readers of fields. A field is read only if it is spelled as the writers spell it.
-ghost use Rattle.std.specs.Prelude.{◌≡◌, ◌≤◌, ◌<◌, ◌^◌, ◌-◌, ◌%◌, [], List, ℕ, None, IfOk, IfSome, slice_index_or, length, map, option_map, decimal, bytes_eq};
+ghost use Rattle.std.specs.Prelude.{◌≡◌, ◌≤◌, ◌<◌, ◌^◌, ◌-◌, ◌%◌, [], List, ℕ, None, IfOk, IfSome};
+ghost use Rattle.std.specs.Prelude.{slice_index_or, length, map, option_map, decimal, bytes_eq};
 ghost use Rattle.std.specs.List.{list_all};
 ghost use Rattle.std.specs.Char.{is_ascii_digit};
 ghost use Rattle.hex.specs.Hex.{encode_lower};
@@ -81,7 +82,7 @@ pub fn number(field: &[u8], limit: u64) -> Option<u64>
     ensures value { result ≡ number_of limit field.now }
     ensures bound { IfSome result (λ n. n ≤ limit) }
 
-    // It is read exactly where it is the text of a number up to the limit.
+    // It is read exactly when it is the text of a number up to the limit.
     ensures spelled { IfSome result (λ n. field.now ≡ decimal n) }
     ensures only { (n : ℕ) → n ≤ limit → field.now ≡ decimal n → result ≡ Some n }
 {
@@ -129,7 +130,7 @@ pub fn bytes_of(alloc: Global, field: &[u8]) -> Result<Option<Bytes>, NoMemory>
     ensures value { IfOk result (λ o. o ≡ hex_of field.now) }
     ensures bytes { IfOk result (λ o. IfSome o IsBytes) }
 
-    // They are read exactly where the field is the text of bytes.
+    // They are read exactly when the field is the text of bytes.
     ensures spelled { IfOk result (λ o. IfSome o (λ b. field.now ≡ hex_text b)) }
     ensures only { IfOk result (λ o. (b : List ℕ) → IsBytes b → field.now ≡ hex_text b → o ≡ Some b) }
 {

@@ -2,7 +2,7 @@ use super::*;
 use pcc_io::Bytes;
 use std::test::Fail;
 
-// Between two cuts, and before and behind them, there is a part, empty or not.
+// Between two cuts, and before and after them, there is a part, empty or not.
 #[test]
 fn splits_between_spaces(rt: HostRuntime) -> Result<(), Fail> {
     let parts = split(rt.alloc(), b"call  0 - ", b' ')?;
@@ -43,7 +43,7 @@ fn reads_lower_case_bytes_alone(rt: HostRuntime) -> Result<(), Fail> {
 }
 
 #[test]
-fn writes_pieces_behind_one_another(rt: HostRuntime) -> Result<(), Fail> {
+fn writes_pieces_one_after_another(rt: HostRuntime) -> Result<(), Fail> {
     let alloc = rt.alloc();
     let mut out = Vec::new(alloc);
     put(&mut out, b"4 ")?;

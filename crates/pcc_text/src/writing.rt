@@ -1,4 +1,4 @@
-//! Writers, which put texts, numbers and bytes at the end of a text. Where memory runs out they may have put a part.
+//! Writers, which put texts, numbers and bytes at the end of a text. If memory runs out they may have put a part.
 ghost use Rattle.std.specs.Prelude.{◌≡◌, ◌++◌, OnOk, decimal, map};
 ghost use Rattle.pcc_bytes.specs.Fields.{hex_text};
 ghost use Rattle.pcc_text.specs.Pieces.{spell, spelled, spelled_of};
@@ -20,7 +20,7 @@ pub enum Piece<'a> {
     Hex(&'a [u8]),
     /// The same of a list of bytes.
     Bytes(&'a Bytes),
-    /// The first text where the test holds, and else the second.
+    /// The first text if the test holds, and else the second.
     Either(bool, &'a [u8], &'a [u8]),
 }
 
@@ -68,7 +68,7 @@ fn put_piece(out: &mut Vec<u8>, piece: &Piece) -> Result<(), NoMemory>
     }
 }
 
-/// Puts pieces at the end, one behind the other. A caller is proved with no file of its own where its pieces are made without calls
+/// Puts pieces at the end, one after the other. A caller is proved with no file of its own where its pieces are made without calls
 /// (`n as u64`, `&record.input`, `Either`), or are eight at most.
 #[tactic(auto, unfolding(crate::specs::Pieces::spelled), using(crate::proofs::Appending::appending_start, crate::proofs::Appending::appending_more, crate::proofs::Appending::appending_end, crate::proofs::Appending::pieces_text))]
 pub fn put_pieces(out: &mut Vec<u8>, pieces: &[Piece]) -> Result<(), NoMemory>

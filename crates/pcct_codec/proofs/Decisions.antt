@@ -110,7 +110,8 @@ late_size at rest f h = late_test (eqb (length rest) 1) h
     late_test true h = late (Overrun at) f tt cc
     late_test false h = late_sized at (slice_index rest 0) (slice_index rest 1) (length rest) (size_of_kind (slice_index rest 0)) f h
 
-late_behind : (r : Result ℕ TableFault) (next : ℕ → Decision) (f : TableFault) → ((g : TableFault) → r ≡ Err g → IsLate g) → ((size : ℕ) → next size ≡ Faulty f → IsLate f) → behind_size r next ≡ Faulty f → IsLate f
+late_behind : (r : Result ℕ TableFault) (next : ℕ → Decision) (f : TableFault) → ((g : TableFault) → r ≡ Err g → IsLate g)
+    → ((size : ℕ) → next size ≡ Faulty f → IsLate f) → behind_size r next ≡ Faulty f → IsLate f
 late_behind (Ok size) next f here later h = later size h
 late_behind (Err g) next f here later h = late g f (here g refl) (faulty g f h)
 

@@ -1,7 +1,7 @@
 -- Bytes begin with a table or not, whatever follows.
 use Rattle.std.proofs.Common.{◌≡◌, ◌≢◌, ℕ, ◌≤◌, ltb, cond, Bool, true, false, List, ◌++◌, length, take, drop, refl, sym, ap, ◌∙◌, subst, arith, length-take, Result, Ok, Err}
 use Rattle.std.proofs.lemmas.Bool.{le-ltb, ltb-false}
-use Rattle.std.proofs.lemmas.List.{length-append, take-append-drop, take-append-le, take_at}
+use Rattle.std.proofs.lemmas.List.{length-append, length-take-le, take-append-drop, take-append-le, take_at}
 use Rattle.pcct_table.specs.declared.table.Table.{Table}
 use Rattle.pcct_codec.specs.declared.fault.TableFault.{TableFault}
 use Rattle.pcct_codec.specs.declared.fault.TableFault.TheVariants.{Short, Signature, LengthOutside, Revision, TooMany, Overrun, SubspaceType, SubspaceLength, Checksum, ReadFault, NoMemory}
@@ -13,25 +13,24 @@ use Rattle.pcct_codec.proofs.Decisions.{behind, right_source, table_read, whole}
 
 -- ---- the bytes that a right header tells
 
-front_length : (n : ℕ) (b : List ℕ) → n ≤ length b → length (take n b) ≡ n
-front_length n b le = omega (arith, length-take n b)
-
 -- they tell that they are all
 pub front_told : (n : ℕ) (b : List ℕ) → told_length b ≡ Ok n → n ≤ length b → told_length (take n b) ≡ Ok (length (take n b))
 front_told n b told le =
     let least : 48 ≤ n = (told_ok b n told).least in
-    let len : length (take n b) ≡ n = front_length n b le in
+    let len : length (take n b) ≡ n = length-take-le n b le in
     sym (told_more (take n b) (drop n b) (omega arith)) ∙ ap told_length (take-append-drop n b) ∙ told ∙ ap Ok (sym len)
 
 -- what they decide is decided
 pub front_decided : (n : ℕ) (b : List ℕ) → told_length b ≡ Ok n → n ≤ length b → decision true b ≡ table_decision (take n b)
 front_decided n b told le = ap (decision true) (sym (take-append-drop n b)) ∙ whole true (take n b) (drop n b) (front_told n b told le)
 
-pub front_fault : (n : ℕ) (b : List ℕ) (f : TableFault) → told_length b ≡ Ok n → n ≤ length b → FaultIs f (table_decision (take n b)) → FaultIs f (decision true b)
+pub front_fault : (n : ℕ) (b : List ℕ) (f : TableFault) → told_length b ≡ Ok n → n ≤ length b → FaultIs f (table_decision (take n b))
+    → FaultIs f (decision true b)
 front_fault n b f told le h = subst (FaultIs f) (sym (front_decided n b told le)) h
 
 -- a table with which they begin is the one that they spell
-pub front_only : (n : ℕ) (b : List ℕ) (t : Table) → told_length b ≡ Ok n → n ≤ length b → TableBytes (take n b) t → (front rest : List ℕ) (u : Table) → TableBytes front u → b ≡ front ++ rest → (t ≡ u) × (n ≡ length front)
+pub front_only : (n : ℕ) (b : List ℕ) (t : Table) → told_length b ≡ Ok n → n ≤ length b → TableBytes (take n b) t → (front rest : List ℕ) (u : Table)
+    → TableBytes front u → b ≡ front ++ rest → (t ≡ u) × (n ≡ length front)
 front_only n b t told le h front rest u k e =
     let least : 48 ≤ length front = k.least in
     let same_told : Ok n ≡ Ok (length front) = sym told ∙ ap told_length e ∙ told_more front rest least ∙ told_table front u k in
@@ -58,7 +57,8 @@ right_only (SubspaceType a k) h = absurd cc
 right_only (SubspaceLength a k s) h = absurd cc
 right_only (Checksum a) h = absurd cc
 
-pub only_memory : (f : TableFault) (b : List ℕ) → FaultIs f (decision true b) → (front rest : List ℕ) (t : Table) → TableBytes front t → b ≡ front ++ rest → f ≡ NoMemory
+pub only_memory : (f : TableFault) (b : List ℕ) → FaultIs f (decision true b) → (front rest : List ℕ) (t : Table) → TableBytes front t
+    → b ≡ front ++ rest → f ≡ NoMemory
 only_memory f b h front rest t k e = right_only f (subst (FaultIs f) (ap (decision true) e ∙ right_source true front rest t k) h)
 
 read_told : (b : List ℕ) (r : Result ℕ TableFault) → told_length b ≡ r → behind_header true b r ≡ Faulty ReadFault → ⊥
@@ -83,7 +83,8 @@ memory_only f b h e = never_read b (subst (λ (g : TableFault). FaultIs g (decis
 
 -- ---- what some bytes decide stays, whatever follows
 
-settled_told : (ended : Bool) (b m : List ℕ) (r : Result ℕ TableFault) → (behind_header false b r ≡ Undecided → ⊥) → behind_header ended (b ++ m) r ≡ behind_header false b r
+settled_told : (ended : Bool) (b m : List ℕ) (r : Result ℕ TableFault) → (behind_header false b r ≡ Undecided → ⊥)
+    → behind_header ended (b ++ m) r ≡ behind_header false b r
 settled_told ended b m (Err f) decided = refl
 settled_told ended b m (Ok n) decided = settled_length (ltb (length b) n) refl decided
   where

@@ -40,7 +40,8 @@ record Passed (signed low high first second : Bool) (len n : ℕ) : Type 0 where
   known : (first ≡ true) ⊎ (second ≡ true)
   same : len ≡ n
 
-passed : (signed low high first second : Bool) (len revision n : ℕ) → by_tests signed low high first second len revision ≡ Ok n → Passed signed low high first second len n
+passed : (signed low high first second : Bool) (len revision n : ℕ) → by_tests signed low high first second len revision ≡ Ok n
+    → Passed signed low high first second len n
 passed true false false true second len revision n h = record { is_signed = refl; not_low = refl; not_high = refl; known = inl refl; same = cc }
 passed true false false false true len revision n h = record { is_signed = refl; not_low = refl; not_high = refl; known = inr refl; same = cc }
 passed true false false false false len revision n h = absurd cc
@@ -127,7 +128,9 @@ told_table b t h =
     })
 
 -- a right header that tells all bytes, and structures, make a table
-pub table_is : (b : List ℕ) (t : Table) → told_length b ≡ Ok (length b) → values_in b header_fields ≡ header_values (bytes_at 4 0 b) (number_at 4 4 b) (number_at 1 9 b) t → Structures (drop 48 b) t.subspaces → length t.subspaces ≤ 256 → sum b % 256 ≡ 0 → TableBytes b t
+pub table_is : (b : List ℕ) (t : Table) → told_length b ≡ Ok (length b)
+    → values_in b header_fields ≡ header_values (bytes_at 4 0 b) (number_at 4 4 b) (number_at 1 9 b) t → Structures (drop 48 b) t.subspaces
+    → length t.subspaces ≤ 256 → sum b % 256 ≡ 0 → TableBytes b t
 unfolding bytes_at
 table_is b t told values structures few right =
     let h = told_ok b (length b) told in

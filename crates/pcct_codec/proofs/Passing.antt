@@ -7,7 +7,8 @@ pub err_from : {T : Type 0} (P : TableFault → Type 0) (r : Result T TableFault
 err_from P (Ok v) f h p = tt
 err_from P (Err e) f h p = subst P (sym h) p
 
-pub match_from : {T : Type 0} (Q : T → Type 0) (P : TableFault → Type 0) (r : Result T TableFault) (f : TableFault) → IsErrAnd r (λ e. e ≡ f) → P f → MatchResult r Q P
+pub match_from : {T : Type 0} (Q : T → Type 0) (P : TableFault → Type 0) (r : Result T TableFault) (f : TableFault) → IsErrAnd r (λ e. e ≡ f) → P f
+    → MatchResult r Q P
 match_from Q P (Ok v) f h p = absurd h
 match_from Q P (Err e) f h p = subst P (sym h) p
 

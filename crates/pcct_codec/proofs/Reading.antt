@@ -36,7 +36,8 @@ filling_taken a b c before after piece f read = record { taken = f.more ++ piece
 pub filling_kept : (a b c : Option (List ℕ)) (before after : List ℕ) → Filling a b before after → Keeps b c → Taken a c
 filling_kept a b c before after f kept = record { taken = f.more; read = Consumes-kept a b c f.more f.read kept }
 
-pub filling_ended : (a b c : Option (List ℕ)) (before after piece : List ℕ) (want : ℕ) → Filling a b before after → Consumes b c piece → piece ≡ [] → length after ≤ want → IsAtEnd c → Filled a c before after want
+pub filling_ended : (a b c : Option (List ℕ)) (before after piece : List ℕ) (want : ℕ) → Filling a b before after → Consumes b c piece → piece ≡ []
+    → length after ≤ want → IsAtEnd c → Filled a c before after want
 filling_ended a b c before after piece want f read none within end = record {
   more = f.more ++ piece;
   read = Consumes-trans a b c f.more piece f.read read;
@@ -45,7 +46,8 @@ filling_ended a b c before after piece want f read none within end = record {
   ended = λ _. end;
 }
 
-pub filling_end : (a b : Option (List ℕ)) (before after : List ℕ) (want : ℕ) → Filling a b before after → length after ≤ want → want ≤ length after → Filled a b before after want
+pub filling_end : (a b : Option (List ℕ)) (before after : List ℕ) (want : ℕ) → Filling a b before after → length after ≤ want → want ≤ length after
+    → Filled a b before after want
 filling_end a b before after want f within enough = record { more = f.more; read = f.read; grown = f.grown; within = within; ended = λ lt. absurd (omega arith) }
 
 -- ---- from the source's first byte on
@@ -69,30 +71,37 @@ first_read old new before after want none f =
     subst (λ (v : List ℕ). Consumes old new v) (sym same) f.read
 
 -- the header, and then the rest
-pub both_read : (old mid new : Option (List ℕ)) (before header after : List ℕ) (want len : ℕ) → before ≡ [] → Filled old mid before header want → Filled mid new header after len → Consumes old new after
+pub both_read : (old mid new : Option (List ℕ)) (before header after : List ℕ) (want len : ℕ) → before ≡ [] → Filled old mid before header want
+    → Filled mid new header after len → Consumes old new after
 both_read old mid new before header after want len none f g =
     subst (λ (v : List ℕ). Consumes old new v) (sym g.grown) (Consumes-trans old mid new header g.more (first_read old mid before header want none f) g.read)
 
-pub both_told : (mid new : Option (List ℕ)) (header after : List ℕ) (len : ℕ) → 48 ≤ length header → told_length header ≡ Ok len → Filled mid new header after len → told_length after ≡ Ok len
+pub both_told : (mid new : Option (List ℕ)) (header after : List ℕ) (len : ℕ) → 48 ≤ length header → told_length header ≡ Ok len
+    → Filled mid new header after len → told_length after ≡ Ok len
 both_told mid new header after len long told g = ap told_length g.grown ∙ told_more header g.more long ∙ told
 
-pub header_short : (old new : Option (List ℕ)) (before after : List ℕ) (n : ℕ) → before ≡ [] → Filled old new before after 48 → n ≡ length after → n < 48 → (all : List ℕ) → old ≡ Some all → decision true all ≡ Faulty (Short n)
+pub header_short : (old new : Option (List ℕ)) (before after : List ℕ) (n : ℕ) → before ≡ [] → Filled old new before after 48 → n ≡ length after
+    → n < 48 → (all : List ℕ) → old ≡ Some all → decision true all ≡ Faulty (Short n)
 header_short old new before after n none f same lt all e =
     let short : length after < 48 = omega arith in
     ap (decision true) (had_all old new after all (first_read old new before after 48 none f) (f.ended short) e) ∙ short_header after short ∙ ap (λ (k : ℕ). Faulty (Short k)) (sym same)
 
-pub header_wrong : (old new : Option (List ℕ)) (before after : List ℕ) (fault : TableFault) → before ≡ [] → Filled old new before after 48 → 48 ≤ length after → told_length after ≡ Err fault → (all : List ℕ) → old ≡ Some all → ReaderFaultIs fault (decision true all)
+pub header_wrong : (old new : Option (List ℕ)) (before after : List ℕ) (fault : TableFault) → before ≡ [] → Filled old new before after 48
+    → 48 ≤ length after → told_length after ≡ Err fault → (all : List ℕ) → old ≡ Some all → ReaderFaultIs fault (decision true all)
 header_wrong old new before after fault none f long told all e =
     let h = had old new after all (first_read old new before after 48 none f) e in
     let within : length after ≤ 48 = f.within in
     reader_fault fault (decision true all) (fault_is fault (decision true all) (ap (decision true) h.1 ∙ wrong_header true after h.0 fault (omega arith) told))
 
-pub header_left : (old new : Option (List ℕ)) (before after : List ℕ) (fault : TableFault) → before ≡ [] → Filled old new before after 48 → 48 ≤ length after → told_length after ≡ Err fault → Gone fault old new
+pub header_left : (old new : Option (List ℕ)) (before after : List ℕ) (fault : TableFault) → before ≡ [] → Filled old new before after 48
+    → 48 ≤ length after → told_length after ≡ Err fault → Gone fault old new
 header_left old new before after fault none f long told =
     let within : length after ≤ 48 = f.within in
     record { taken = after; read = first_read old new before after 48 none f; gone = header_gone after fault new told (omega arith) }
 
-pub table_short : (old mid new : Option (List ℕ)) (before header after : List ℕ) (len n : ℕ) → before ≡ [] → Filled old mid before header 48 → Filled mid new header after len → 48 ≤ length header → told_length header ≡ Ok len → n ≡ length after → n < len → (all : List ℕ) → old ≡ Some all → decision true all ≡ Faulty (Short n)
+pub table_short : (old mid new : Option (List ℕ)) (before header after : List ℕ) (len n : ℕ) → before ≡ [] → Filled old mid before header 48
+    → Filled mid new header after len → 48 ≤ length header → told_length header ≡ Ok len → n ≡ length after → n < len → (all : List ℕ)
+    → old ≡ Some all → decision true all ≡ Faulty (Short n)
 table_short old mid new before header after len n none f g long told same lt all e =
     let short : length after < len = omega arith in
     let grown : length after ≡ length header + length g.more = ap length g.grown ∙ length-append header g.more in
@@ -100,7 +109,8 @@ table_short old mid new before header after len n none f g long told same lt all
     ∙ short_table after len (omega arith) (both_told mid new header after len long told g) short
     ∙ ap (λ (k : ℕ). Faulty (Short k)) (sym same)
 
-pub excused_left : (old mid new : Option (List ℕ)) (before header : List ℕ) (want : ℕ) (fault : TableFault) → before ≡ [] → Filled old mid before header want → Taken mid new → IsExcused fault → Gone fault old new
+pub excused_left : (old mid new : Option (List ℕ)) (before header : List ℕ) (want : ℕ) (fault : TableFault) → before ≡ []
+    → Filled old mid before header want → Taken mid new → IsExcused fault → Gone fault old new
 excused_left old mid new before header want fault none f g excused =
     record {
       taken = header ++ g.taken;
@@ -114,7 +124,8 @@ excused_left old mid new before header want fault none f g excused =
 abbrev pub IsRead : List ℕ → Result Table TableFault → Type 0
 IsRead b r = MatchResult r (λ t. TableBytes b t × (table_decision b ≡ Right)) (λ f. FaultIs f (table_decision b))
 
-pub read_found : (r : Result Table TableFault) (b : List ℕ) (old new : Option (List ℕ)) → IsRead b r → IsBytes b → Consumes old new b → IfOk r (λ t. (x : List ℕ) × IsBytes x × TableBytes x t × Consumes old new x)
+pub read_found : (r : Result Table TableFault) (b : List ℕ) (old new : Option (List ℕ)) → IsRead b r → IsBytes b → Consumes old new b
+    → IfOk r (λ t. (x : List ℕ) × IsBytes x × TableBytes x t × Consumes old new x)
 read_found (Ok t) b old new h fit read = (b, fit, h.0, read)
 read_found (Err f) b old new h fit read = tt
 
@@ -122,13 +133,15 @@ pub read_value : (r : Result Table TableFault) (b : List ℕ) → IsRead b r →
 read_value (Ok t) b h fit = record { bytes = b; fit = fit; spell = h.0 }
 read_value (Err f) b h fit = tt
 
-pub read_exact : (r : Result Table TableFault) (b : List ℕ) (old new : Option (List ℕ)) → told_length b ≡ Ok (length b) → IsRead b r → Consumes old new b → (all : List ℕ) → old ≡ Some all → AnswerIs r (decision true all)
+pub read_exact : (r : Result Table TableFault) (b : List ℕ) (old new : Option (List ℕ)) → told_length b ≡ Ok (length b) → IsRead b r
+    → Consumes old new b → (all : List ℕ) → old ≡ Some all → AnswerIs r (decision true all)
 read_exact (Ok t) b old new told h read all e = let k = had old new b all read e in ap (decision true) k.1 ∙ whole true b k.0 told ∙ h.1
 read_exact (Err f) b old new told h read all e =
     let k = had old new b all read e in
     reader_fault f (decision true all) (subst (FaultIs f) (sym (ap (decision true) k.1 ∙ whole true b k.0 told)) h)
 
-pub read_gone : (r : Result Table TableFault) (b : List ℕ) (old new : Option (List ℕ)) → told_length b ≡ Ok (length b) → IsRead b r → Consumes old new b → IfErr r (λ f. Gone f old new)
+pub read_gone : (r : Result Table TableFault) (b : List ℕ) (old new : Option (List ℕ)) → told_length b ≡ Ok (length b) → IsRead b r
+    → Consumes old new b → IfErr r (λ f. Gone f old new)
 read_gone (Ok t) b old new told h read = tt
 read_gone (Err f) b old new told h read = record { taken = b; read = read; gone = table_gone b f new told h }
 
@@ -137,7 +150,8 @@ read_fault (Ok t) b h e = absurd cc
 read_fault (Err f) b h e =
     let same : f ≡ ReadFault = cc in table_read b (subst (λ (g : TableFault). FaultIs g (table_decision b)) same h)
 
-pub excused_only : (fault : TableFault) (old : Option (List ℕ)) → ((all : List ℕ) → old ≡ Some all → ReaderFaultIs fault (decision true all)) → (b rest : List ℕ) (t : Table) → TableBytes b t → old ≡ Some (b ++ rest) → IsExcused fault
+pub excused_only : (fault : TableFault) (old : Option (List ℕ)) → ((all : List ℕ) → old ≡ Some all → ReaderFaultIs fault (decision true all))
+    → (b rest : List ℕ) (t : Table) → TableBytes b t → old ≡ Some (b ++ rest) → IsExcused fault
 excused_only fault old exact b rest t h e =
     right_excused fault (subst (ReaderFaultIs fault) (right_source true b rest t h) (exact (b ++ rest) e))
 
@@ -151,7 +165,8 @@ one_front a b r q t u h k whole =
     let len : length a ≡ length b = cc in
     sym (take_at a r (length a) refl) ∙ ap (take (length a)) whole ∙ take_at b q (length a) (sym len)
 
-pub read_only : (r : Result Table TableFault) (a : List ℕ) (old new : Option (List ℕ)) → told_length a ≡ Ok (length a) → IsRead a r → Consumes old new a → (b rest : List ℕ) (t : Table) → TableBytes b t → old ≡ Some (b ++ rest) → MatchResult r (λ v. v ≡ t) IsExcused
+pub read_only : (r : Result Table TableFault) (a : List ℕ) (old new : Option (List ℕ)) → told_length a ≡ Ok (length a) → IsRead a r
+    → Consumes old new a → (b rest : List ℕ) (t : Table) → TableBytes b t → old ≡ Some (b ++ rest) → MatchResult r (λ v. v ≡ t) IsExcused
 read_only (Ok v) a old new told h read b rest t k e =
     let front = had old new a (b ++ rest) read e in
     let same : a ≡ b = one_front a b front.0 rest v t h.0 k (sym front.1) in
@@ -159,7 +174,9 @@ read_only (Ok v) a old new told h read b rest t k e =
 read_only (Err f) a old new told h read b rest t k e =
     excused_only f old (read_exact (Err f) a old new told h read) b rest t k e
 
-pub all_read : (old mid new : Option (List ℕ)) (before header after : List ℕ) (len : ℕ) → before ≡ [] → Filled old mid before header 48 → Filled mid new header after len → 48 ≤ length header → told_length header ≡ Ok len → len ≤ length after → Consumes old new after × (told_length after ≡ Ok (length after))
+pub all_read : (old mid new : Option (List ℕ)) (before header after : List ℕ) (len : ℕ) → before ≡ [] → Filled old mid before header 48
+    → Filled mid new header after len → 48 ≤ length header → told_length header ≡ Ok len → len ≤ length after
+    → Consumes old new after × (told_length after ≡ Ok (length after))
 all_read old mid new before header after len none f g long told enough =
     let within : length after ≤ len = g.within in
     let same : len ≡ length after = omega arith in

@@ -2,7 +2,7 @@
 use Rattle.std.proofs.Common.{◌≡◌, ℕ, zero, suc, ◌+◌, ◌<◌, ◌≤◌, eqb, ltb, true, false, List, [], ◌∷◌, ◌++◌, length, take, drop, slice_index, refl, sym, ap, ◌∙◌, subst, arith, Ok}
 use Rattle.std.specs.Prelude.{Some}
 use Rattle.std.specs.List.{flat_map}
-use Rattle.std.proofs.lemmas.Bool.{le-ltb}
+use Rattle.std.proofs.lemmas.Bool.{eq-eqb, le-ltb}
 use Rattle.std.proofs.lemmas.Bool.Decides.{nat_tests}
 use Rattle.std.proofs.lemmas.List.{take_at, drop_at, length-append, get_or_append_left}
 use Rattle.pcc_bytes.specs.Bytes.{IsBytes}
@@ -21,9 +21,6 @@ front b rest i lt = get_or_append_left b rest 0 i lt
 least : (b : List ℕ) (s : Subspace) → SubspaceBytes b s → 62 ≤ length b
 least b s h = size_least (kind_of s) (length b) h.size
 
-same : (n : ℕ) → eqb n n ≡ true
-same n = grind (arith, nat_tests)
-
 not_one : (n : ℕ) → 62 ≤ n → eqb n 1 ≡ false
 not_one n h = grind (arith, nat_tests)
 
@@ -36,7 +33,7 @@ size_again at b rest s h =
     let b0 : slice_index (b ++ rest) 0 ≡ kind_of s = front b rest 0 (omega arith) ∙ h.kind in
     let b1 : slice_index (b ++ rest) 1 ≡ length b = front b rest 1 (omega arith) ∙ h.told in
     let within : ltb (length (b ++ rest)) (length b) ≡ false = le-ltb _ _ (omega arith) in
-    rw (n, b0, b1, h.size, same (length b), within) refl
+    rw (n, b0, b1, h.size, eq-eqb (length b) (length b) refl, within) refl
 
 pub structures_right : (n at : ℕ) (bytes : List ℕ) (ss : List Subspace) → Structures bytes ss → length ss ≤ n → structures_decision n at bytes ≡ Right
 structures_right n at bytes [] h le = ap (structures_decision n at) h ∙ right_none n at
@@ -49,16 +46,14 @@ structures_right (suc n) at bytes (s ∷ ss) h le =
     ap (structures_decision (suc n) at) h.2 ∙ right_next n at (b ++ rest) (length b) len (size_again at b rest s h.3)
     ∙ ap (structures_decision n (at + length b)) (drop_at b rest (length b) refl) ∙ structures_right n (at + length b) rest ss h.4 (omega arith)
 
-some_is : {A : Type 0} (x y : A) → Some x ≡ Some y → x ≡ y
-some_is x y e = cc
-
 -- the first structures of the same bytes
 one_first : (a b : List ℕ) (s t : Subspace) (r q : List ℕ) → a ++ r ≡ b ++ q → SubspaceBytes a s → SubspaceBytes b t → length a ≡ length b
 one_first a b s t r q whole h k =
     let la : 62 ≤ length a = least a s h in
     let lb : 62 ≤ length b = least b t k in
     let kinds : kind_of s ≡ kind_of t = sym h.kind ∙ sym (front a r 0 (omega arith)) ∙ ap (λ (v : List ℕ). slice_index v 0) whole ∙ front b q 0 (omega arith) ∙ k.kind in
-    some_is _ _ (sym h.size ∙ ap size_of_kind kinds ∙ k.size)
+    let sizes : Some (length a) ≡ Some (length b) = sym h.size ∙ ap size_of_kind kinds ∙ k.size in
+    cc
 
 pub structures_one : (xs : List ℕ) (ss ts : List Subspace) → Structures xs ss → Structures xs ts → ss ≡ ts
 structures_one xs [] [] h k = refl

@@ -5,16 +5,15 @@ use Rattle.std.specs.List.{AllByRecursion, flat_map}
 use Rattle.std.proofs.lemmas.Bool.Decides.{nat_tests}
 use Rattle.std.proofs.lemmas.List.{length-append, take_at, drop_at}
 use Rattle.pcc_bytes.specs.Bytes.{IsBytes}
-use Rattle.pcc_bytes.proofs.Bytes.{IsBytes-drop, IsBytes-take}
+use Rattle.pcc_bytes.proofs.Bytes.{IsBytes-append, IsBytes-cons, IsBytes-drop, IsBytes-nil, IsBytes-take}
 use Rattle.pcct_table.specs.declared.subspace.Subspace.{Subspace}
 use Rattle.pcct_table.specs.declared.table.Table.{Table}
 use Rattle.pcct_table.specs.Rows.{header_fields, size_of_kind}
 use Rattle.pcct_table.specs.Values.{Value, values_in}
 use Rattle.pcct_table.specs.Subspaces.{IsSubspace, SubspaceBytes, kind_of, subspace_bytes}
 use Rattle.pcct_table.specs.ShowText.{HasText}
-use Rattle.pcct_table.proofs.Laws.{spelling}
-use Rattle.pcct_table.proofs.ShowHeader.{later_fit}
-use Rattle.pcct_table.proofs.ShowValues.{IsBytes-append, IsBytes-cons, IsBytes-nil}
+use Rattle.pcct_table.proofs.Laws.{own_bytes, own_fit}
+use Rattle.pcct_table.proofs.ShowHeader.{later_fit, revision_small}
 use Rattle.pcct_table.proofs.ShowWords.{AllFit, fields_fit, fields_len, values_back}
 use Rattle.pcct_codec.specs.Tables.{IsTableValue, Structures, TableBytes, check_in, header_values}
 use Rattle.pcct_codec.proofs.Writing.{header_bytes, some_check}
@@ -23,13 +22,6 @@ use Rattle.pcct_codec.proofs.Writing.{header_bytes, some_check}
 
 size_most : (kind size : ℕ) → size_of_kind kind ≡ Some size → size ≤ 164
 size_most kind size h = grind (arith, nat_tests)
-
--- the one spelling of a structure
-own_bytes : (s : Subspace) → IsSubspace s → SubspaceBytes (subspace_bytes s) s
-own_bytes s h = subst (λ (b : List ℕ). SubspaceBytes b s) (spelling h.bytes s h.fit h.spell) h.spell
-
-own_fit : (s : Subspace) → IsSubspace s → IsBytes (subspace_bytes s)
-own_fit s h = subst IsBytes (spelling h.bytes s h.fit h.spell) h.fit
 
 -- structures that some bytes spell, one behind the other
 structures_own : (ss : List Subspace) → AllByRecursion IsSubspace ss → Structures (flat_map subspace_bytes ss) ss
@@ -64,17 +56,15 @@ structures_parts bytes (s ∷ ss) fits h =
 signature_fit : IsBytes (codes "PCCT")
 signature_fit = IsBytes-cons 80 _ (lit< tt) (IsBytes-cons 67 _ (lit< tt) (IsBytes-cons 67 _ (lit< tt) (IsBytes-cons 84 [] (lit< tt) IsBytes-nil)))
 
-revision_small : (r : ℕ) → (r ≡ 1) ⊎ (r ≡ 2) → r < 256
-revision_small r (inl e) = omega arith
-revision_small r (inr e) = omega arith
-
 -- the values of a table's header fit in their fields
 header_fit : (t : Table) (len check : ℕ) → HasText t → len < 4294967296 → check < 256 → AllFit header_fields (header_values (codes "PCCT") len check t)
 header_fit t len check h short small =
     (record { len = refl; fit = signature_fit }, (omega arith, (revision_small t.revision h.known, (omega arith, later_fit t h))))
 
 -- a header and structures spell a table, where they fit
-spelled : (t : Table) (len check : ℕ) (body : List ℕ) → AllFit header_fields (header_values (codes "PCCT") len check t) → len ≡ 48 + length body → len ≤ 42032 → (t.revision ≡ 1) ⊎ (t.revision ≡ 2) → Structures body t.subspaces → length t.subspaces ≤ 256 → sum (header_bytes len check t ++ body) % 256 ≡ 0 → TableBytes (header_bytes len check t ++ body) t
+spelled : (t : Table) (len check : ℕ) (body : List ℕ) → AllFit header_fields (header_values (codes "PCCT") len check t) → len ≡ 48 + length body
+    → len ≤ 42032 → (t.revision ≡ 1) ⊎ (t.revision ≡ 2) → Structures body t.subspaces → length t.subspaces ≤ 256
+    → sum (header_bytes len check t ++ body) % 256 ≡ 0 → TableBytes (header_bytes len check t ++ body) t
 spelled t len check body fit told most known structures few right =
     let vs = header_values (codes "PCCT") len check t in
     let head = header_bytes len check t in

@@ -74,7 +74,8 @@ pub record Walking (bytes : List ℕ) (at : ℕ) (ss : List Subspace) : Type 0 w
 pub walk_start : (bytes : List ℕ) → 48 ≤ length bytes → Walking bytes 48 []
 walk_start bytes h = record { from = omega arith; to = h; done = []; whole = refl; structures = refl; few = omega arith; decided = refl }
 
-pub right_next : (n at : ℕ) (rest : List ℕ) (size : ℕ) → 0 < length rest → structure_size at rest ≡ Ok size → structures_decision (suc n) at rest ≡ structures_decision n (at + size) (drop size rest)
+pub right_next : (n at : ℕ) (rest : List ℕ) (size : ℕ) → 0 < length rest → structure_size at rest ≡ Ok size
+    → structures_decision (suc n) at rest ≡ structures_decision n (at + size) (drop size rest)
 unfolding structures_decision
 right_next n at [] size lt h = absurd (omega arith)
 right_next n at (b ∷ bs) size lt h = ap (λ (r : Result ℕ TableFault). behind_size r (λ k. structures_decision n (at + k) (drop k (b ∷ bs)))) h
@@ -94,7 +95,9 @@ unfolding structures_decision
 right_none zero at = refl
 right_none (suc n) at = refl
 
-pub walk_more : (bytes : List ℕ) (at size : ℕ) (ss : List Subspace) (s : Subspace) → at < length bytes → length ss < 256 → structure_size at (drop at bytes) ≡ Ok size → SubspaceBytes (take size (drop at bytes)) s → Walking bytes at ss → Walking bytes (at + size) (ss ++ s ∷ [])
+pub walk_more : (bytes : List ℕ) (at size : ℕ) (ss : List Subspace) (s : Subspace) → at < length bytes → length ss < 256
+    → structure_size at (drop at bytes) ≡ Ok size → SubspaceBytes (take size (drop at bytes)) s → Walking bytes at ss
+    → Walking bytes (at + size) (ss ++ s ∷ [])
 walk_more bytes at size ss s lt ne e b w =
     let here = stands at (drop at bytes) size e in
     let within : size ≤ length (drop at bytes) = here.within in
@@ -128,14 +131,16 @@ fault_is (Checksum a) o h = h
 fault_is ReadFault o h = h
 fault_is NoMemory o h = tt
 
-pub walk_fault : (bytes : List ℕ) (at : ℕ) (ss : List Subspace) (f : TableFault) → at < length bytes → length ss < 256 → structure_size at (drop at bytes) ≡ Err f → Walking bytes at ss → FaultIs f (structures_decision 256 48 (drop 48 bytes))
+pub walk_fault : (bytes : List ℕ) (at : ℕ) (ss : List Subspace) (f : TableFault) → at < length bytes → length ss < 256
+    → structure_size at (drop at bytes) ≡ Err f → Walking bytes at ss → FaultIs f (structures_decision 256 48 (drop 48 bytes))
 walk_fault bytes at ss f lt ne e w =
     let few : length ss ≤ 256 = w.few in
     let k : 256 - length ss ≡ suc (256 - (length ss + 1)) = omega arith in
     let long : 0 < length (drop at bytes) = omega (arith, length-drop at bytes) in
     fault_is f _ (sym w.decided ∙ ap (λ (n : ℕ). structures_decision n at (drop at bytes)) k ∙ fault_here (256 - (length ss + 1)) at (drop at bytes) f long e)
 
-pub walk_many : (bytes : List ℕ) (at : ℕ) (ss : List Subspace) → at < length bytes → 256 ≤ length ss → Walking bytes at ss → structures_decision 256 48 (drop 48 bytes) ≡ Faulty (TooMany at)
+pub walk_many : (bytes : List ℕ) (at : ℕ) (ss : List Subspace) → at < length bytes → 256 ≤ length ss → Walking bytes at ss
+    → structures_decision 256 48 (drop 48 bytes) ≡ Faulty (TooMany at)
 walk_many bytes at ss lt e w =
     let k : 256 - length ss ≡ 0 = omega arith in
     let long : 0 < length (drop at bytes) = omega (arith, length-drop at bytes) in

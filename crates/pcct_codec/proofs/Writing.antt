@@ -12,6 +12,7 @@ use Rattle.pcct_table.specs.Rows.{header_fields}
 use Rattle.pcct_table.specs.Subspaces.{subspace_bytes}
 use Rattle.pcct_table.specs.Values.{fields_bytes, number_bytes}
 use Rattle.pcct_table.proofs.Laws.{fields_back}
+use Rattle.pcct_table.proofs.ShowValues.{number_len}
 use Rattle.pcct_codec.specs.Tables.{TableBytes, check_in, header_values}
 use Rattle.std.proofs.Math.ListN.{set}
 use Rattle.pcct_codec.proofs.Spelled.{structures_spelled}
@@ -38,15 +39,11 @@ front len t = 80 ∷ 67 ∷ 67 ∷ 84 ∷ (number_bytes 4 len ++ number_bytes 1 
 back : Table → List ℕ → List ℕ
 back t body = (t.oem_id ++ (t.oem_table ++ (number_bytes 4 t.oem_revision ++ (t.creator ++ (number_bytes 4 t.creator_revision ++ (number_bytes 4 t.flags ++ (t.reserved ++ []))))))) ++ body
 
-number_length : (n x : ℕ) → length (number_bytes n x) ≡ n
-unfolding number_bytes
-number_length n x = length-bytes_low_first 0 n x
-
 front_length : (len : ℕ) (t : Table) → length (front len t) ≡ 9
 unfolding front
 front_length len t =
-    let a = number_length 4 len in
-    let b = number_length 1 t.revision in
+    let a = number_len 4 len in
+    let b = number_len 1 t.revision in
     omega (arith, length-append (number_bytes 4 len) (number_bytes 1 t.revision))
 
 one_byte : (x : ℕ) → x < 256 → number_bytes 1 x ≡ x ∷ []
@@ -93,7 +90,8 @@ pub record Unsummed (b : List ℕ) (t : Table) (unsummed : List ℕ) : Type 0 wh
   pub whole : b ≡ front ++ check_in b ∷ back
   pub zeroed : unsummed ≡ front ++ 0 ∷ back
 
-pub unsummed : (b : List ℕ) (t : Table) (len : ℕ) (body written : List ℕ) → IsBytes b → TableBytes b t → body ≡ flat_map subspace_bytes t.subspaces → len ≡ 48 + length body → written ≡ header_bytes len 0 t ++ body → Unsummed b t written
+pub unsummed : (b : List ℕ) (t : Table) (len : ℕ) (body written : List ℕ) → IsBytes b → TableBytes b t → body ≡ flat_map subspace_bytes t.subspaces
+    → len ≡ 48 + length body → written ≡ header_bytes len 0 t ++ body → Unsummed b t written
 unsummed b t len body written fits h spelled told e =
     let same : drop 48 b ≡ body = body_spelled b t fits h ∙ sym spelled in
     let least : 48 ≤ length b = h.least in
@@ -114,7 +112,8 @@ unsummed_length b t written u =
     omega arith
 
 -- with the byte that makes the sum right they are the table's bytes
-pub summed : (b : List ℕ) (t : Table) (check : ℕ) (written : List ℕ) → IsBytes b → TableBytes b t → Unsummed b t written → check < 256 → (check + sum written % 256) % 256 ≡ 0 → set written 9 check ≡ b
+pub summed : (b : List ℕ) (t : Table) (check : ℕ) (written : List ℕ) → IsBytes b → TableBytes b t → Unsummed b t written → check < 256
+    → (check + sum written % 256) % 256 ≡ 0 → set written 9 check ≡ b
 summed b t check written fits h u small right =
     let f = u.front in
     let r = u.back in

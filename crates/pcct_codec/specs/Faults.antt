@@ -1,12 +1,14 @@
 -- What the first bytes of a source decide: that they begin with a table, or the first check that fails.
-use Rattle.std.specs.Prelude.{◌≡◌, ◌<◌, ◌≤◌, ◌++◌, ℕ, zero, suc, ◌+◌, ◌%◌, ◌==◌, nat_lt, ◌||◌, if◌then◌else◌, Bool, true, List, [], ◌∷◌, length, take, drop, sum, slice_index, Option, Some, None, Result, Ok, Err, codes}
+use Rattle.std.specs.Prelude.{◌≡◌, ◌<◌, ◌≤◌, ◌++◌, ℕ, zero, suc, ◌+◌, ◌%◌, ◌==◌, nat_lt, ◌||◌, if◌then◌else◌, Bool, true, List, [], ◌∷◌, length, take}
+use Rattle.std.specs.Prelude.{drop, sum, slice_index, Option, Some, None, Result, Ok, Err, codes}
 use Rattle.std.specs.Str.{bytes_eq}
 use Rattle.std.specs.Io.KnownBytes.{Consumes, IsAtEnd}
 use Rattle.pcct_table.specs.declared.table.Table.{Table}
 use Rattle.pcct_table.specs.Rows.{header_fields, header_size, number_in, bytes_in, size_of_kind}
 use Rattle.pcct_codec.specs.Tables.{length_in, most_bytes, most_structures}
 use Rattle.pcct_codec.specs.declared.fault.TableFault.{TableFault}
-use Rattle.pcct_codec.specs.declared.fault.TableFault.TheVariants.{Short, Signature, LengthOutside, Revision, TooMany, Overrun, SubspaceType, SubspaceLength, Checksum, ReadFault, NoMemory}
+use Rattle.pcct_codec.specs.declared.fault.TableFault.TheVariants.{Short, Signature, LengthOutside, Revision, TooMany, Overrun, SubspaceType}
+use Rattle.pcct_codec.specs.declared.fault.TableFault.TheVariants.{SubspaceLength, Checksum, ReadFault, NoMemory}
 
 pub data Decision : Type 0 where
   Undecided : Decision
@@ -15,7 +17,7 @@ pub data Decision : Type 0 where
 
 -- ---- the header
 
--- the number of all bytes that a header tells, or the first of its checks that fails: the signature, the length, the revision
+-- the number of all bytes that a header states, or the first of its checks that fails: the signature, the length, the revision
 unfoldable pub told_length : List ℕ → Result ℕ TableFault
 told_length header =
     if bytes_eq (codes "PCCT") (bytes_in header_fields (codes "signature") header) then
@@ -26,12 +28,12 @@ told_length header =
 
 -- ---- the structures
 
--- the checks behind that of the type
+-- the checks after that of the type
 abbrev pub sized : ℕ → ℕ → ℕ → ℕ → Option ℕ → Result ℕ TableFault
 sized at kind found len None = Err (SubspaceType at kind)
 sized at kind found len (Some size) = if found == size then (if nat_lt len size then Err (Overrun at) else Ok size) else Err (SubspaceLength at kind found)
 
--- The number of bytes of the structure that stands first in what is left of a table at a place, or the first check that fails on it:
+-- The number of bytes of the structure at the front in what is left of a table at a place, or the first check that fails on it:
 -- one byte alone is left, the type isn't known, the second byte isn't the type's size, it passes the table's end.
 unfoldable pub structure_size : ℕ → List ℕ → Result ℕ TableFault
 structure_size at rest =
@@ -42,7 +44,7 @@ abbrev pub behind_size : Result ℕ TableFault → (ℕ → Decision) → Decisi
 behind_size (Ok size) next = next size
 behind_size (Err fault) next = Faulty fault
 
--- the structures from a place on, of which there may be so many
+-- the structures from a place on, of which there may be n
 unfoldable pub structures_decision : ℕ → ℕ → List ℕ → Decision
 structures_decision few at [] = Right
 structures_decision zero at (b ∷ bs) = Faulty (TooMany at)
@@ -59,7 +61,7 @@ and_then (Faulty fault) next = Faulty fault
 abbrev pub sum_decision : List ℕ → Decision
 sum_decision bytes = if sum bytes % 256 == 0 then Right else Faulty (Checksum (sum bytes % 256))
 
--- all bytes of a table, behind the checks of its header: its structures, then the sum
+-- all bytes of a table, after the checks of its header: its structures, then the sum
 unfoldable pub table_decision : List ℕ → Decision
 table_decision bytes = and_then (structures_decision most_structures header_size (drop header_size bytes)) (sum_decision bytes)
 
@@ -71,11 +73,11 @@ abbrev pub behind_header : Bool → List ℕ → Result ℕ TableFault → Decis
 behind_header ended bytes (Ok len) = if nat_lt (length bytes) len then wanting ended bytes else table_decision (take len bytes)
 behind_header ended bytes (Err fault) = Faulty fault
 
--- The first bytes of a source that has ended behind them or not. What follows a table is not looked at.
+-- The first bytes of a source that has ended after them or not. What follows a table is not looked at.
 unfoldable pub decision : Bool → List ℕ → Decision
 decision ended bytes = if nat_lt (length bytes) header_size then wanting ended bytes else behind_header ended bytes (told_length bytes)
 
--- bytes behind which a source has ended decide a fault
+-- bytes after which a source has ended decide a fault
 abbrev pub HasFault : List ℕ → Type 0
 HasFault bytes = (fault : TableFault) × (decision true bytes ≡ Faulty fault)
 
@@ -102,8 +104,8 @@ IsExcused ReadFault = Unit {0}
 IsExcused NoMemory = Unit {0}
 IsExcused fault = ⊥
 
--- The bytes that are gone from a source at a fault, and what is left there: the header behind a fault of the header; behind one of the
--- structures or of the sum, as many as a right header at their front tells; and all bytes of the source where they are too few.
+-- The bytes that are gone from a source at a fault, and what is left there: the header after a fault of the header; after one of the
+-- structures or of the sum, as many as a right header at their front states; and all bytes of the source where they are too few.
 abbrev pub IsGone : TableFault → List ℕ → Option (List ℕ) → Type 0
 IsGone (Short at) taken left = (length taken ≡ at) × IsAtEnd left
 IsGone Signature taken left = length taken ≡ header_size

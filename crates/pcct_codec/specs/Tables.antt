@@ -34,11 +34,11 @@ header_values signature len check t =
 abbrev pub check_in : List ℕ → ℕ
 check_in bytes = number_in header_fields (codes "checksum") bytes
 
--- the number of bytes that a header tells
+-- the number of bytes that a header states
 abbrev pub length_in : List ℕ → ℕ
 length_in bytes = number_in header_fields (codes "length") bytes
 
--- bytes are those of the structures, one behind the other
+-- bytes are those of the structures, one after the other
 abbrev pub Structures : List ℕ → List Subspace → Type 0
 Structures bytes [] = bytes ≡ []
 Structures bytes (s ∷ ss) = (front : List ℕ) × (rest : List ℕ) × (bytes ≡ front ++ rest) × SubspaceBytes front s × Structures rest ss

@@ -1,5 +1,5 @@
 -- What the worked tables say.
-use Rattle.std.specs.Prelude.{[], ◌∷◌, codes}
+use Rattle.std.specs.Prelude.{ℕ, zero, suc, List, [], ◌∷◌, ◌++◌, codes}
 use Rattle.pcct_table.specs.declared.subspace.Subspace.TheVariants.{Generic}
 use Rattle.pcct_table.specs.declared.table.Table.{Table}
 
@@ -35,3 +35,8 @@ one_generic = record no_subspaces {
       })
       ∷ [];
 }
+
+-- the same bytes n times
+abbrev pub repeated : ℕ → List ℕ → List ℕ
+repeated zero bytes = []
+repeated (suc n) bytes = bytes ++ repeated n bytes

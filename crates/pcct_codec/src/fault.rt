@@ -12,21 +12,21 @@ use std::alloc::AllocError;
 /// The first check that fails on bytes or on those of a source, in this order, with its place from the table's first byte.
 #[derive(Clone, Copy, Debug, PartialEq, Eq)]
 pub enum TableFault {
-    /// The bytes or the source end after so many, fewer than a header's 48 or than the header tells.
+    /// The bytes or the source end after this many, fewer than a header's 48 or than the header states.
     Short { at: u32 },
     /// The first four bytes aren't `PCCT`.
     Signature,
-    /// The header tells a length below 48 or above 42,032.
+    /// The header states a length below 48 or above 42,032.
     LengthOutside { len: u32 },
     /// The revision is neither 1 nor 2.
     Revision { found: u8 },
-    /// A structure begins here, behind 256.
+    /// A structure begins here, after 256.
     TooMany { at: u32 },
     /// Of the structure that begins here one byte is left, or it passes the table's end.
     Overrun { at: u32 },
     /// The structure that begins here is of an unknown type.
     SubspaceType { at: u32, kind: u8 },
-    /// The structure that begins here tells another size than its type's.
+    /// The structure that begins here states another size than its type's.
     SubspaceLength { at: u32, kind: u8, found: u8 },
     /// All bytes have this sum modulo 256, and it isn't 0.
     Checksum { sum: u8 },

@@ -19,7 +19,7 @@ pub const HEADER_BYTES: usize = 48;
 /// The most bytes of a table: its header, and `MAX_SUBSPACES` structures of 164 bytes.
 pub const MAX_TABLE_BYTES: u32 = 42_032;
 
-/// The number of bytes that the header tells, or the first of its checks that fails.
+/// The number of bytes that the header states, or the first of its checks that fails.
 #[tactic(auto, unfolding(crate::specs::Faults::told_length))]
 pub(crate) fn told_length(header: &[u8]) -> Result<usize, TableFault>
     requires { 48 ≤ length header.now }
@@ -59,7 +59,7 @@ pub(crate) fn table_with(header: &[u8], subspaces: Subspaces) -> Table
     }
 }
 
-/// Puts the bytes of a header at the end. Where memory runs out some of them may stand there.
+/// Puts the bytes of a header at the end. If memory runs out some of them may have been put.
 pub(crate) fn put_header(
     out: &mut Vec<u8>,
     table: &Table,

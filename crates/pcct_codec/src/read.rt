@@ -1,5 +1,6 @@
 //! Tables from bytes, and from a source of them.
-ghost use Rattle.std.specs.Prelude.{◌≡◌, ◌↔◌, ◌⊎◌, ◌++◌, ◌<◌, ◌≤◌, ◌^◌, Bool, List, ℕ, Some, Ok, vec_len, length, take, true, false, IfOk, IfErr, IsErrOf, MatchResult, OnOk};
+ghost use Rattle.std.specs.Prelude.{◌≡◌, ◌↔◌, ◌⊎◌, ◌++◌, ◌<◌, ◌≤◌, ◌^◌, Bool, List, ℕ, Some, Ok, vec_len, length, take, true, false, IfOk, IfErr};
+ghost use Rattle.std.specs.Prelude.{IsErrOf, MatchResult, OnOk};
 ghost use Rattle.std.specs.Io.KnownBytes.{Consumes};
 ghost use Rattle.pcc_bytes.specs.Bytes.{IsBytes};
 ghost use Rattle.pcc_causes.specs.Causes.{Rose};
@@ -33,7 +34,7 @@ use std::alloc::Global;
 /// How many bytes one read asks for at most.
 const CHUNK: usize = 1024;
 
-/// Reads until there are so many bytes or the source has ended.
+/// Reads until there are this many bytes or the source has ended.
 #[tactic(auto, using(crate::proofs::Reading::filling_start, crate::proofs::Reading::filling_more, crate::proofs::Reading::filling_taken, crate::proofs::Reading::filling_kept, crate::proofs::Reading::filling_ended, crate::proofs::Reading::filling_end))]
 fn fill<S: Source>(source: &mut S, bytes: &mut Vec<u8>, want: usize) -> Result<(), TableFault>
     requires within { vec_len bytes.old ≤ want }
@@ -56,7 +57,7 @@ fn fill<S: Source>(source: &mut S, bytes: &mut Vec<u8>, want: usize) -> Result<(
     Ok(())
 }
 
-/// The bytes of a header that is right and of all that it tells.
+/// The bytes of a header that is right and of all that it states.
 fn take_table<S: Source>(alloc: Global, source: &mut S) -> Result<Vec<u8>, TableFault>
     ensures ok { IfOk result (λ v. Consumes (S.left source.old) (S.left source.new) v.items × (told_length v.items ≡ Ok (length v.items))) }
     ensures exact { (all : List ℕ) → S.left source.old ≡ Some all → IfErr result (λ f. ReaderFaultIs f (decision true all)) }
@@ -81,7 +82,7 @@ fn take_table<S: Source>(alloc: Global, source: &mut S) -> Result<Vec<u8>, Table
     Ok(bytes)
 }
 
-/// The table that the bytes spell, which a right header tells to be all.
+/// The table that the bytes spell, which a right header states to be all.
 fn table_in(alloc: Global, bytes: &[u8]) -> Result<Table, TableFault>
     requires { told_length bytes.now ≡ Ok (length bytes.now) }
     ensures table { MatchResult result
@@ -97,7 +98,7 @@ fn table_in(alloc: Global, bytes: &[u8]) -> Result<Table, TableFault>
     Ok(table_with(bytes, subspaces))
 }
 
-/// The table with which the bytes begin (ACPI 6.5, 14.1), and how many bytes it has. The bytes behind it are not looked at.
+/// The table with which the bytes begin (ACPI 6.5, 14.1), and how many bytes it has. The bytes after it are not looked at.
 ///
 /// The faults are those of `table_from`, without `ReadFault`.
 pub fn table_of_bytes(alloc: Global, bytes: &[u8]) -> Result<(Table, usize), TableFault>
@@ -127,8 +128,8 @@ pub fn table_of_bytes(alloc: Global, bytes: &[u8]) -> Result<(Table, usize), Tab
     Ok((table, len))
 }
 
-/// The table with whose bytes the source begins, which are then gone. The header's 48 bytes are taken first, then as many as it tells.
-/// Behind a fault of the header 48 bytes are gone, behind one of the structures or of the sum all of the table's, and at `Short` the
+/// The table with whose bytes the source begins, which are then gone. The header's 48 bytes are taken first, then as many as it states.
+/// After a fault of the header 48 bytes are gone, after one of the structures or of the sum all of the table's, and at `Short` the
 /// source is at its end.
 pub fn table_from<S: Source>(alloc: Global, source: &mut S) -> Result<Table, TableFault>
     // A table is one that the taken bytes spell.
@@ -154,7 +155,7 @@ pub fn table_from<S: Source>(alloc: Global, source: &mut S) -> Result<Table, Tab
 pub fn decision_laws()
     ensures settled { (ended : Bool) (bytes more : List ℕ) → (decision false bytes ≡ Undecided → ⊥)
         → decision ended (bytes ++ more) ≡ decision false bytes }
-    // They are decided to be right exactly where they begin with a table, and else, where no more follow, they have a fault.
+    // They are decided to be right exactly when they begin with a table, and else, where no more follow, they have a fault.
     ensures right { (bytes : List ℕ) → (decision true bytes ≡ Right) ↔ BeginsTable bytes }
     ensures begun { (ended : Bool) (bytes : List ℕ) → BeginsTable bytes → decision ended bytes ≡ Right }
     ensures some { (bytes : List ℕ) → BeginsTable bytes ⊎ HasFault bytes }

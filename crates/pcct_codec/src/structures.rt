@@ -1,4 +1,4 @@
-//! The structures behind a table's header.
+//! The structures after a table's header.
 ghost use Rattle.std.specs.Prelude.{◌≡◌, ◌++◌, ◌≤◌, ◌<◌, ◌^◌, length, drop, take, MatchResult, OnOk, Ok, Err};
 ghost use Rattle.std.specs.List.{flat_map};
 ghost use Rattle.pcct_table.specs.Subspaces.{SubspaceBytes, subspace_bytes};
@@ -11,7 +11,7 @@ use pcc_io::NoMemory;
 use pcct_table::{MAX_SUBSPACES, Subspace, Subspaces, put_subspace, size_of_kind, subspace_from};
 use std::alloc::Global;
 
-/// The size of the structure that stands first, or what is wrong with it.
+/// The size of the structure at the front, or what is wrong with it.
 #[tactic(auto, unfolding(crate::specs::Faults::structure_size))]
 fn structure_size(at: u32, rest: &[u8]) -> Result<usize, TableFault>
     requires { 0 < length rest.now }
@@ -34,7 +34,7 @@ fn structure_size(at: u32, rest: &[u8]) -> Result<usize, TableFault>
     Ok(usize::from(size))
 }
 
-/// The structure that stands first, and its size.
+/// The structure at the front, and its size.
 #[tactic(auto, using(crate::proofs::Walking::shaped, crate::proofs::Walking::stands))]
 fn structure_at(at: u32, rest: &[u8]) -> Result<(Subspace, usize), TableFault>
     requires { 0 < length rest.now }
@@ -56,7 +56,7 @@ fn behind(bytes: &[u8], at: usize) -> &[u8]
     &bytes[at..]
 }
 
-/// The structures of a table, all its bytes behind the header, or the first check that fails on them.
+/// The structures of a table, all its bytes after the header, or the first check that fails on them.
 pub(crate) fn structures_from(alloc: Global, bytes: &[u8]) -> Result<Subspaces, TableFault>
     requires header { 48 ≤ length bytes.now }
     requires short { length bytes.now < 2 ^ 32 }
@@ -77,7 +77,7 @@ pub(crate) fn structures_from(alloc: Global, bytes: &[u8]) -> Result<Subspaces, 
     Ok(subspaces)
 }
 
-/// Puts the structures' bytes at the end. Where memory runs out some of them may stand there.
+/// Puts the structures' bytes at the end. If memory runs out some of them may have been put.
 pub(crate) fn put_structures(out: &mut Vec<u8>, subspaces: &[Subspace]) -> Result<(), NoMemory>
     ensures { OnOk result (out.new.items ≡ out.old.items ++ flat_map subspace_bytes subspaces.now) }
 {

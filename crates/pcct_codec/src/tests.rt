@@ -1,4 +1,4 @@
-//! Worked tables and what is told of wrong ones.
+//! Worked tables and what is reported of wrong ones.
 use super::*;
 use pcc_io::{MemSink, MemSource, NoMemory};
 use pcct_table::Subspace;
@@ -16,7 +16,7 @@ fn changed(alloc: Global, bytes: &[u8], changes: &[(usize, u8)]) -> Result<Vec<u
     Ok(bytes)
 }
 
-// What is told of the bytes, read in pieces of 7, and how many of them are left.
+// What is reported of the bytes, read in pieces of 7, and how many of them are left.
 fn told(alloc: Global, bytes: &[u8]) -> Result<(Option<TableFault>, usize), NoMemory> {
     let mut source = MemSource::new(alloc, bytes, 7, &[])?;
     let fault = table_from(alloc, &mut source).err();
@@ -34,7 +34,7 @@ fn written_again(alloc: Global, bytes: &[u8]) -> Result<bool, NoMemory> {
     Ok(written.is_ok() && sink.bytes_held() == bytes)
 }
 
-// So many copies of the worked structure behind a header that tells this length.
+// This many copies of the worked structure after a header that states this length.
 fn repeated(alloc: Global, count: usize, len: u16, checksum: u8) -> Result<Vec<u8>, AllocError> {
     let [low, high] = len.to_le_bytes();
     let header = changed(alloc, &NO_SUBSPACES, &[(4, low), (5, high), (9, checksum)])?;
@@ -106,7 +106,7 @@ fn the_first_check_that_fails_is_told(rt: HostRuntime) -> Result<(), Fail> {
         kind: 2,
         found: 62,
     };
-    // The changes to a table with one generic subspace, what is told, and how many of its 110 bytes are left.
+    // The changes to a table with one generic subspace, what is reported, and how many of its 110 bytes are left.
     let cases: [(&[(usize, u8)], TableFault, usize); 13] = [
         (&[(0, 0x51)], TableFault::Signature, 62),
         (&[(4, 47)], TableFault::LengthOutside { len: 47 }, 62),

@@ -2,7 +2,7 @@
 ghost use Rattle.std.specs.Prelude.{◌≡◌, [], ◌∷◌, ◌++◌, take, drop, true, false, Err};
 ghost use Rattle.pcct_codec.specs.Tables.{TableBytes, most_structures};
 ghost use Rattle.pcct_codec.specs.Faults.{Faulty, Right, Undecided, decision, structure_size, structures_decision};
-ghost use Rattle.pcct_codec.specs.Worked.{no_subspaces, one_generic};
+ghost use Rattle.pcct_codec.specs.Worked.{no_subspaces, one_generic, repeated};
 ghost use Rattle.pcct_codec.specs.declared.fault.TableFault.TheVariants.{
   Checksum,
   LengthOutside,
@@ -50,7 +50,16 @@ pub fn worked_faults()
     ensures size_by_type { structure_size 48 (2 ∷ 62 ∷ []) ≡ Err (SubspaceLength 48 2 62) }
     ensures checksum { decision true (take 9 NO_SUBSPACES ++ 0x5b ∷ drop 10 NO_SUBSPACES) ≡ Faulty (Checksum 1) }
 
-    // Where one structure may stand there, a byte behind it begins one too many. A table may have 256.
+
+    // A table may have 256 structures. If only one is allowed, a byte after it begins one too many.
     ensures many { structures_decision 1 48 (drop 48 ONE_GENERIC_SUBSPACE ++ 0 ∷ []) ≡ Faulty (TooMany 110) }
     ensures most { most_structures ≡ 256 }
+{}
+
+/// The same structure 256 times, and once more than a table may have, after a header with the length of the whole. It does nothing.
+pub fn worked_many()
+    ensures most { decision true (take 4 NO_SUBSPACES ++ 0x30 ∷ 0x3e ∷ 0 ∷ 0 ∷ 2 ∷ 0x1c ∷ drop 10 NO_SUBSPACES
+        ++ repeated 256 (drop 48 ONE_GENERIC_SUBSPACE)) ≡ Right }
+    ensures many { decision true (take 4 NO_SUBSPACES ++ 0x6e ∷ 0x3e ∷ drop 6 NO_SUBSPACES
+        ++ repeated 257 (drop 48 ONE_GENERIC_SUBSPACE)) ≡ Faulty (TooMany 15920) }
 {}

@@ -3,7 +3,7 @@ use Rattle.std.proofs.Common.{◌≡◌, ◌≢◌, ℕ, suc, ◌+◌, ◌^◌, 
 use Rattle.std.specs.Prelude.{Option, Some, None, Ok, Err}
 use Rattle.std.specs.List.{AllByRecursion}
 use Rattle.std.proofs.lemmas.List.{append-nil, drop_more, length-append, take_all, take_more, take-append-drop}
-use Rattle.pcc_bytes.specs.Fields.{split_at}
+use Rattle.pcc_bytes.specs.Fields.{last_in, lines_of, split_at}
 use Rattle.pcct_table.specs.declared.build.BuildError.{BuildError}
 use Rattle.pcct_table.specs.declared.build.BuildError.TheVariants as error
 use Rattle.pcct_table.specs.declared.build.BuildKind.{BuildKind}
@@ -14,7 +14,7 @@ use Rattle.pcct_table.specs.ShowText.{show_line, structure_lines}
 use Rattle.pcct_table.specs.ShowFaults.{IsRightAt}
 use Rattle.pcct_table.specs.ShowReading.{AreFew, ReadsStructure, StopsBehind, TellsStructures, OneLineMore, Unended, Wrong, read_line}
 use Rattle.pcct_table.proofs.ShowLine.{line_is, line_read, line_spelled}
-use Rattle.pcct_table.proofs.Lines.{IsRest, last_in, lines_of, next_line, no_line}
+use Rattle.pcct_table.proofs.Lines.{IsRest, next_line, no_line}
 
 -- the structures of the lines before a place are read
 pub record Building (lines : List (List ℕ)) (place : ℕ) (ss : List Subspace) : Type 0 where
@@ -36,11 +36,13 @@ record IsRead (place : ℕ) (line : List ℕ) (s : Subspace) : Type 0 where
   spelled : IsSubspace s
   is : line ≡ show_line place s
 
-read_some : (o : Option (List ℕ)) (place : ℕ) (line : List ℕ) (s : Subspace) → read_line place (split_at 32 line) ≡ o → ReadsStructure o (Some s) → IsRead place line s
+read_some : (o : Option (List ℕ)) (place : ℕ) (line : List ℕ) (s : Subspace) → read_line place (split_at 32 line) ≡ o → ReadsStructure o (Some s)
+    → IsRead place line s
 read_some (Some b) place line s e h = record { spelled = line_spelled place line b s e h; is = line_is place line b s e h }
 read_some None place line s e h = absurd h
 
-read_none : (o : Option (List ℕ)) (place : ℕ) (line : List ℕ) → place < 2 ^ 64 → read_line place (split_at 32 line) ≡ o → ReadsStructure o None → IsRightAt (suc place) line → ⊥
+read_none : (o : Option (List ℕ)) (place : ℕ) (line : List ℕ) → place < 2 ^ 64 → read_line place (split_at 32 line) ≡ o → ReadsStructure o None
+    → IsRightAt (suc place) line → ⊥
 read_none (Some b) place line small e h r = absurd h
 read_none None place line small e h r =
     let some = line_read place line r.0 small r.1 r.2 in
@@ -52,7 +54,9 @@ building_start lines ss e =
     let B : List Subspace → Type 0 = Building lines 0 in
     subst B (sym e) (record { count = refl; right = record { spelled = tt; few = omega arith }; front = refl })
 
-pub building_more : (lines : List (List ℕ)) (place : ℕ) (ss next : List Subspace) (s : Subspace) → place < length lines → ReadsStructure (read_line place (split_at 32 (get_or lines place []))) (Some s) → place ≢ 256 → next ≡ ss ++ s ∷ [] → Building lines place ss → Building lines (place + 1) next
+pub building_more : (lines : List (List ℕ)) (place : ℕ) (ss next : List Subspace) (s : Subspace) → place < length lines
+    → ReadsStructure (read_line place (split_at 32 (get_or lines place []))) (Some s) → place ≢ 256 → next ≡ ss ++ s ∷ [] → Building lines place ss
+    → Building lines (place + 1) next
 building_more lines place ss next s lt h ne e b =
     let line = get_or lines place [] in
     let r = read_some (read_line place (split_at 32 line)) place line s refl h in
@@ -70,11 +74,14 @@ building_more lines place ss next s lt h ne e b =
     zero_plus n = omega arith
 
 -- the lines are those before a place, the one there, and those behind it
-cut_at : (lines : List (List ℕ)) (place : ℕ) (ss : List Subspace) → place < length lines → Building lines place ss → lines ≡ structure_lines 0 ss ++ get_or lines place [] ∷ drop (place + 1) lines
+cut_at : (lines : List (List ℕ)) (place : ℕ) (ss : List Subspace) → place < length lines → Building lines place ss
+    → lines ≡ structure_lines 0 ss ++ get_or lines place [] ∷ drop (place + 1) lines
 cut_at lines place ss lt b =
     sym (take-append-drop place lines) ∙ ap (λ (ls : List (List ℕ)). ls ++ drop place lines) b.front ∙ ap (λ (ls : List (List ℕ)). structure_lines 0 ss ++ ls) (drop_more lines place [] lt)
 
-pub building_wrong : (lines : List (List ℕ)) (last : List ℕ) (place line : ℕ) (ss : List Subspace) → place < length lines → ReadsStructure (read_line place (split_at 32 (get_or lines place []))) None → line ≡ place + 2 → Building lines place ss → StopsBehind lines last line kind.Text
+pub building_wrong : (lines : List (List ℕ)) (last : List ℕ) (place line : ℕ) (ss : List Subspace) → place < length lines
+    → ReadsStructure (read_line place (split_at 32 (get_or lines place []))) None → line ≡ place + 2 → Building lines place ss
+    → StopsBehind lines last line kind.Text
 building_wrong lines last place line ss lt h e b =
     let count : length ss ≡ place = b.count in
     let few : length ss ≤ 256 = b.right.few in
@@ -90,7 +97,9 @@ building_wrong lines last place line ss lt h e b =
       number = omega arith;
     }
 
-pub building_many : (lines : List (List ℕ)) (last : List ℕ) (place line : ℕ) (ss : List Subspace) (s : Subspace) → place < length lines → ReadsStructure (read_line place (split_at 32 (get_or lines place []))) (Some s) → place ≡ 256 → line ≡ place + 2 → Building lines place ss → StopsBehind lines last line kind.Many
+pub building_many : (lines : List (List ℕ)) (last : List ℕ) (place line : ℕ) (ss : List Subspace) (s : Subspace) → place < length lines
+    → ReadsStructure (read_line place (split_at 32 (get_or lines place []))) (Some s) → place ≡ 256 → line ≡ place + 2 → Building lines place ss
+    → StopsBehind lines last line kind.Many
 building_many lines last place line ss s lt h full e b =
     let count : length ss ≡ place = b.count in
     let text = get_or lines place [] in
@@ -108,11 +117,12 @@ building_many lines last place line ss s lt h full e b =
 pub all_read : (lines : List (List ℕ)) (place : ℕ) (ss : List Subspace) → length lines ≤ place → Building lines place ss → lines ≡ structure_lines 0 ss
 all_read lines place ss le b = sym (take_all place lines le) ∙ b.front
 
-structures_len : (n : ℕ) (ss : List Subspace) → length (structure_lines n ss) ≡ length ss
+pub structures_len : (n : ℕ) (ss : List Subspace) → length (structure_lines n ss) ≡ length ss
 structures_len n [] = refl
 structures_len n (s ∷ ss) = ap suc (structures_len (suc n) ss)
 
-pub building_unended : (lines : List (List ℕ)) (last : List ℕ) (place line : ℕ) (ss : List Subspace) → length lines ≤ place → length last ≢ 0 → line ≡ length lines + 2 → Building lines place ss → StopsBehind lines last line kind.Text
+pub building_unended : (lines : List (List ℕ)) (last : List ℕ) (place line : ℕ) (ss : List Subspace) → length lines ≤ place → length last ≢ 0
+    → line ≡ length lines + 2 → Building lines place ss → StopsBehind lines last line kind.Text
 building_unended lines last place line ss le some e b =
     let all : lines ≡ structure_lines 0 ss = all_read lines place ss le b in
     let len : length lines ≡ length ss = ap length all ∙ structures_len 0 ss in
@@ -137,7 +147,9 @@ reading_start text ss e =
     let R : List Subspace → Type 0 = λ us. Reading text us text in
     subst R (sym e) (record { left = refl; done = building_start (lines_of text) [] refl })
 
-pub reading_more : (text rest line behind : List ℕ) (ss next : List Subspace) (s : Subspace) → split_at 10 rest ≡ line ∷ split_at 10 behind → ReadsStructure (read_line (length ss) (split_at 32 line)) (Some s) → length ss ≢ 256 → next ≡ ss ++ s ∷ [] → Reading text ss rest → Reading text next behind
+pub reading_more : (text rest line behind : List ℕ) (ss next : List Subspace) (s : Subspace) → split_at 10 rest ≡ line ∷ split_at 10 behind
+    → ReadsStructure (read_line (length ss) (split_at 32 line)) (Some s) → length ss ≢ 256 → next ≡ ss ++ s ∷ [] → Reading text ss rest
+    → Reading text next behind
 reading_more text rest line behind ss next s cut h few e r =
     let n = next_line text rest line behind (length ss) r.left cut in
     let P : List ℕ → Type 0 = λ l. ReadsStructure (read_line (length ss) (split_at 32 l)) (Some s) in
@@ -149,29 +161,36 @@ reading_more text rest line behind ss next s cut h few e r =
       done = subst D (sym len) (building_more (lines_of text) (length ss) ss next s n.within (subst P (sym n.is) h) few e r.done);
     }
 
-told : (lines : List (List ℕ)) (last : List ℕ) (e : BuildError) (n : ℕ) (k : BuildKind) → e ≡ error.Fault n k → StopsBehind lines last n k → TellsStructures (Err e) lines last
+told : (lines : List (List ℕ)) (last : List ℕ) (e : BuildError) (n : ℕ) (k : BuildKind) → e ≡ error.Fault n k → StopsBehind lines last n k
+    → TellsStructures (Err e) lines last
 told lines last e n k is h = let P : BuildError → Type 0 = λ d. TellsStructures (Err d) lines last in subst P (sym is) h
 
-pub reading_wrong : (text rest line behind : List ℕ) (ss : List Subspace) (e : BuildError) → split_at 10 rest ≡ line ∷ split_at 10 behind → ReadsStructure (read_line (length ss) (split_at 32 line)) None → e ≡ error.Fault (length ss + 2) kind.Text → Reading text ss rest → TellsStructures (Err e) (lines_of text) (last_in text)
+pub reading_wrong : (text rest line behind : List ℕ) (ss : List Subspace) (e : BuildError) → split_at 10 rest ≡ line ∷ split_at 10 behind
+    → ReadsStructure (read_line (length ss) (split_at 32 line)) None → e ≡ error.Fault (length ss + 2) kind.Text → Reading text ss rest
+    → TellsStructures (Err e) (lines_of text) (last_in text)
 reading_wrong text rest line behind ss e cut h is r =
     let n = next_line text rest line behind (length ss) r.left cut in
     let P : List ℕ → Type 0 = λ l. ReadsStructure (read_line (length ss) (split_at 32 l)) None in
     told (lines_of text) (last_in text) e (length ss + 2) kind.Text is (building_wrong (lines_of text) (last_in text) (length ss) (length ss + 2) ss n.within (subst P (sym n.is) h) refl r.done)
 
-pub reading_many : (text rest line behind : List ℕ) (ss : List Subspace) (s : Subspace) (e : BuildError) → split_at 10 rest ≡ line ∷ split_at 10 behind → ReadsStructure (read_line (length ss) (split_at 32 line)) (Some s) → length ss ≡ 256 → e ≡ error.Fault (length ss + 2) kind.Many → Reading text ss rest → TellsStructures (Err e) (lines_of text) (last_in text)
+pub reading_many : (text rest line behind : List ℕ) (ss : List Subspace) (s : Subspace) (e : BuildError)
+    → split_at 10 rest ≡ line ∷ split_at 10 behind → ReadsStructure (read_line (length ss) (split_at 32 line)) (Some s) → length ss ≡ 256
+    → e ≡ error.Fault (length ss + 2) kind.Many → Reading text ss rest → TellsStructures (Err e) (lines_of text) (last_in text)
 reading_many text rest line behind ss s e cut h full is r =
     let n = next_line text rest line behind (length ss) r.left cut in
     let P : List ℕ → Type 0 = λ l. ReadsStructure (read_line (length ss) (split_at 32 l)) (Some s) in
     told (lines_of text) (last_in text) e (length ss + 2) kind.Many is (building_many (lines_of text) (last_in text) (length ss) (length ss + 2) ss s n.within (subst P (sym n.is) h) full refl r.done)
 
-pub reading_unended : (text rest : List ℕ) (ss : List Subspace) (e : BuildError) → split_at 10 rest ≡ rest ∷ [] → length rest ≢ 0 → e ≡ error.Fault (length ss + 2) kind.Text → Reading text ss rest → TellsStructures (Err e) (lines_of text) (last_in text)
+pub reading_unended : (text rest : List ℕ) (ss : List Subspace) (e : BuildError) → split_at 10 rest ≡ rest ∷ [] → length rest ≢ 0
+    → e ≡ error.Fault (length ss + 2) kind.Text → Reading text ss rest → TellsStructures (Err e) (lines_of text) (last_in text)
 reading_unended text rest ss e uncut some is r =
     let l = no_line text rest (length ss) r.left uncut in
     let all : length (lines_of text) ≡ length ss = l.all in
     let P : List ℕ → Type 0 = λ bs. length bs ≢ 0 in
     told (lines_of text) (last_in text) e (length ss + 2) kind.Text is (building_unended (lines_of text) (last_in text) (length ss) (length ss + 2) ss (omega arith) (subst P (sym l.is) some) (omega arith) r.done)
 
-pub reading_end : (text rest : List ℕ) (ss : List Subspace) → split_at 10 rest ≡ rest ∷ [] → length rest ≡ 0 → Reading text ss rest → TellsStructures (Ok ss) (lines_of text) (last_in text)
+pub reading_end : (text rest : List ℕ) (ss : List Subspace) → split_at 10 rest ≡ rest ∷ [] → length rest ≡ 0 → Reading text ss rest
+    → TellsStructures (Ok ss) (lines_of text) (last_in text)
 reading_end text rest ss uncut none r =
     let l = no_line text rest (length ss) r.left uncut in
     let all : length (lines_of text) ≡ length ss = l.all in

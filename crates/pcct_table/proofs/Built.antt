@@ -1,12 +1,13 @@
--- What a caller is told of a text.
+-- What is reported of a text.
 use Rattle.std.proofs.Common.{◌≡◌, ◌⊎◌, inl, inr, ℕ, zero, suc, ◌+◌, ◌^◌, ◌<◌, ◌≤◌, eqb, cond, Bool, true, false, List, [], ◌∷◌, ◌++◌, length, refl, sym, ap, ◌∙◌, subst, arith}
 use Rattle.std.specs.Prelude.{Some, None, Result, Ok, Err, IfOk}
 use Rattle.std.specs.List.{AllByRecursion, flat_map, join_with_byte, onto_first}
 use Rattle.std.proofs.lemmas.Grind.{flat_map-append}
 use Rattle.std.proofs.lemmas.List.{append-nil, append_assoc}
 use Rattle.std.proofs.lemmas.List.Splits.{slice_split_at, slice_split_none}
-use Rattle.pcc_bytes.specs.Fields.{line_text, split_at}
-use Rattle.pcc_text.proofs.Laws.{All-from_lacks, EachLacks, lacks, text_of_parts}
+use Rattle.pcc_bytes.specs.Fields.{front_of, last_in, last_of, line_text, lines_of, split_at}
+use Rattle.pcc_text.proofs.Laws.{All-from_lacks, EachLacks, lacks}
+use Rattle.pcc_text.proofs.Lines.{begins, each_front, front_lacks, front_push, last_push, parts_are, split_more, split_some, text_is}
 use Rattle.pcct_table.specs.declared.build.BuildError.{BuildError}
 use Rattle.pcct_table.specs.declared.build.BuildError.TheVariants as error
 use Rattle.pcct_table.specs.declared.build.BuildKind.{BuildKind}
@@ -18,47 +19,10 @@ use Rattle.pcct_table.specs.Values.{bytes_at, values_in}
 use Rattle.pcct_table.specs.Subspaces.{IsSubspace}
 use Rattle.pcct_table.specs.ShowText.{HasText, header_line, show_line, show_text, shown_fields, shown_values, structure_lines, table_lines}
 use Rattle.pcct_table.specs.ShowFaults.{AreRightFrom, IfFault, IsReadAs, IsRefusedAt, IsRightAt, NoEnd, NoLine, OneMore, TextWrong, WrongLine, most_lines}
-use Rattle.pcct_table.specs.ShowReading.{Nothing, OneLineMore, Stops, StopsAt, StopsBehind, TellsStructures, TellsTable, TellsText, Unended, Wrong, front_of, last_of, read_header, shown_bytes}
+use Rattle.pcct_table.specs.ShowReading.{Nothing, OneLineMore, Stops, StopsAt, StopsBehind, TellsStructures, TellsTable, TellsText, Unended, Wrong, read_header, shown_bytes}
 use Rattle.pcct_table.proofs.ShowHeader.{header_fit, header_is, header_known, header_len, header_one, header_read, same_header}
 use Rattle.pcct_table.proofs.ShowLine.{line_one, same_structure}
-use Rattle.pcct_table.proofs.Lines.{front_push, last_push, parts_are, split_some}
-
--- ---- parts
-
-lacks_onto : (c x : ℕ) (ps : List (List ℕ)) → eqb x c ≡ false → EachLacks c ps → EachLacks c (onto_first x ps)
-lacks_onto c x [] e h = (rw e refl, tt)
-lacks_onto c x (p ∷ ps) e h = (rw e h.0, h.1)
-
-split_case : (c x : ℕ) (t : Bool) (ps : List (List ℕ)) → eqb x c ≡ t → EachLacks c ps → EachLacks c (cond t ([] ∷ ps) (onto_first x ps))
-split_case c x true ps e h = (refl, h)
-split_case c x false ps e h = lacks_onto c x ps e h
-
-split_lacks : (c : ℕ) (bs : List ℕ) → EachLacks c (split_at c bs)
-split_lacks c [] = (refl, tt)
-split_lacks c (x ∷ xs) = split_case c x (eqb x c) (split_at c xs) refl (split_lacks c xs)
-
-each_front : (c : ℕ) (ls : List (List ℕ)) (x : List ℕ) (ms : List (List ℕ)) → EachLacks c (ls ++ x ∷ ms) → lacks c x ≡ true
-each_front c [] x ms h = h.0
-each_front c (l ∷ ls) x ms h = each_front c ls x ms h.1
-
--- lines joined, with bytes behind the last line feed
-join_is : (ls : List (List ℕ)) (x : List ℕ) → join_with_byte 10 (ls ++ x ∷ []) ≡ flat_map line_text ls ++ x
-join_is [] x = refl
-join_is (l ∷ []) x = sym (append_assoc l (10 ∷ []) x) ∙ ap (λ (v : List ℕ). v ++ x) (sym (append-nil (l ++ 10 ∷ [])))
-join_is (l ∷ m ∷ ms) x =
-    ap (λ (v : List ℕ). l ++ 10 ∷ v) (join_is (m ∷ ms) x) ∙ sym (append_assoc l (10 ∷ []) (flat_map line_text (m ∷ ms) ++ x)) ∙ sym (append_assoc (l ++ 10 ∷ []) (flat_map line_text (m ∷ ms)) x)
-
-text_is : (text : List ℕ) → text ≡ flat_map line_text (front_of (split_at 10 text)) ++ last_of (split_at 10 text)
-text_is text = text_of_parts 10 text (front_of (split_at 10 text) ++ last_of (split_at 10 text) ∷ []) (parts_are (split_at 10 text) (split_some 10 text)) ∙ join_is (front_of (split_at 10 text)) (last_of (split_at 10 text))
-
-front_lacks : (text : List ℕ) → EachLacks 10 (front_of (split_at 10 text) ++ last_of (split_at 10 text) ∷ [])
-front_lacks text = subst (EachLacks 10) (parts_are (split_at 10 text) (split_some 10 text)) (split_lacks 10 text)
-
-split_more : (lines : List (List ℕ)) (tail : List ℕ) → EachLacks 10 lines → split_at 10 (flat_map line_text lines ++ tail) ≡ lines ++ split_at 10 tail
-split_more [] tail h = refl
-split_more (x ∷ xs) tail h =
-    let re : flat_map line_text (x ∷ xs) ++ tail ≡ x ++ 10 ∷ (flat_map line_text xs ++ tail) = simp append_assoc in
-    ap (split_at 10) re ∙ slice_split_at (λ b. eqb b 10) x 10 (flat_map line_text xs ++ tail) (All-from_lacks 10 x h.0) refl ∙ ap (λ (v : List (List ℕ)). x ∷ v) (split_more xs tail h.1)
+use Rattle.pcct_table.proofs.Building.{structures_len}
 
 -- ---- right lines
 
@@ -74,10 +38,6 @@ structures_right : (place : ℕ) (ss : List Subspace) → AllByRecursion IsSubsp
 structures_right place [] h = tt
 structures_right place (s ∷ ss) h = ((s, h.0, refl), structures_right (suc place) ss h.1)
 
-structures_len : (n : ℕ) (ss : List Subspace) → length (structure_lines n ss) ≡ length ss
-structures_len n [] = refl
-structures_len n (s ∷ ss) = ap suc (structures_len (suc n) ss)
-
 table_right : (t : Table) → HasText t → AreRightFrom 0 (table_lines t)
 table_right t h = ((t, h, refl), structures_right 0 t.subspaces h.spelled)
 
@@ -86,7 +46,8 @@ table_few t h = let few : length t.subspaces ≤ 256 = h.few in let e = structur
 
 -- ---- one table
 
-same_structures : (place : ℕ) (ss us : List Subspace) → place + length ss ≤ 2 ^ 32 → AllByRecursion IsSubspace ss → AllByRecursion IsSubspace us → structure_lines place ss ≡ structure_lines place us → ss ≡ us
+same_structures : (place : ℕ) (ss us : List Subspace) → place + length ss ≤ 2 ^ 32 → AllByRecursion IsSubspace ss → AllByRecursion IsSubspace us
+    → structure_lines place ss ≡ structure_lines place us → ss ≡ us
 same_structures place [] [] small h k e = refl
 same_structures place [] (u ∷ us) small h k e = cc
 same_structures place (s ∷ ss) [] small h k e = cc
@@ -116,33 +77,33 @@ same_table t u h k e =
 
 -- there is no line
 pub no_lines : (text : List ℕ) → split_at 10 text ≡ text ∷ [] → TellsText (Err (error.Fault 1 kind.Text)) text
-no_lines text e = record { before = []; more = []; cut = ap front_of e; right = tt; few = omega arith; stops = Nothing (last_of (split_at 10 text)) refl; number = refl }
+no_lines text e = record { before = []; more = []; cut = ap front_of e; right = tt; few = omega arith; stops = Nothing (last_in text) refl; number = refl }
 
 -- the parts of a text with a line
-behind_line : (text line rest : List ℕ) (r : Result Table BuildError) → split_at 10 text ≡ line ∷ split_at 10 rest → TellsTable r (line ∷ front_of (split_at 10 rest)) (last_of (split_at 10 rest)) → TellsText r text
+behind_line : (text line rest : List ℕ) (r : Result Table BuildError) → split_at 10 text ≡ line ∷ split_at 10 rest
+    → TellsTable r (line ∷ lines_of rest) (last_in rest) → TellsText r text
 behind_line text line rest r e h =
-    let ps = split_at 10 rest in
-    let whole : split_at 10 text ≡ (line ∷ front_of ps) ++ last_of ps ∷ [] = e ∙ ap (λ (v : List (List ℕ)). line ∷ v) (parts_are ps (split_some 10 rest)) in
-    let front : front_of (split_at 10 text) ≡ line ∷ front_of ps = ap front_of whole ∙ front_push (line ∷ front_of ps) (last_of ps) in
-    let last : last_of (split_at 10 text) ≡ last_of ps = ap last_of whole ∙ last_push (line ∷ front_of ps) (last_of ps) in
-    let P : List (List ℕ) → Type 0 = λ ls. TellsTable r ls (last_of (split_at 10 text)) in
-    let Q : List ℕ → Type 0 = λ bs. TellsTable r (line ∷ front_of ps) bs in
-    subst P (sym front) (subst Q (sym last) h)
+    let b = begins text line rest e in
+    let P : List (List ℕ) → Type 0 = λ ls. TellsTable r ls (last_in text) in
+    let Q : List ℕ → Type 0 = λ bs. TellsTable r (line ∷ lines_of rest) bs in
+    subst P (sym b.lines) (subst Q (sym b.last) h)
 
 -- the first line is no header's
-pub no_header : (text line rest : List ℕ) → split_at 10 text ≡ line ∷ split_at 10 rest → read_header (split_at 32 line) ≡ None → TellsText (Err (error.Fault 1 kind.Text)) text
+pub no_header : (text line rest : List ℕ) → split_at 10 text ≡ line ∷ split_at 10 rest → read_header (split_at 32 line) ≡ None
+    → TellsText (Err (error.Fault 1 kind.Text)) text
 no_header text line rest cut e = behind_line text line rest (Err (error.Fault 1 kind.Text)) cut (record {
   before = [];
-  more = line ∷ front_of (split_at 10 rest);
+  more = line ∷ lines_of rest;
   cut = refl;
   right = tt;
   few = omega arith;
-  stops = Wrong line (front_of (split_at 10 rest)) (last_of (split_at 10 rest)) (λ r. let some = header_read line r.0 r.1 r.2 in let both : Some (shown_bytes r.0) ≡ None = sym some ∙ e in cc);
+  stops = Wrong line (lines_of rest) (last_in rest) (λ r. let some = header_read line r.0 r.1 r.2 in let both : Some (shown_bytes r.0) ≡ None = sym some ∙ e in cc);
   number = refl;
 })
 
 -- a header's line with a table of no structures
-pub header_right : (line b : List ℕ) (t : Table) → read_header (split_at 32 line) ≡ Some b → values_in b shown_fields ≡ shown_values t → AllByRecursion IsSubspace t.subspaces → length t.subspaces ≤ 256 → HasText t
+pub header_right : (line b : List ℕ) (t : Table) → read_header (split_at 32 line) ≡ Some b → values_in b shown_fields ≡ shown_values t
+    → AllByRecursion IsSubspace t.subspaces → length t.subspaces ≤ 256 → HasText t
 header_right line b t e values spelled few = record {
   bytes = b;
   fit = header_fit line b e;
@@ -170,7 +131,8 @@ header_at b = record {
 right_header : (line b : List ℕ) → read_header (split_at 32 line) ≡ Some b → IsRightAt 0 line
 right_header line b e = (header_at b, header_right line b (header_at b) e refl tt (omega arith), header_is line b (header_at b) e refl)
 
-pub behind_header : (line b : List ℕ) (lines : List (List ℕ)) (last : List ℕ) (n : ℕ) (k : BuildKind) → read_header (split_at 32 line) ≡ Some b → StopsBehind lines last n k → StopsAt (line ∷ lines) last n k
+pub behind_header : (line b : List ℕ) (lines : List (List ℕ)) (last : List ℕ) (n : ℕ) (k : BuildKind) → read_header (split_at 32 line) ≡ Some b
+    → StopsBehind lines last n k → StopsAt (line ∷ lines) last n k
 behind_header line b lines last n k e s =
     let front = structure_lines 0 s.before in
     let len : length front ≡ length s.before = structures_len 0 s.before in
@@ -187,19 +149,22 @@ behind_header line b lines last n k e s =
       number = omega arith;
     }
 
-pub table_err : (text line rest b : List ℕ) (e : BuildError) → split_at 10 text ≡ line ∷ split_at 10 rest → read_header (split_at 32 line) ≡ Some b → TellsStructures (Err e) (front_of (split_at 10 rest)) (last_of (split_at 10 rest)) → TellsText (Err e) text
+pub table_err : (text line rest b : List ℕ) (e : BuildError) → split_at 10 text ≡ line ∷ split_at 10 rest → read_header (split_at 32 line) ≡ Some b
+    → TellsStructures (Err e) (lines_of rest) (last_in rest) → TellsText (Err e) text
 table_err text line rest b error.NoMemory cut is h = tt
 table_err text line rest b (error.Fault n k) cut is h =
-    behind_line text line rest (Err (error.Fault n k)) cut (behind_header line b (front_of (split_at 10 rest)) (last_of (split_at 10 rest)) n k is h)
+    behind_line text line rest (Err (error.Fault n k)) cut (behind_header line b (lines_of rest) (last_in rest) n k is h)
 
-pub table_ok : (text line rest b : List ℕ) (ss : List Subspace) (t : Table) → split_at 10 text ≡ line ∷ split_at 10 rest → read_header (split_at 32 line) ≡ Some b → TellsStructures (Ok ss) (front_of (split_at 10 rest)) (last_of (split_at 10 rest)) → values_in b shown_fields ≡ shown_values t → t.subspaces ≡ ss → TellsText (Ok t) text
+pub table_ok : (text line rest b : List ℕ) (ss : List Subspace) (t : Table) → split_at 10 text ≡ line ∷ split_at 10 rest
+    → read_header (split_at 32 line) ≡ Some b → TellsStructures (Ok ss) (lines_of rest) (last_in rest) → values_in b shown_fields ≡ shown_values t
+    → t.subspaces ≡ ss → TellsText (Ok t) text
 table_ok text line rest b ss t cut e h values same =
     let P : List Subspace → Type 0 = λ us. AllByRecursion IsSubspace us in
     let Q : List Subspace → Type 0 = λ us. length us ≤ 256 in
     let first : line ≡ header_line t = header_is line b t e values in
-    let others : front_of (split_at 10 rest) ≡ structure_lines 0 t.subspaces = h.0 ∙ ap (structure_lines 0) (sym same) in
+    let others : lines_of rest ≡ structure_lines 0 t.subspaces = h.0 ∙ ap (structure_lines 0) (sym same) in
     behind_line text line rest (Ok t) cut
-    (header_right line b t e values (subst P (sym same) h.1.spelled) (subst Q (sym same) h.1.few), ap (λ (l : List ℕ). l ∷ front_of (split_at 10 rest)) first ∙ ap (λ (ls : List (List ℕ)). header_line t ∷ ls) others, h.2)
+    (header_right line b t e values (subst P (sym same) h.1.spelled) (subst Q (sym same) h.1.few), ap (λ (l : List ℕ). l ∷ lines_of rest) first ∙ ap (λ (ls : List (List ℕ)). header_line t ∷ ls) others, h.2)
 
 -- ---- where reading stops
 
@@ -219,7 +184,8 @@ stops_blocked n more last k (OneLineMore line rest end full right) = λ l ls e r
 stops_blocked n more last k (Unended end some) = nothing_left n
 stops_blocked n more last k (Nothing end none) = nothing_left n
 
-same_front : (n : ℕ) (a b more after : List (List ℕ)) → AreRightFrom n a → AreRightFrom n b → n + length a ≤ most_lines → n + length b ≤ most_lines → Blocked (n + length a) more → Blocked (n + length b) after → a ++ more ≡ b ++ after → (a ≡ b) × (more ≡ after)
+same_front : (n : ℕ) (a b more after : List (List ℕ)) → AreRightFrom n a → AreRightFrom n b → n + length a ≤ most_lines → n + length b ≤ most_lines
+    → Blocked (n + length a) more → Blocked (n + length b) after → a ++ more ≡ b ++ after → (a ≡ b) × (more ≡ after)
 same_front n [] [] more after ra rb la lb h k e = (refl, e)
 same_front n [] (y ∷ ys) more after ra rb la lb h k e =
     let here : n ≡ n + 0 = omega arith in
@@ -283,7 +249,8 @@ ended n more last k (Unended end some) = λ e f lt. let z : length end ≡ 0 = a
 ended n more last k (Nothing end none) = λ e f lt. absurd (omega arith)
 
 -- it doesn't stop in the lines of a table
-no_stop : (t : Table) (lines : List (List ℕ)) (last : List ℕ) (n : ℕ) (k : BuildKind) → HasText t → lines ≡ table_lines t → last ≡ [] → StopsAt lines last n k → ⊥
+no_stop : (t : Table) (lines : List (List ℕ)) (last : List ℕ) (n : ℕ) (k : BuildKind) → HasText t → lines ≡ table_lines t → last ≡ []
+    → StopsAt lines last n k → ⊥
 no_stop t lines last n k h e f s =
     let here : length s.before ≡ 0 + length s.before = omega arith in
     let B : ℕ → Type 0 = λ i. Blocked i s.more in
@@ -295,18 +262,23 @@ no_stop t lines last n k h e f s =
 
 -- ---- the text
 
-cut_text : (before : List (List ℕ)) (line : List ℕ) (rest : List (List ℕ)) (last : List ℕ) → flat_map line_text (before ++ line ∷ rest) ++ last ≡ flat_map line_text before ++ (line ++ 10 ∷ (flat_map line_text rest ++ last))
+cut_text : (before : List (List ℕ)) (line : List ℕ) (rest : List (List ℕ)) (last : List ℕ)
+    → flat_map line_text (before ++ line ∷ rest) ++ last ≡ flat_map line_text before ++ (line ++ 10 ∷ (flat_map line_text rest ++ last))
 cut_text before line rest last = ap (λ (v : List ℕ). v ++ last) (flat_map-append line_text before (line ∷ rest)) ∙ simp append_assoc
 
-one_line : (before : List (List ℕ)) (line : List ℕ) (rest : List (List ℕ)) (last : List ℕ) → EachLacks 10 ((before ++ line ∷ rest) ++ last ∷ []) → lacks 10 line ≡ true
+one_line : (before : List (List ℕ)) (line : List ℕ) (rest : List (List ℕ)) (last : List ℕ) → EachLacks 10 ((before ++ line ∷ rest) ++ last ∷ [])
+    → lacks 10 line ≡ true
 one_line before line rest last h = each_front 10 before line (rest ++ last ∷ []) (subst (EachLacks 10) (append_assoc before (line ∷ rest) (last ∷ [])) h)
 
-empty_text : (before : List (List ℕ)) (last text : List ℕ) → length before ≡ 0 → lacks 10 last ≡ true → text ≡ flat_map line_text before ++ last → TextWrong text (suc (length before)) kind.Text
+empty_text : (before : List (List ℕ)) (last text : List ℕ) → length before ≡ 0 → lacks 10 last ≡ true → text ≡ flat_map line_text before ++ last
+    → TextWrong text (suc (length before)) kind.Text
 empty_text [] [] text z one is = NoLine is
 empty_text [] (b ∷ bs) text z one is = NoEnd [] (b ∷ bs) tt (omega arith) one (omega arith) is
 empty_text (x ∷ xs) last text z one is = absurd (omega arith)
 
-stop_text : (before more : List (List ℕ)) (last text : List ℕ) (k : BuildKind) → AreRightFrom 0 before → length before ≤ most_lines → EachLacks 10 ((before ++ more) ++ last ∷ []) → text ≡ flat_map line_text (before ++ more) ++ last → Stops (length before) more last k → TextWrong text (suc (length before)) k
+stop_text : (before more : List (List ℕ)) (last text : List ℕ) (k : BuildKind) → AreRightFrom 0 before → length before ≤ most_lines
+    → EachLacks 10 ((before ++ more) ++ last ∷ []) → text ≡ flat_map line_text (before ++ more) ++ last → Stops (length before) more last k
+    → TextWrong text (suc (length before)) k
 stop_text before more last text k right few h is (Wrong line rest end never) =
     WrongLine before line (flat_map line_text rest ++ end) right few (one_line before line rest end h) never (is ∙ cut_text before line rest end)
 stop_text before more last text k right few h is (OneLineMore line rest end full r) =
@@ -318,49 +290,50 @@ stop_text before more last text k right few h is (Nothing end z) =
     let none : before ++ [] ≡ before = append-nil before in
     empty_text before end text z (each_front 10 (before ++ []) end [] h) (is ∙ ap (λ (ls : List (List ℕ)). flat_map line_text ls ++ end) none)
 
-stops_text : (text : List ℕ) (n : ℕ) (k : BuildKind) → StopsAt (front_of (split_at 10 text)) (last_of (split_at 10 text)) n k → TextWrong text n k
+stops_text : (text : List ℕ) (n : ℕ) (k : BuildKind) → StopsAt (lines_of text) (last_in text) n k → TextWrong text n k
 stops_text text n k s =
-    let last = last_of (split_at 10 text) in
+    let last = last_in text in
     let L : List (List ℕ) → Type 0 = λ ls. EachLacks 10 (ls ++ last ∷ []) in
     let T : ℕ → Type 0 = λ m. TextWrong text m k in
     subst T (sym s.number) (stop_text s.before s.more last text k s.right s.few (subst L s.cut (front_lacks text)) (text_is text ∙ ap (λ (ls : List (List ℕ)). flat_map line_text ls ++ last) s.cut) s.stops)
 
 -- the parts of a text that begins with these lines
 pub record IsCut (text : List ℕ) (front : List (List ℕ)) (last : List ℕ) : Type 0 where
-  pub front_is : front_of (split_at 10 text) ≡ front
-  pub last_is : last_of (split_at 10 text) ≡ last
+  pub front_is : lines_of text ≡ front
+  pub last_is : last_in text ≡ last
 
 cut_parts : (text : List ℕ) (front : List (List ℕ)) (last : List ℕ) → split_at 10 text ≡ front ++ last ∷ [] → IsCut text front last
 cut_parts text front last e = record { front_is = ap front_of e ∙ front_push front last; last_is = ap last_of e ∙ last_push front last }
 
-cut_line : (before : List (List ℕ)) (line rest text : List ℕ) → length before ≤ most_lines → AreRightFrom 0 before → lacks 10 line ≡ true → text ≡ flat_map line_text before ++ (line ++ 10 ∷ rest) → IsCut text (before ++ line ∷ front_of (split_at 10 rest)) (last_of (split_at 10 rest))
+cut_line : (before : List (List ℕ)) (line rest text : List ℕ) → length before ≤ most_lines → AreRightFrom 0 before → lacks 10 line ≡ true
+    → text ≡ flat_map line_text before ++ (line ++ 10 ∷ rest) → IsCut text (before ++ line ∷ lines_of rest) (last_in rest)
 cut_line before line rest text few right one e =
     let ps = split_at 10 rest in
     let tail : split_at 10 (line ++ 10 ∷ rest) ≡ line ∷ ps = slice_split_at (λ b. eqb b 10) line 10 rest (All-from_lacks 10 line one) refl in
     cut_parts text (before ++ line ∷ front_of ps) (last_of ps) (ap (split_at 10) e ∙ split_more before (line ++ 10 ∷ rest) (right_lack 0 before (omega arith) right) ∙ ap (λ (v : List (List ℕ)). before ++ v) (tail ∙ ap (λ (v : List (List ℕ)). line ∷ v) (parts_are ps (split_some 10 rest))) ∙ sym (append_assoc before (line ∷ front_of ps) (last_of ps ∷ [])))
 
-pub text_stops : (text : List ℕ) (n : ℕ) (k : BuildKind) → TextWrong text n k → StopsAt (front_of (split_at 10 text)) (last_of (split_at 10 text)) n k
+pub text_stops : (text : List ℕ) (n : ℕ) (k : BuildKind) → TextWrong text n k → StopsAt (lines_of text) (last_in text) n k
 text_stops text n k (WrongLine before line rest right few one never e) =
     let c = cut_line before line rest text few right one e in
-    record { before = before; more = line ∷ front_of (split_at 10 rest); cut = c.front_is; right = right; few = few; stops = Wrong line (front_of (split_at 10 rest)) (last_of (split_at 10 text)) never; number = refl }
+    record { before = before; more = line ∷ lines_of rest; cut = c.front_is; right = right; few = few; stops = Wrong line (lines_of rest) (last_in text) never; number = refl }
 text_stops text n k (OneMore before line rest right full r e) =
     let few : length before ≤ most_lines = omega arith in
     let c = cut_line before line rest text few right (right_one (length before) line (omega arith) r) e in
-    record { before = before; more = line ∷ front_of (split_at 10 rest); cut = c.front_is; right = right; few = few; stops = OneLineMore line (front_of (split_at 10 rest)) (last_of (split_at 10 text)) full r; number = refl }
+    record { before = before; more = line ∷ lines_of rest; cut = c.front_is; right = right; few = few; stops = OneLineMore line (lines_of rest) (last_in text) full r; number = refl }
 text_stops text n k (NoEnd before bytes right few one some e) =
     let none : split_at 10 bytes ≡ bytes ∷ [] = slice_split_none (λ b. eqb b 10) bytes (All-from_lacks 10 bytes one) in
     let c = cut_parts text before bytes (ap (split_at 10) e ∙ split_more before bytes (right_lack 0 before (omega arith) right) ∙ ap (λ (v : List (List ℕ)). before ++ v) none) in
     let L : List ℕ → Type 0 = λ bs. 1 ≤ length bs in
-    record { before = before; more = []; cut = c.front_is ∙ sym (append-nil before); right = right; few = few; stops = Unended (last_of (split_at 10 text)) (subst L (sym c.last_is) some); number = refl }
+    record { before = before; more = []; cut = c.front_is ∙ sym (append-nil before); right = right; few = few; stops = Unended (last_in text) (subst L (sym c.last_is) some); number = refl }
 text_stops text n k (NoLine e) =
-    record { before = []; more = []; cut = ap (λ (v : List ℕ). front_of (split_at 10 v)) e; right = tt; few = omega arith; stops = Nothing (last_of (split_at 10 text)) refl; number = refl }
+    record { before = []; more = []; cut = ap (λ (v : List ℕ). front_of (split_at 10 v)) e; right = tt; few = omega arith; stops = Nothing (last_in text) refl; number = refl }
 
 -- ---- what is told
 
 pub is_found : (text : List ℕ) (r : Result Table BuildError) → TellsText r text → IfOk r (λ t. HasText t × (text ≡ show_text t))
 unfolding show_text
 is_found text (Ok t) h =
-    let front = front_of (split_at 10 text) in
+    let front = lines_of text in
     (h.0, text_is text ∙ ap (λ (v : List ℕ). flat_map line_text front ++ v) h.2 ∙ append-nil (flat_map line_text front) ∙ ap (flat_map line_text) h.1)
 is_found text (Err e) h = tt
 
@@ -377,14 +350,15 @@ is_only text (Ok u) t h k e =
 is_only text (Err error.NoMemory) t h k e = refl
 is_only text (Err (error.Fault n d)) t h k e =
     let c = table_cut t text k e in
-    absurd (no_stop t (front_of (split_at 10 text)) (last_of (split_at 10 text)) n d k c.front_is c.last_is h)
+    absurd (no_stop t (lines_of text) (last_in text) n d k c.front_is c.last_is h)
 
 pub is_wrong : (text : List ℕ) (r : Result Table BuildError) → TellsText r text → IfFault r (λ line kind. TextWrong text line kind)
 is_wrong text (Ok t) h = tt
 is_wrong text (Err error.NoMemory) h = tt
 is_wrong text (Err (error.Fault n k)) h = stops_text text n k h
 
-pub is_first : (text : List ℕ) (r : Result Table BuildError) (line : ℕ) (kind : BuildKind) → TellsText r text → TextWrong text line kind → IsRefusedAt line kind r
-is_first text (Ok t) n k h w = no_stop t (front_of (split_at 10 text)) (last_of (split_at 10 text)) n k h.0 h.1 h.2 (text_stops text n k w)
+pub is_first : (text : List ℕ) (r : Result Table BuildError) (line : ℕ) (kind : BuildKind) → TellsText r text → TextWrong text line kind
+    → IsRefusedAt line kind r
+is_first text (Ok t) n k h w = no_stop t (lines_of text) (last_in text) n k h.0 h.1 h.2 (text_stops text n k w)
 is_first text (Err error.NoMemory) n k h w = tt
-is_first text (Err (error.Fault m j)) n k h w = one_stop (front_of (split_at 10 text)) (last_of (split_at 10 text)) m n j k h (text_stops text n k w)
+is_first text (Err (error.Fault m j)) n k h w = one_stop (lines_of text) (last_in text) m n j k h (text_stops text n k w)

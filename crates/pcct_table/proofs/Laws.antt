@@ -1,5 +1,5 @@
 -- The bytes of fields that stand one behind the other are those of their values.
-use Rattle.std.proofs.Common.{◌≡◌, ℕ, ◌+◌, ◌≤◌, List, [], ◌∷◌, ◌++◌, length, take, drop, slice_index, refl, sym, ap, ◌∙◌, append_assoc, arith, rules, length-drop, length-take, Bool, true, eqb, leb, ◌&&◌, lit≤}
+use Rattle.std.proofs.Common.{◌≡◌, ℕ, ◌+◌, ◌≤◌, List, [], ◌∷◌, ◌++◌, length, take, drop, slice_index, refl, sym, ap, ◌∙◌, append_assoc, arith, rules, subst, length-drop, length-take, Bool, true, eqb, leb, ◌&&◌, lit≤}
 use Rattle.std.proofs.lemmas.Bool.{and_parts, eqb-true, leb-true}
 use Rattle.std.specs.Prelude.{Some}
 use Rattle.std.proofs.lemmas.List.{append-nil, take-append-drop, drop-drop, drop_all}
@@ -14,7 +14,7 @@ use Rattle.pcct_table.specs.declared.subspace.Subspace.TheVariants.{Generic, HwR
 use Rattle.pcct_table.specs.Rows.{Field, width, generic_fields, hw_reduced1_fields, hw_reduced2_fields, extended_fields, hw_register_fields}
 use Rattle.pcct_table.specs.Values.{Value, number_bytes, address_at, bytes_at, value_at, values_in, value_bytes, fields_bytes}
 use Rattle.pcct_table.specs.Structures.{values0, values1, values2, values34, values5}
-use Rattle.pcct_table.specs.Subspaces.{SubspaceBytes, subspace_bytes}
+use Rattle.pcct_table.specs.Subspaces.{IsSubspace, SubspaceBytes, subspace_bytes}
 
 -- fields stand one behind the other, from a place to another
 abbrev pub is_contiguous : ℕ → List Field → ℕ → Bool
@@ -47,7 +47,8 @@ value_back Address at b fits long =
 value_back (Array n) at b fits long = refl
 
 -- the fields' bytes and what stands behind them are all bytes from the first field on
-pub fields_back : (fs : List Field) (at end : ℕ) (b : List ℕ) → is_contiguous at fs end ≡ true → end ≤ length b → IsBytes b → fields_bytes fs (values_in b fs) ++ drop end b ≡ drop at b
+pub fields_back : (fs : List Field) (at end : ℕ) (b : List ℕ) → is_contiguous at fs end ≡ true → end ≤ length b → IsBytes b
+    → fields_bytes fs (values_in b fs) ++ drop end b ≡ drop at b
 fields_back [] at end b contiguous long fits = ap (λ (n : ℕ). drop n b) (sym (eqb-true _ _ contiguous))
 fields_back (f ∷ fs) at end b contiguous long fits =
     let w = width f.kind in
@@ -63,7 +64,8 @@ two [] h = absurd (omega arith)
 two (x ∷ []) h = absurd (omega arith)
 two (x ∷ y ∷ b) h = refl
 
-spelled_back : (b : List ℕ) (size kind : ℕ) (fs : List Field) (vs : List Value) → is_contiguous 2 fs size ≡ true → Some size ≡ Some (length b) → 2 ≤ size → slice_index b 0 ≡ kind → slice_index b 1 ≡ length b → values_in b fs ≡ vs → IsBytes b → b ≡ kind ∷ size ∷ fields_bytes fs vs
+spelled_back : (b : List ℕ) (size kind : ℕ) (fs : List Field) (vs : List Value) → is_contiguous 2 fs size ≡ true → Some size ≡ Some (length b)
+    → 2 ≤ size → slice_index b 0 ≡ kind → slice_index b 1 ≡ length b → values_in b fs ≡ vs → IsBytes b → b ≡ kind ∷ size ∷ fields_bytes fs vs
 spelled_back b size kind fs vs contiguous known long e0 e1 values fits =
     let len : length b ≡ size = cc in
     let all : fields_bytes fs (values_in b fs) ≡ drop 2 b =
@@ -82,3 +84,10 @@ spelling b (HwRegister t) fits h = spelled_back b 96 5 hw_register_fields (value
 -- bytes spell one structure at most
 pub one_structure : (b : List ℕ) (s u : Subspace) → SubspaceBytes b s → SubspaceBytes b u → s ≡ u
 one_structure b s u h k = search rules
+
+-- the one spelling of a structure spells it, and is bytes
+pub own_bytes : (s : Subspace) → IsSubspace s → SubspaceBytes (subspace_bytes s) s
+own_bytes s h = subst (λ (b : List ℕ). SubspaceBytes b s) (spelling h.bytes s h.fit h.spell) h.spell
+
+pub own_fit : (s : Subspace) → IsSubspace s → IsBytes (subspace_bytes s)
+own_fit s h = subst IsBytes (spelling h.bytes s h.fit h.spell) h.fit

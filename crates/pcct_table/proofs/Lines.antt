@@ -1,36 +1,10 @@
 -- The lines of a text, cut one after another.
 use Rattle.std.proofs.Common.{◌≡◌, ℕ, ◌+◌, ◌-◌, ◌<◌, ◌≤◌, eqb, List, [], ◌∷◌, ◌++◌, length, drop, get_or, refl, sym, ap, ◌∙◌, arith}
 use Rattle.std.proofs.lemmas.List.{drop-drop, drop_at, get_or-drop, get_or_append_left, length-append, length-drop}
-use Rattle.std.proofs.lemmas.List.Splits.{length-slice_split}
-use Rattle.pcc_bytes.specs.Fields.{split_at}
-use Rattle.pcct_table.specs.ShowReading.{front_of, last_of}
+use Rattle.pcc_bytes.specs.Fields.{last_in, lines_of, split_at}
+use Rattle.pcc_text.proofs.Lines.{parts_are, split_some}
 
-pub split_some : (c : ℕ) (bs : List ℕ) → 1 ≤ length (split_at c bs)
-split_some c bs = omega (arith, length-slice_split (λ b. eqb b c) bs)
-
-pub parts_are : (ps : List (List ℕ)) → 1 ≤ length ps → ps ≡ front_of ps ++ last_of ps ∷ []
-parts_are [] h = absurd (omega arith)
-parts_are (x ∷ []) h = refl
-parts_are (x ∷ y ∷ ys) h = ap (λ (v : List (List ℕ)). x ∷ v) (parts_are (y ∷ ys) (omega arith))
-
-pub front_push : (ls : List (List ℕ)) (x : List ℕ) → front_of (ls ++ x ∷ []) ≡ ls
-front_push [] x = refl
-front_push (l ∷ []) x = refl
-front_push (l ∷ m ∷ ms) x = ap (λ (v : List (List ℕ)). l ∷ v) (front_push (m ∷ ms) x)
-
-pub last_push : (ls : List (List ℕ)) (x : List ℕ) → last_of (ls ++ x ∷ []) ≡ x
-last_push [] x = refl
-last_push (l ∷ []) x = refl
-last_push (l ∷ m ∷ ms) x = last_push (m ∷ ms) x
-
--- the lines of a text, and the bytes behind the last line feed
-abbrev pub lines_of : List ℕ → List (List ℕ)
-lines_of text = front_of (split_at 10 text)
-
-abbrev pub last_in : List ℕ → List ℕ
-last_in text = last_of (split_at 10 text)
-
--- so many lines were cut off, and the rest is left
+-- this many lines were cut off, and the rest is left
 abbrev pub IsRest : List ℕ → ℕ → List ℕ → Type 0
 IsRest text place rest = drop place (split_at 10 text) ≡ split_at 10 rest
 
@@ -38,17 +12,17 @@ parts_len : (text : List ℕ) → length (split_at 10 text) ≡ length (lines_of
 parts_len text = ap length (parts_are (split_at 10 text) (split_some 10 text)) ∙ length-append (lines_of text) (last_in text ∷ [])
 
 -- the rest begins with a line, which has this place
-pub record Next (text line : List ℕ) (place : ℕ) (behind : List ℕ) : Type 0 where
+pub record Next (text line : List ℕ) (place : ℕ) (later : List ℕ) : Type 0 where
   pub within : place < length (lines_of text)
   pub is : get_or (lines_of text) place [] ≡ line
-  pub more : IsRest text (place + 1) behind
+  pub more : IsRest text (place + 1) later
 
-pub next_line : (text rest line behind : List ℕ) (place : ℕ) → IsRest text place rest → split_at 10 rest ≡ line ∷ split_at 10 behind → Next text line place behind
-next_line text rest line behind place here cut =
+pub next_line : (text rest line later : List ℕ) (place : ℕ) → IsRest text place rest → split_at 10 rest ≡ line ∷ split_at 10 later → Next text line place later
+next_line text rest line later place here cut =
     let parts = split_at 10 text in
-    let whole : drop place parts ≡ line ∷ split_at 10 behind = here ∙ cut in
-    let some : 1 ≤ length (split_at 10 behind) = split_some 10 behind in
-    let len : length parts - place ≡ length (line ∷ split_at 10 behind) = sym (length-drop place parts) ∙ ap length whole in
+    let whole : drop place parts ≡ line ∷ split_at 10 later = here ∙ cut in
+    let some : 1 ≤ length (split_at 10 later) = split_some 10 later in
+    let len : length parts - place ≡ length (line ∷ split_at 10 later) = sym (length-drop place parts) ∙ ap length whole in
     let all = parts_len text in
     let within : place < length (lines_of text) = omega arith in
     let at : get_or (drop place parts) 0 [] ≡ get_or parts (place + 0) [] = get_or-drop place parts 0 [] in

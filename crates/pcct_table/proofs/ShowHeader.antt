@@ -4,16 +4,18 @@ use Rattle.std.specs.Prelude.{Some, None, option_and_then, decimal, codes, bytes
 use Rattle.std.proofs.lemmas.Bool.{ltb-false}
 use Rattle.std.proofs.lemmas.Fmt.{decimal_digit}
 use Rattle.std.proofs.lemmas.List.{append-nil}
+use Rattle.pcc_bytes.proofs.Bytes.{IsBytes-append, IsBytes-cons, IsBytes-nil}
 use Rattle.pcc_bytes.specs.Bytes.{IsBytes, number_at}
 use Rattle.pcc_bytes.specs.Fields.{split_at}
+use Rattle.pcc_text.proofs.Lines.{lacks_joined}
 use Rattle.pcc_text.proofs.Laws.{EachLacks, bind_some, guard, lacks, same_some, same_text, split_join, text_of_parts}
 use Rattle.pcct_table.specs.declared.table.Table.{Table}
 use Rattle.pcct_table.specs.Values.{Number, Value, fields_bytes, values_in}
 use Rattle.pcct_table.specs.ShowText.{HasText, header_line, header_words, later_fields, later_values, shown_fields, shown_values, words}
 use Rattle.pcct_table.specs.ShowReading.{head_bytes, part, read_header, read_revision, read_words, shown_bytes}
-use Rattle.pcct_table.proofs.ShowValues.{IsBytes-append, IsBytes-cons, IsBytes-nil, IsCut, lacks-append, number_lacks}
+use Rattle.pcct_table.proofs.ShowValues.{IsCut, lacks-append, number_lacks}
 use Rattle.pcct_table.proofs.ShowWords.{AllFit, all_fit, fields_fit, fields_len, values_back, words_again, words_found, words_lack}
-use Rattle.pcct_table.proofs.ShowLine.{feed, lacks_joined, none_or, space}
+use Rattle.pcct_table.proofs.ShowLine.{feed, none_or, space}
 
 abbrev revision_word : ℕ → List ℕ
 revision_word r = codes "revision" ++ 61 ∷ decimal r
@@ -28,7 +30,8 @@ pub record IsRevision (w : List ℕ) (r : ℕ) : Type 0 where
   pub known : (r ≡ 1) ⊎ (r ≡ 2)
   pub word_is : w ≡ revision_word r
 
-revision_cases : (a b : Bool) (w : List ℕ) (r : ℕ) → bytes_eq w (codes "revision=1") ≡ a → bytes_eq w (codes "revision=2") ≡ b → cond a (Some 1) (cond b (Some 2) None) ≡ Some r → IsRevision w r
+revision_cases : (a b : Bool) (w : List ℕ) (r : ℕ) → bytes_eq w (codes "revision=1") ≡ a → bytes_eq w (codes "revision=2") ≡ b
+    → cond a (Some 1) (cond b (Some 2) None) ≡ Some r → IsRevision w r
 revision_cases true b w r e f h =
     let R : ℕ → Type 0 = IsRevision w in
     subst R (same_some _ _ h) (record { known = inl refl; word_is = same_text w (codes "revision=1") e ∙ one_is })
@@ -44,7 +47,7 @@ revision_again : (r : ℕ) → (r ≡ 1) ⊎ (r ≡ 2) → read_revision (revisi
 revision_again r (inl e) = let P : ℕ → Type 0 = λ n. read_revision (revision_word n) ≡ Some n in subst P (sym e) (ap read_revision (sym one_is))
 revision_again r (inr e) = let P : ℕ → Type 0 = λ n. read_revision (revision_word n) ≡ Some n in subst P (sym e) (ap read_revision (sym two_is))
 
-revision_small : (r : ℕ) → (r ≡ 1) ⊎ (r ≡ 2) → r < 256
+pub revision_small : (r : ℕ) → (r ≡ 1) ⊎ (r ≡ 2) → r < 256
 revision_small r (inl e) = omega arith
 revision_small r (inr e) = omega arith
 
@@ -130,7 +133,8 @@ unfolding read_header
 header_again t h =
     rw (revision_again t.revision h.known, words_again later_fields (later_values t) (later_fit t h)) refl
 
-words_without : (c : ℕ) (t : Table) → IsCut c → lacks c (codes "pcct") ≡ true → lacks c (codes "revision=") ≡ true → EachLacks c (words later_fields (later_values t)) → HasText t → EachLacks c (header_words t)
+words_without : (c : ℕ) (t : Table) → IsCut c → lacks c (codes "pcct") ≡ true → lacks c (codes "revision=") ≡ true
+    → EachLacks c (words later_fields (later_values t)) → HasText t → EachLacks c (header_words t)
 words_without c t cut front name later h =
     let small : t.revision < 256 = revision_small t.revision h.known in
     (front, (lacks-append c (codes "revision=") (decimal t.revision) name (number_lacks c t.revision cut (omega arith)), later))
@@ -156,7 +160,8 @@ header_is line b t h e = text_of_parts 32 line (header_words t) ((header_found (
 pub header_fit : (line b : List ℕ) → read_header (split_at 32 line) ≡ Some b → IsBytes b
 header_fit line b h = (header_found (split_at 32 line) b h).fit
 
-pub header_known : (line b : List ℕ) (t : Table) → read_header (split_at 32 line) ≡ Some b → values_in b shown_fields ≡ shown_values t → (t.revision ≡ 1) ⊎ (t.revision ≡ 2)
+pub header_known : (line b : List ℕ) (t : Table) → read_header (split_at 32 line) ≡ Some b → values_in b shown_fields ≡ shown_values t
+    → (t.revision ≡ 1) ⊎ (t.revision ≡ 2)
 header_known line b t h e = (header_found (split_at 32 line) b h).known t e
 
 pub header_read : (line : List ℕ) (t : Table) → HasText t → line ≡ header_line t → read_header (split_at 32 line) ≡ Some (shown_bytes t)

@@ -5,9 +5,11 @@ use Rattle.std.proofs.lemmas.Bool.{ltb-false, le-ltb}
 use Rattle.std.proofs.lemmas.Bool.Decides.{nat_tests}
 use Rattle.std.proofs.lemmas.List.{append-nil}
 use Rattle.std.proofs.lemmas.List.Folds.{list_all-append}
+use Rattle.pcc_bytes.proofs.Bytes.{IsBytes-cons}
 use Rattle.pcc_bytes.specs.Bytes.{IsBytes}
 use Rattle.pcc_bytes.specs.Fields.{joined, split_at}
 use Rattle.pcc_text.specs.Reading.{number_of}
+use Rattle.pcc_text.proofs.Lines.{lacks_joined}
 use Rattle.pcc_text.proofs.Laws.{EachLacks, bind_some, guard, lacks, number_again, number_reads, same_some, same_text, split_join, text_of_parts, text_same}
 use Rattle.pcct_table.specs.declared.subspace.Subspace.{Subspace}
 use Rattle.pcct_table.specs.declared.subspace.Subspace.TheVariants.{Generic, HwReduced1, HwReduced2, Initiator, Responder, HwRegister}
@@ -16,8 +18,8 @@ use Rattle.pcct_table.specs.Values.{fields_bytes, values_in}
 use Rattle.pcct_table.specs.Subspaces.{IsSubspace, SubspaceBytes, kind_of, subspace_bytes, values_of}
 use Rattle.pcct_table.specs.ShowText.{show_line, show_words, words}
 use Rattle.pcct_table.specs.ShowReading.{part, read_line, read_words}
-use Rattle.pcct_table.proofs.Laws.{is_contiguous, spelling}
-use Rattle.pcct_table.proofs.ShowValues.{IsBytes-cons, IsCut, number_lacks}
+use Rattle.pcct_table.proofs.Laws.{is_contiguous, one_structure, own_bytes}
+use Rattle.pcct_table.proofs.ShowValues.{IsCut, number_lacks}
 use Rattle.pcct_table.proofs.ShowWords.{AllFit, all_fit, fields_fit, fields_len, names_lack, values_back, words_again, words_found, words_lack}
 
 pub space : IsCut 32
@@ -25,12 +27,6 @@ space = record { some = lit< tt; low = lit< tt; digits = refl }
 
 pub feed : IsCut 10
 feed = record { some = lit< tt; low = lit< tt; digits = refl }
-
-pub lacks_joined : (c : ℕ) (fields : List (List ℕ)) → eqb 32 c ≡ false → EachLacks c fields → lacks c (joined fields) ≡ true
-lacks_joined c [] sp h = refl
-lacks_joined c (x ∷ []) sp h = h.0
-lacks_joined c (x ∷ y ∷ ys) sp h =
-    rw (list_all-append (λ (b : ℕ). not (eqb b c)) x (32 ∷ joined (y ∷ ys)), h.0, sp) (lacks_joined c (y ∷ ys) sp h.1)
 
 -- ---- the types
 
@@ -78,7 +74,8 @@ names_lack_feed (Initiator t) = refl
 names_lack_feed (Responder t) = refl
 names_lack_feed (HwRegister t) = refl
 
-bytes_spelled : (s : Subspace) (size : ℕ) → size_of_kind (kind_of s) ≡ Some size → kind_of s ∷ size ∷ fields_bytes (fields_of_kind (kind_of s)) (values_of s) ≡ subspace_bytes s
+bytes_spelled : (s : Subspace) (size : ℕ) → size_of_kind (kind_of s) ≡ Some size
+    → kind_of s ∷ size ∷ fields_bytes (fields_of_kind (kind_of s)) (values_of s) ≡ subspace_bytes s
 bytes_spelled (Generic t) size h = rw (← same_some _ _ h) refl
 bytes_spelled (HwReduced1 t) size h = rw (← same_some _ _ h) refl
 bytes_spelled (HwReduced2 t) size h = rw (← same_some _ _ h) refl
@@ -159,7 +156,8 @@ line_again place s h =
     let enough : ltb (length (show_words place s)) 4 ≡ false = le-ltb _ _ (omega arith) in
     rw (enough, text_same (decimal place) (decimal place) refl, k, h.spell.size, ws) (ap Some (bytes_spelled s (length h.bytes) h.spell.size))
 
-words_without : (c place : ℕ) (s : Subspace) → IsCut c → names_lack c (fields_of_kind (kind_of s)) ≡ true → lacks c (codes "subspace") ≡ true → lacks c (codes "type") ≡ true → place < 2 ^ 64 → IsSubspace s → EachLacks c (show_words place s)
+words_without : (c place : ℕ) (s : Subspace) → IsCut c → names_lack c (fields_of_kind (kind_of s)) ≡ true → lacks c (codes "subspace") ≡ true
+    → lacks c (codes "type") ≡ true → place < 2 ^ 64 → IsSubspace s → EachLacks c (show_words place s)
 words_without c place s cut n front middle small h =
     let kind : kind_of s ≤ 255 = kind_small s in
     (front, (number_lacks c place cut small, (middle, (number_lacks c (kind_of s) cut (omega arith), words_lack c (fields_of_kind (kind_of s)) (values_of s) cut n (structure_fits s h)))))
@@ -188,15 +186,9 @@ line_size place line b h = (line_found place (split_at 32 line) b h).size
 pub line_told : (place : ℕ) (line b : List ℕ) → read_line place (split_at 32 line) ≡ Some b → slice_index b 1 ≡ length b
 line_told place line b h = (line_found place (split_at 32 line) b h).told
 
-pub line_read : (place : ℕ) (line : List ℕ) (s : Subspace) → place < 2 ^ 64 → IsSubspace s → line ≡ show_line place s → read_line place (split_at 32 line) ≡ Some (subspace_bytes s)
+pub line_read : (place : ℕ) (line : List ℕ) (s : Subspace) → place < 2 ^ 64 → IsSubspace s → line ≡ show_line place s
+    → read_line place (split_at 32 line) ≡ Some (subspace_bytes s)
 line_read place line s small h e = ap (λ (v : List ℕ). read_line place (split_at 32 v)) e ∙ ap (read_line place) (line_splits place s small h) ∙ line_again place s h
-
--- bytes spell one structure at most
-one_of_bytes : (b : List ℕ) (s u : Subspace) → SubspaceBytes b s → SubspaceBytes b u → s ≡ u
-one_of_bytes b s u h k = search rules
-
-own_bytes : (s : Subspace) → IsSubspace s → SubspaceBytes (subspace_bytes s) s
-own_bytes s h = let P : List ℕ → Type 0 = λ b. SubspaceBytes b s in subst P (spelling h.bytes s h.fit h.spell) h.spell
 
 pub same_structure : (place : ℕ) (s u : Subspace) → place < 2 ^ 64 → IsSubspace s → IsSubspace u → show_line place s ≡ show_line place u → s ≡ u
 same_structure place s u small h k e =
@@ -204,4 +196,4 @@ same_structure place s u small h k e =
     let b = line_read place (show_line place s) u small k e in
     let same : subspace_bytes s ≡ subspace_bytes u = same_some _ _ (sym a ∙ b) in
     let P : List ℕ → Type 0 = λ b. SubspaceBytes b u in
-    one_of_bytes (subspace_bytes s) s u (own_bytes s h) (subst P (sym same) (own_bytes u k))
+    one_structure (subspace_bytes s) s u (own_bytes s h) (subst P (sym same) (own_bytes u k))

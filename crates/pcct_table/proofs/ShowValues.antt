@@ -4,7 +4,7 @@ use Rattle.std.specs.Prelude.{Option, Some, None, decimal}
 use Rattle.std.specs.List.{join_with_byte}
 use Rattle.std.specs.Str.Parse.{AllDigits}
 use Rattle.std.specs.Int.{byte_at, bytes_low_first}
-use Rattle.std.proofs.lemmas.Bool.{eqb-true}
+use Rattle.std.proofs.lemmas.Bool.{eq-eqb, eqb-true}
 use Rattle.std.proofs.lemmas.List.Folds.{list_all-append}
 use Rattle.hex.specs.Hex.{lower_digits}
 use Rattle.std.proofs.lemmas.Bool.Decides.{nat_tests}
@@ -14,7 +14,8 @@ use Rattle.std.proofs.lemmas.Str.Parse.{digit_from_value}
 use Rattle.byteorder.specs.Numbers.{length-bytes_low_first, little_from-lt, little_number-reads_back}
 use Rattle.pcc_bytes.specs.Bytes.{IsBytes, number_at}
 use Rattle.pcc_bytes.specs.Fields.{hex_text, split_at}
-use Rattle.pcc_bytes.proofs.Bytes.{IsBytes-drop, IsBytes-take}
+use Rattle.pcc_bytes.proofs.Bytes.{IsBytes-cons, IsBytes-drop, IsBytes-take}
+use Rattle.pcc_bytes.proofs.Numbers.{IsBytes-low_first}
 use Rattle.pcc_gas.specs.declared.address.Gas.{Gas}
 use Rattle.pcc_gas.specs.Addresses.{address_bytes, address_in}
 use Rattle.pcc_gas.proofs.Addresses.{address_in-address_bytes, length-address_bytes}
@@ -26,30 +27,6 @@ use Rattle.pcct_table.specs.Rows.{Field, width}
 use Rattle.pcct_table.specs.Values.{Addressed, Bytes, Number, Value, address_at, bytes_at, number_bytes, value_at, value_bytes}
 use Rattle.pcct_table.specs.ShowText.{address_text, value_text, word}
 use Rattle.pcct_table.specs.ShowReading.{◌then◌, part, read_address, read_array, read_number, read_parts, read_value}
-
--- ---- bytes
-
-pub IsBytes-nil : IsBytes []
-IsBytes-nil = record { fits = λ place. omega arith }
-
-fits_cons : (b : ℕ) (bs : List ℕ) → b < 256 → IsBytes bs → (place : ℕ) → slice_index (b ∷ bs) place < 256
-fits_cons b bs small all zero = small
-fits_cons b bs small all (suc place) = all.fits place
-
-pub IsBytes-cons : (b : ℕ) (bs : List ℕ) → b < 256 → IsBytes bs → IsBytes (b ∷ bs)
-IsBytes-cons b bs small all = record { fits = fits_cons b bs small all }
-
-pub IsBytes-append : (xs ys : List ℕ) → IsBytes xs → IsBytes ys → IsBytes (xs ++ ys)
-IsBytes-append [] ys h k = k
-IsBytes-append (x ∷ xs) ys h k = IsBytes-cons x (xs ++ ys) (h.fits 0) (IsBytes-append xs ys (record { fits = λ place. h.fits (suc place) }) k)
-
-byte_small : (i x : ℕ) → byte_at i x < 256
-byte_small zero x = omega arith
-byte_small (suc i) x = omega arith
-
-low_first_bytes : (i n x : ℕ) → IsBytes (bytes_low_first i n x)
-low_first_bytes i zero x = IsBytes-nil
-low_first_bytes i (suc n) x = IsBytes-cons (byte_at i x) (bytes_low_first (suc i) n x) (byte_small i x) (low_first_bytes (suc i) n x)
 
 -- ---- what fits
 
@@ -110,7 +87,7 @@ value_back Address (Addressed gas) rest h =
 value_back (Array n) (Bytes bytes) rest h = ap Bytes (take_at bytes rest n h.len)
 value_back k v rest h = absurd h
 
-number_len : (n x : ℕ) → length (number_bytes n x) ≡ n
+pub number_len : (n x : ℕ) → length (number_bytes n x) ≡ n
 unfolding number_bytes
 number_len n x = length-bytes_low_first 0 n x
 
@@ -125,12 +102,12 @@ value_len k v h = absurd h
 
 number_fit : (n x : ℕ) → IsBytes (number_bytes n x)
 unfolding number_bytes
-number_fit n x = low_first_bytes 0 n x
+number_fit n x = IsBytes-low_first 0 n x
 
 gas_fit : (gas : Gas) → FitsGas gas → IsBytes (address_bytes gas)
 unfolding address_bytes
 gas_fit gas h =
-    IsBytes-cons gas.space _ h.space (IsBytes-cons gas.width _ h.width (IsBytes-cons gas.offset _ h.offset (IsBytes-cons gas.access _ h.access (low_first_bytes 0 8 gas.address))))
+    IsBytes-cons gas.space _ h.space (IsBytes-cons gas.width _ h.width (IsBytes-cons gas.offset _ h.offset (IsBytes-cons gas.access _ h.access (IsBytes-low_first 0 8 gas.address))))
 
 pub value_bytes_fit : (k : Kind) (v : Value) → Fits k v → IsBytes (value_bytes k v)
 value_bytes_fit Byte (Number x) h = number_fit 1 x
@@ -147,12 +124,9 @@ number_again_bytes : (n limit x : ℕ) → limit < 2 ^ 64 → x ≤ limit → re
 unfolding read_number
 number_again_bytes n limit x big h = rw (number_again limit x big h) refl
 
-same : (n : ℕ) → eqb n n ≡ true
-same n = grind (arith, nat_tests)
-
 array_again : (n : ℕ) (bytes : List ℕ) → FitsArray n bytes → read_array n (hex_text bytes) ≡ Some bytes
 unfolding read_array
-array_again n bytes h = rw (hex_again bytes h.fit, h.len, same n) refl
+array_again n bytes h = rw (hex_again bytes h.fit, h.len, eq-eqb n n refl) refl
 
 no_colon : (d : ℕ) → d < 58 → not (eqb d 58) ≡ true
 no_colon d h = grind (arith, nat_tests)
@@ -164,7 +138,12 @@ lacks-colon (d ∷ ds) h = let q = digit_from_value d h.0 in rw (no_colon d (ome
 decimal_lacks : (n : ℕ) → n < 2 ^ 64 → lacks 58 (decimal n) ≡ true
 decimal_lacks n small = lacks-colon (decimal n) ((decimal_is_IsNumeral n small).0.1)
 
-parts_again : (gas : Gas) → FitsGas gas → read_parts (decimal gas.space ∷ decimal gas.width ∷ decimal gas.offset ∷ decimal gas.access ∷ decimal gas.address ∷ []) ≡ Some (address_bytes gas)
+-- a byte is its lowest byte
+low : (n : ℕ) → n < 256 → n % 256 ≡ n
+low n h = omega arith
+
+parts_again : (gas : Gas) → FitsGas gas
+    → read_parts (decimal gas.space ∷ decimal gas.width ∷ decimal gas.offset ∷ decimal gas.access ∷ decimal gas.address ∷ []) ≡ Some (address_bytes gas)
 unfolding number_bytes address_bytes
 parts_again gas h =
     rw (
@@ -178,9 +157,6 @@ parts_again gas h =
       low gas.offset h.offset,
       low gas.access h.access,
     ) refl
-  where
-    low : (n : ℕ) → n < 256 → n % 256 ≡ n
-    low n h = omega arith
 
 address_again : (gas : Gas) → FitsGas gas → read_address (address_text gas) ≡ Some (address_bytes gas)
 unfolding read_address address_text
@@ -244,12 +220,11 @@ five (a ∷ b ∷ c ∷ d ∷ []) h = absurd (omega arith)
 five (a ∷ b ∷ c ∷ d ∷ e ∷ []) h = refl
 five (a ∷ b ∷ c ∷ d ∷ e ∷ f ∷ ps) h = absurd (omega arith)
 
-address_cells : (gas : Gas) → FitsGas gas → number_bytes 1 gas.space ++ (number_bytes 1 gas.width ++ (number_bytes 1 gas.offset ++ (number_bytes 1 gas.access ++ number_bytes 8 gas.address))) ≡ address_bytes gas
+address_cells : (gas : Gas) → FitsGas gas
+    → number_bytes 1 gas.space ++ (number_bytes 1 gas.width ++ (number_bytes 1 gas.offset ++ (number_bytes 1 gas.access ++ number_bytes 8 gas.address)))
+    ≡ address_bytes gas
 unfolding number_bytes address_bytes
 address_cells gas h = rw (low gas.space h.space, low gas.width h.width, low gas.offset h.offset, low gas.access h.access) refl
-  where
-    low : (n : ℕ) → n < 256 → n % 256 ≡ n
-    low n h = omega arith
 
 address_found : (text bytes : List ℕ) → read_address text ≡ Some bytes → Reads Address text bytes
 unfolding read_address address_text

@@ -4,6 +4,7 @@ use Rattle.std.specs.Prelude.{Some, bytes_eq}
 use Rattle.std.specs.List.{list_all}
 use Rattle.std.proofs.lemmas.Bool.{and_parts, eqb-true}
 use Rattle.std.proofs.lemmas.List.{take_at, drop_at, length-append, take-append-drop}
+use Rattle.pcc_bytes.proofs.Bytes.{IsBytes-append, IsBytes-nil}
 use Rattle.pcc_bytes.specs.Bytes.{IsBytes, number_at}
 use Rattle.pcc_text.proofs.Laws.{EachLacks, bind_some, guard, lacks, same_some, same_text, text_same}
 use Rattle.pcct_table.specs.declared.rows.Kind.{Kind}
@@ -13,7 +14,7 @@ use Rattle.pcct_table.specs.Values.{Value, address_at, bytes_at, fields_bytes, v
 use Rattle.pcct_table.specs.ShowText.{value_text, word, words}
 use Rattle.pcct_table.specs.ShowReading.{behind_equals, behind_name, read_value, read_word, read_words}
 use Rattle.pcct_table.proofs.Laws.{is_contiguous, begins}
-use Rattle.pcct_table.proofs.ShowValues.{Fits, IsBytes-append, IsBytes-nil, IsCut, both_found, value_again, value_back, value_bytes_fit, value_fits, value_found, value_len, word_lacks}
+use Rattle.pcct_table.proofs.ShowValues.{Fits, IsCut, both_found, value_again, value_back, value_bytes_fit, value_fits, value_found, value_len, word_lacks}
 
 -- each value fits in its field
 abbrev pub AllFit : List Field → List Value → Type 0
@@ -41,7 +42,8 @@ value_moved Address at b = refl
 value_moved (Array n) at b = refl
 
 -- values are what their bytes say
-pub values_back : (fs : List Field) (vs : List Value) (at end : ℕ) (before rest : List ℕ) → is_contiguous at fs end ≡ true → length before ≡ at → AllFit fs vs → values_in (before ++ (fields_bytes fs vs ++ rest)) fs ≡ vs
+pub values_back : (fs : List Field) (vs : List Value) (at end : ℕ) (before rest : List ℕ) → is_contiguous at fs end ≡ true → length before ≡ at
+    → AllFit fs vs → values_in (before ++ (fields_bytes fs vs ++ rest)) fs ≡ vs
 values_back [] [] at end before rest c len h = refl
 values_back [] (v ∷ vs) at end before rest c len h = absurd h
 values_back (f ∷ fs) [] at end before rest c len h = absurd h

@@ -19,7 +19,8 @@ use Rattle.pcct_table.proofs.Laws.{begins, is_contiguous, spelling}
 use Rattle.pcct_table.proofs.ShowLine.{contiguous_size}
 use Rattle.pcct_table.proofs.ShowHeader.{shown_is, shown_len}
 
-pub address_pieces : (gas : Gas) → spelled (Decimal gas.space ∷ Words (58 ∷ []) ∷ Decimal gas.width ∷ Words (58 ∷ []) ∷ Decimal gas.offset ∷ Words (58 ∷ []) ∷ Decimal gas.access ∷ Words (58 ∷ []) ∷ Decimal gas.address ∷ []) ≡ address_text gas
+pub address_pieces : (gas : Gas)
+    → spelled (Decimal gas.space ∷ Words (58 ∷ []) ∷ Decimal gas.width ∷ Words (58 ∷ []) ∷ Decimal gas.offset ∷ Words (58 ∷ []) ∷ Decimal gas.access ∷ Words (58 ∷ []) ∷ Decimal gas.address ∷ []) ≡ address_text gas
 unfolding spelled address_text
 address_pieces gas = ap (λ (v : List ℕ). decimal gas.space ++ 58 ∷ (decimal gas.width ++ 58 ∷ (decimal gas.offset ++ 58 ∷ (decimal gas.access ++ 58 ∷ v)))) (append-nil (decimal gas.address))
 
@@ -37,7 +38,8 @@ row_words : (b : List ℕ) (rows : List Row) → flat_map (λ r. 32 ∷ row_word
 row_words b [] = refl
 row_words b (r ∷ rs) = ap (λ (v : List ℕ). 32 ∷ row_word b r ++ v) (row_words b rs)
 
-pub rows_put : (b old out : List ℕ) (rows : List Row) (i : ℕ) → length rows ≤ i → out ≡ old ++ flat_map (λ r. 32 ∷ row_word b r) (take i rows) → out ≡ old ++ spaced (words (fields_of rows) (values_in b (fields_of rows)))
+pub rows_put : (b old out : List ℕ) (rows : List Row) (i : ℕ) → length rows ≤ i → out ≡ old ++ flat_map (λ r. 32 ∷ row_word b r) (take i rows)
+    → out ≡ old ++ spaced (words (fields_of rows) (values_in b (fields_of rows)))
 rows_put b old out rows i le e =
     e ∙ ap (λ (rs : List Row). old ++ flat_map (λ r. 32 ∷ row_word b r) rs) (take_all i rows le) ∙ ap (λ (v : List ℕ). old ++ v) (row_words b rows)
 
@@ -49,7 +51,8 @@ within (r ∷ rs) at end n h le =
     let lt : at + width r.2 ≤ end = first.within in
     (omega arith, within rs (at + width r.2) end n first.rest le)
 
-rows_within : (rows : List Row) (at end : ℕ) (bytes : List ℕ) → is_contiguous at (fields_of rows) end ≡ true → end ≤ length bytes → All (λ r. r.1 + width r.2 ≤ length bytes) rows
+rows_within : (rows : List Row) (at end : ℕ) (bytes : List ℕ) → is_contiguous at (fields_of rows) end ≡ true → end ≤ length bytes
+    → All (λ r. r.1 + width r.2 ≤ length bytes) rows
 rows_within rows at end bytes h le = All-from_recursion _ rows (within rows at end (length bytes) h le)
 
 join_first : (x : List ℕ) (ws : List (List ℕ)) → join_with_byte 32 (x ∷ ws) ≡ x ++ spaced ws
@@ -57,14 +60,16 @@ join_first x [] = sym (append-nil x)
 join_first x (w ∷ ws) = ap (λ (v : List ℕ). x ++ 32 ∷ v) (join_first w ws)
 
 -- a text, words, and a line feed
-line_put : {E : Type 0} {T : Type 0} (r : Result T E) (old a b c start more line : List ℕ) → a ≡ old ++ start → b ≡ a ++ more → start ++ more ≡ line → OnOk r (c ≡ b ++ 10 ∷ []) → OnOk r (c ≡ old ++ line_text line)
+line_put : {E : Type 0} {T : Type 0} (r : Result T E) (old a b c start more line : List ℕ) → a ≡ old ++ start → b ≡ a ++ more → start ++ more ≡ line
+    → OnOk r (c ≡ b ++ 10 ∷ []) → OnOk r (c ≡ old ++ line_text line)
 line_put (Ok x) old a b c start more line e f g h =
     h ∙ ap (λ (v : List ℕ). v ++ 10 ∷ []) (f ∙ ap (λ (v : List ℕ). v ++ more) e ∙ append_assoc old start more ∙ ap (λ (v : List ℕ). old ++ v) g) ∙ append_assoc old line (10 ∷ [])
 line_put (Err x) old a b c start more line e f g h = tt
 
 -- ---- a structure
 
-pub structure_rows : (s : Subspace) (rows : List Row) (kind : ℕ) (bytes : List ℕ) → IsSubspace s → kind ≡ kind_of s → fields_of rows ≡ fields_of_kind kind → bytes ≡ subspace_bytes s → All (λ r. r.1 + width r.2 ≤ length bytes) rows
+pub structure_rows : (s : Subspace) (rows : List Row) (kind : ℕ) (bytes : List ℕ) → IsSubspace s → kind ≡ kind_of s
+    → fields_of rows ≡ fields_of_kind kind → bytes ≡ subspace_bytes s → All (λ r. r.1 + width r.2 ≤ length bytes) rows
 structure_rows s rows kind bytes h k e b =
     let own = h.bytes in
     let same : bytes ≡ own = b ∙ sym (spelling own s h.fit h.spell) in
@@ -73,20 +78,25 @@ structure_rows s rows kind bytes h k e b =
     let P : List Field → Type 0 = λ fs. is_contiguous 2 fs (length own) ≡ true in
     rows_within rows 2 (length own) bytes (subst P (sym fields) (contiguous_size (kind_of s) (length own) h.spell.size)) (omega arith)
 
-structure_words : (s : Subspace) (rows : List Row) (kind : ℕ) (bytes : List ℕ) → IsSubspace s → kind ≡ kind_of s → fields_of rows ≡ fields_of_kind kind → bytes ≡ subspace_bytes s → words (fields_of rows) (values_in bytes (fields_of rows)) ≡ words (fields_of_kind (kind_of s)) (values_of s)
+structure_words : (s : Subspace) (rows : List Row) (kind : ℕ) (bytes : List ℕ) → IsSubspace s → kind ≡ kind_of s
+    → fields_of rows ≡ fields_of_kind kind → bytes ≡ subspace_bytes s
+    → words (fields_of rows) (values_in bytes (fields_of rows)) ≡ words (fields_of_kind (kind_of s)) (values_of s)
 structure_words s rows kind bytes h k e b =
     let same : bytes ≡ h.bytes = b ∙ sym (spelling h.bytes s h.fit h.spell) in
     let fields : fields_of rows ≡ fields_of_kind (kind_of s) = e ∙ ap fields_of_kind k in
     ap (λ (fs : List Field). words fs (values_in bytes fs)) fields ∙ ap (λ (v : List ℕ). words (fields_of_kind (kind_of s)) (values_in v (fields_of_kind (kind_of s)))) same ∙ ap (words (fields_of_kind (kind_of s))) h.spell.values
 
-structure_joins : (place kind : ℕ) (ws : List (List ℕ)) → spelled (Words (codes "subspace ") ∷ Decimal place ∷ Words (codes " type ") ∷ Decimal kind ∷ []) ++ spaced ws ≡ joined (codes "subspace" ∷ decimal place ∷ codes "type" ∷ decimal kind ∷ ws)
+structure_joins : (place kind : ℕ) (ws : List (List ℕ))
+    → spelled (Words (codes "subspace ") ∷ Decimal place ∷ Words (codes " type ") ∷ Decimal kind ∷ []) ++ spaced ws
+    ≡ joined (codes "subspace" ∷ decimal place ∷ codes "type" ∷ decimal kind ∷ ws)
 unfolding spelled
 structure_joins place kind ws =
     let start : List ℕ → List ℕ = λ v. codes "subspace " ++ v in
     let middle : List ℕ → List ℕ = λ v. codes " type " ++ v in
     ap start (append_assoc (decimal place) (middle (decimal kind ++ [])) (spaced ws) ∙ ap (λ (v : List ℕ). decimal place ++ middle v) (ap (λ (v : List ℕ). v ++ spaced ws) (append-nil (decimal kind)) ∙ sym (join_first (decimal kind) ws)))
 
-pub structure_put : {E : Type 0} {T : Type 0} (r : Result T E) (place : ℕ) (s : Subspace) (rows : List Row) (kind : ℕ) (bytes old a b c : List ℕ) → IsSubspace s → kind ≡ kind_of s → fields_of rows ≡ fields_of_kind kind → bytes ≡ subspace_bytes s
+pub structure_put : {E : Type 0} {T : Type 0} (r : Result T E) (place : ℕ) (s : Subspace) (rows : List Row) (kind : ℕ) (bytes old a b c : List ℕ)
+    → IsSubspace s → kind ≡ kind_of s → fields_of rows ≡ fields_of_kind kind → bytes ≡ subspace_bytes s
     → a ≡ old ++ spelled (Words (codes "subspace ") ∷ Decimal place ∷ Words (codes " type ") ∷ Decimal kind ∷ [])
     → b ≡ a ++ spaced (words (fields_of rows) (values_in bytes (fields_of rows)))
     → OnOk r (c ≡ b ++ 10 ∷ []) → OnOk r (c ≡ old ++ line_text (show_line place s))
@@ -101,19 +111,22 @@ structure_put r place s rows kind bytes old a b c h k e is f g p =
 
 -- ---- a header
 
-pub header_rows : (t : Table) (rows : List Row) (bytes : List ℕ) → HasText t → fields_of rows ≡ later_fields → bytes ≡ shown_bytes t → All (λ r. r.1 + width r.2 ≤ length bytes) rows
+pub header_rows : (t : Table) (rows : List Row) (bytes : List ℕ) → HasText t → fields_of rows ≡ later_fields → bytes ≡ shown_bytes t
+    → All (λ r. r.1 + width r.2 ≤ length bytes) rows
 header_rows t rows bytes h e b =
     let len : length bytes ≡ 48 = ap length b ∙ shown_len t h in
     let P : List Field → Type 0 = λ fs. is_contiguous 10 fs 48 ≡ true in
     rows_within rows 10 48 bytes (subst P (sym e) refl) (omega arith)
 
-header_joins : (revision : ℕ) (ws : List (List ℕ)) → spelled (Words (codes "pcct revision=") ∷ Decimal revision ∷ []) ++ spaced ws ≡ joined (codes "pcct" ∷ (codes "revision" ++ 61 ∷ decimal revision) ∷ ws)
+header_joins : (revision : ℕ) (ws : List (List ℕ))
+    → spelled (Words (codes "pcct revision=") ∷ Decimal revision ∷ []) ++ spaced ws ≡ joined (codes "pcct" ∷ (codes "revision" ++ 61 ∷ decimal revision) ∷ ws)
 unfolding spelled
 header_joins revision ws =
     let start : List ℕ → List ℕ = λ v. codes "pcct revision=" ++ v in
     ap (λ (v : List ℕ). start (v ++ spaced ws)) (append-nil (decimal revision)) ∙ ap (λ (v : List ℕ). codes "pcct " ++ v) (sym (join_first (codes "revision" ++ 61 ∷ decimal revision) ws))
 
-pub header_put : {E : Type 0} {T : Type 0} (r : Result T E) (t : Table) (rows : List Row) (bytes old a b c : List ℕ) → HasText t → fields_of rows ≡ later_fields → bytes ≡ shown_bytes t
+pub header_put : {E : Type 0} {T : Type 0} (r : Result T E) (t : Table) (rows : List Row) (bytes old a b c : List ℕ) → HasText t
+    → fields_of rows ≡ later_fields → bytes ≡ shown_bytes t
     → a ≡ old ++ spelled (Words (codes "pcct revision=") ∷ Decimal t.revision ∷ [])
     → b ≡ a ++ spaced (words (fields_of rows) (values_in bytes (fields_of rows)))
     → OnOk r (c ≡ b ++ 10 ∷ []) → OnOk r (c ≡ old ++ line_text (header_line t))
@@ -138,7 +151,8 @@ pub shown_start : (t : Table) (out : List ℕ) → out ≡ line_text (header_lin
 unfolding show_text
 shown_start t out e = record { whole = ap (λ (v : List ℕ). v ++ flat_map line_text (structure_lines 0 t.subspaces)) e }
 
-pub shown_more : (t : Table) (place : ℕ) (d : Subspace) (out next : List ℕ) → place < length t.subspaces → next ≡ out ++ line_text (show_line place (get_or t.subspaces place d)) → Showing t place out → Showing t (place + 1) next
+pub shown_more : (t : Table) (place : ℕ) (d : Subspace) (out next : List ℕ) → place < length t.subspaces
+    → next ≡ out ++ line_text (show_line place (get_or t.subspaces place d)) → Showing t place out → Showing t (place + 1) next
 shown_more t place d out next lt e h =
     let s = get_or t.subspaces place d in
     let rest = flat_map line_text (structure_lines (place + 1) (drop (place + 1) t.subspaces)) in

@@ -3,7 +3,7 @@ use Rattle.std.proofs.Common.{◌≡◌, ◌≢◌, ◌⊎◌, inl, inr, ℕ, ze
 use Rattle.std.specs.Prelude.{Option, Some, None, Result, Ok, Err}
 use Rattle.std.proofs.lemmas.Bool.Decides.{nat_tests}
 use Rattle.pcc_bytes.specs.Bytes.{number_at}
-use Rattle.pcc_bytes.specs.Fields.{split_at}
+use Rattle.pcc_bytes.specs.Fields.{last_in, lines_of, split_at}
 use Rattle.pcct_table.specs.declared.build.BuildError.{BuildError}
 use Rattle.pcct_table.specs.declared.build.BuildError.TheVariants as error
 use Rattle.pcct_table.specs.declared.build.BuildKind.{BuildKind}
@@ -17,7 +17,7 @@ use Rattle.pcct_table.specs.Values.{address_at, bytes_at}
 use Rattle.pcct_table.specs.Subspaces.{SubspaceBytes}
 use Rattle.pcct_table.specs.ShowText.{HasText, header_line, show_text}
 use Rattle.pcct_table.specs.ShowFaults.{HasFault, HasTable, TextWrong}
-use Rattle.pcct_table.specs.ShowReading.{front_of, last_of, Nothing, ReadsStructure, TellsStructures, TellsTable, TellsText, Wrong, read_header, read_line, shown_bytes}
+use Rattle.pcct_table.specs.ShowReading.{Nothing, ReadsStructure, TellsStructures, TellsTable, TellsText, Wrong, read_header, read_line, shown_bytes}
 use Rattle.pcct_table.proofs.Building.{all_read, Building, building_many, building_more, building_start, building_unended, building_wrong}
 use Rattle.pcct_table.proofs.Built.{behind_header, header_at, header_right, is_first, is_found, is_only, is_wrong, table_cut, text_stops}
 use Rattle.pcct_table.proofs.ShowHeader.{header_is, header_read}
@@ -167,7 +167,8 @@ walk_room lines last place ss s false e lt h b go =
     let room : place ≢ 256 = λ f. grind (arith, nat_tests) in
     go (ss ++ s ∷ []) (building_more lines place ss (ss ++ s ∷ []) s lt h room refl b)
 
-walk_line : (lines : List (List ℕ)) (last : List ℕ) (place : ℕ) (ss : List Subspace) (o : Option (List ℕ)) → read_line place (split_at 32 (get_or lines place [])) ≡ o
+walk_line : (lines : List (List ℕ)) (last : List ℕ) (place : ℕ) (ss : List Subspace) (o : Option (List ℕ))
+    → read_line place (split_at 32 (get_or lines place [])) ≡ o
     → place < length lines → Building lines place ss → ((next : List Subspace) → Building lines (place + 1) next → IsTold lines last) → IsTold lines last
 walk_line lines last place ss None e lt b go =
     let R : Option (List ℕ) → Type 0 = λ o. ReadsStructure o None in
@@ -253,7 +254,7 @@ text_case text (Err (error.Fault n k)) h known = inr (record { line = n; kind = 
 
 pub text_some : (text : List ℕ) → HasTable text ⊎ HasFault text
 text_some text =
-    let a = lines_told (front_of (split_at 10 text)) (last_of (split_at 10 text)) in
+    let a = lines_told (lines_of text) (last_in text) in
     text_case text a.answer a.tells a.known
 
 -- a table is what is told of its text
@@ -263,7 +264,8 @@ table_told t text h e = let c = table_cut t text h e in (h, c.front_is, c.last_i
 pub text_not_both : (text : List ℕ) → HasTable text → HasFault text → ⊥
 text_not_both text t f = is_first text (Ok t.table) f.line f.kind (table_told t.table text t.right t.spelled) f.wrong
 
-pub text_one_fault : (text : List ℕ) (line other : ℕ) (k another : BuildKind) → TextWrong text line k → TextWrong text other another → (line ≡ other) × (k ≡ another)
+pub text_one_fault : (text : List ℕ) (line other : ℕ) (k another : BuildKind) → TextWrong text line k → TextWrong text other another
+    → (line ≡ other) × (k ≡ another)
 text_one_fault text line other k another a b = is_first text (Err (error.Fault line k)) other another (text_stops text line k a) b
 
 pub text_one_table : (t u : Table) → HasText t → HasText u → show_text t ≡ show_text u → t ≡ u

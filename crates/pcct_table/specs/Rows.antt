@@ -15,7 +15,7 @@ width Qword = 8
 width Address = 12
 width (Array n) = n
 
--- a field: its name, the place of its first byte, and what stands in it
+-- a field: its name, the place of its first byte, and what it holds
 pub record Field : Type 0 where
   pub name : List ℕ
   pub at : ℕ
@@ -65,7 +65,7 @@ memory_fields =
 abbrev pub interrupt_fields : List Field
 interrupt_fields = field (codes "interrupt") 2 Dword ∷ field (codes "interrupt_flags") 6 Byte ∷ field (codes "reserved") 7 (Array 1) ∷ []
 
--- the generic communications subspace structure, of type 0, behind its head (14.1.3)
+-- the generic communications subspace structure, of type 0, after its head (14.1.3)
 abbrev pub generic_fields : List Field
 generic_fields = field (codes "reserved") 2 (Array 6) ∷ memory_fields
 
@@ -125,7 +125,7 @@ hw_register_fields =
     ∷ field (codes "turnaround") 92 Dword
     ∷ []
 
--- the fields of a type's structures behind their heads; an unknown type has none
+-- the fields of a type's structures after their heads; an unknown type has none
 abbrev pub fields_of_kind : ℕ → List Field
 fields_of_kind kind =
     if kind == 0 then generic_fields

@@ -1,7 +1,8 @@
 -- How the code reads a text, from left to right, as functions on lists. Only contracts of private functions cite these.
-use Rattle.std.specs.Prelude.{◌≡◌, ◌≤◌, ◌==◌, ℕ, suc, nat_lt, Bool, true, false, if◌then◌else◌, List, [], ◌∷◌, ◌++◌, length, take, drop, slice_index_or, Option, Some, None, Result, Ok, Err, option_and_then, bytes_eq, codes, decimal}
+use Rattle.std.specs.Prelude.{◌≡◌, ◌≤◌, ◌==◌, ℕ, suc, nat_lt, Bool, true, false, if◌then◌else◌, List, [], ◌∷◌, ◌++◌, length, take, drop}
+use Rattle.std.specs.Prelude.{slice_index_or, Option, Some, None, Result, Ok, Err, option_and_then, bytes_eq, codes, decimal}
 use Rattle.std.specs.List.{AllByRecursion}
-use Rattle.pcc_bytes.specs.Fields.{split_at}
+use Rattle.pcc_bytes.specs.Fields.{last_in, lines_of, split_at}
 use Rattle.pcc_text.specs.Reading.{hex_of, number_of}
 use Rattle.pcct_table.specs.declared.build.BuildError.{BuildError}
 use Rattle.pcct_table.specs.declared.build.BuildError.TheVariants as error
@@ -35,7 +36,7 @@ read_number n limit text = do
   x ← number_of limit text
   Some (number_bytes n x)
 
--- bytes and the bytes behind them
+-- bytes and the bytes after them
 abbrev pub ◌then◌ : Option (List ℕ) → Option (List ℕ) → Option (List ℕ)
 None then more = None
 (Some front) then None = None
@@ -47,7 +48,8 @@ part parts i = slice_index_or parts i []
 -- the five numbers of an address
 abbrev pub read_parts : List (List ℕ) → Option (List ℕ)
 read_parts parts =
-    if length parts == 5 then (read_number 1 255 (part parts 0) then (read_number 1 255 (part parts 1) then (read_number 1 255 (part parts 2) then (read_number 1 255 (part parts 3) then read_number 8 18446744073709551615 (part parts 4)))))
+    if length parts == 5 then (read_number 1 255 (part parts 0) then (read_number 1 255 (part parts 1)
+      then (read_number 1 255 (part parts 2) then (read_number 1 255 (part parts 3) then read_number 8 18446744073709551615 (part parts 4)))))
     else None
 
 unfoldable pub read_address : List ℕ → Option (List ℕ)
@@ -70,7 +72,7 @@ abbrev pub behind_equals : List ℕ → Option (List ℕ)
 behind_equals [] = None
 behind_equals (b ∷ bs) = if b == 61 then Some bs else None
 
--- what stands behind `name=`
+-- what follows `name=`
 unfoldable pub behind_name : List ℕ → List ℕ → Option (List ℕ)
 behind_name name w = if bytes_eq (take (length name) w) name then behind_equals (drop (length name) w) else None
 
@@ -119,7 +121,8 @@ read_kind o ws = do
 unfoldable pub read_line : ℕ → List (List ℕ) → Option (List ℕ)
 read_line place ws =
     if nat_lt (length ws) 4 then None
-    else (if bytes_eq (part ws 0) (codes "subspace") then (if bytes_eq (part ws 1) (decimal place) then (if bytes_eq (part ws 2) (codes "type") then read_kind (number_of 255 (part ws 3)) (drop 4 ws) else None) else None) else None)
+    else (if bytes_eq (part ws 0) (codes "subspace") then (if bytes_eq (part ws 1) (decimal place) then (
+      if bytes_eq (part ws 2) (codes "type") then read_kind (number_of 255 (part ws 3)) (drop 4 ws) else None) else None) else None)
 
 -- the structure that was read of a line
 abbrev pub ReadsStructure : Option (List ℕ) → Option Subspace → Type 0
@@ -129,7 +132,7 @@ ReadsStructure _ _ = ⊥
 
 -- ---- a text
 
--- what stops reading behind so many right lines, where these lines are left and these bytes behind the last line feed
+-- what stops reading after n right lines, where these lines are left and these bytes after the last line feed
 pub data Stops (n : ℕ) : List (List ℕ) → List ℕ → BuildKind → Type 0 where
   Wrong : (line : List ℕ) → (rest : List (List ℕ)) → (last : List ℕ) → (IsRightAt n line → ⊥) → Stops n (line ∷ rest) last kind.Text
   OneLineMore : (line : List ℕ) → (rest : List (List ℕ)) → (last : List ℕ) → n ≡ most_lines → IsRightAt n line → Stops n (line ∷ rest) last kind.Many
@@ -141,7 +144,7 @@ pub record AreFew (ss : List Subspace) : Type 0 where
   pub spelled : AllByRecursion IsSubspace ss
   pub few : length ss ≤ 256
 
--- the lines of such structures stand before the one of this number, counted from 1 with the header's, and there reading stops
+-- the lines of such structures precede the one of this number, counted from 1 with the header's, and there reading stops
 pub record StopsBehind (lines : List (List ℕ)) (last : List ℕ) (line : ℕ) (kind : BuildKind) : Type 0 where
   pub before : List Subspace
   pub more : List (List ℕ)
@@ -150,13 +153,13 @@ pub record StopsBehind (lines : List (List ℕ)) (last : List ℕ) (line : ℕ) 
   pub stops : Stops (suc (length before)) more last kind
   pub number : line ≡ suc (suc (length before))
 
--- what was read of the lines behind the header's
+-- what was read of the lines after the header's
 abbrev pub TellsStructures : Result (List Subspace) BuildError → List (List ℕ) → List ℕ → Type 0
 TellsStructures (Ok ss) lines last = (lines ≡ structure_lines 0 ss) × AreFew ss × (last ≡ [])
 TellsStructures (Err error.NoMemory) lines last = Unit {0}
 TellsStructures (Err (error.Fault line kind)) lines last = StopsBehind lines last line kind
 
--- right lines stand before the one of this number, and there reading stops
+-- right lines precede the one of this number, and there reading stops
 pub record StopsAt (lines : List (List ℕ)) (last : List ℕ) (line : ℕ) (kind : BuildKind) : Type 0 where
   pub before : List (List ℕ)
   pub more : List (List ℕ)
@@ -172,17 +175,6 @@ TellsTable (Ok t) lines last = HasText t × (lines ≡ table_lines t) × (last �
 TellsTable (Err error.NoMemory) lines last = Unit {0}
 TellsTable (Err (error.Fault line kind)) lines last = StopsAt lines last line kind
 
--- the parts before the last
-abbrev pub front_of : List (List ℕ) → List (List ℕ)
-front_of [] = []
-front_of (x ∷ []) = []
-front_of (x ∷ y ∷ ys) = x ∷ front_of (y ∷ ys)
-
-abbrev pub last_of : List (List ℕ) → List ℕ
-last_of [] = []
-last_of (x ∷ []) = x
-last_of (x ∷ y ∷ ys) = last_of (y ∷ ys)
-
 -- what was read of a text
 abbrev pub TellsText : Result Table BuildError → List ℕ → Type 0
-TellsText r text = TellsTable r (front_of (split_at 10 text)) (last_of (split_at 10 text))
+TellsText r text = TellsTable r (lines_of text) (last_in text)

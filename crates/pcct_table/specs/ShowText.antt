@@ -1,5 +1,5 @@
 -- The text of a table: a line for its header and a line for each structure, with a word `name=value` for each field. One space
--- (byte 32) stands between two words, and a line feed (byte 10) ends each line.
+-- (byte 32) separates two words, and a line feed (byte 10) ends each line.
 use Rattle.std.specs.Prelude.{◌≡◌, ◌≤◌, ◌⊎◌, ℕ, suc, List, [], ◌∷◌, ◌++◌, length, take, drop, decimal, codes}
 use Rattle.std.specs.List.{AllByRecursion, flat_map, join_with_byte}
 use Rattle.pcc_bytes.specs.Bytes.{IsBytes}
@@ -34,11 +34,11 @@ words (f ∷ fs) (v ∷ vs) = word f v ∷ words fs vs
 
 -- ---- the header
 
--- the fields of a header behind its checksum
+-- the fields of a header after its checksum
 abbrev pub later_fields : List Field
 later_fields = drop 4 header_fields
 
--- the fields of a header that a table's value has: the revision, and those behind the checksum
+-- the fields of a header that a table's value has: the revision, and those after the checksum
 abbrev pub shown_fields : List Field
 shown_fields = take 1 (drop 2 header_fields) ++ later_fields
 

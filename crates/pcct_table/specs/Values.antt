@@ -49,7 +49,7 @@ value_bytes Address (Addressed gas) = address_bytes gas
 value_bytes (Array n) (Bytes bytes) = bytes
 value_bytes kind value = []
 
--- the bytes of fields, one behind the other
+-- the bytes of fields, one after the other
 abbrev pub fields_bytes : List Field → List Value → List ℕ
 fields_bytes [] values = []
 fields_bytes (f ∷ fs) [] = []

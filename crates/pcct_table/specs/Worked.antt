@@ -1,4 +1,4 @@
--- What the worked structures say, one of each type. Each of their bytes behind the first two is its place and one, so a field that were
+-- What the worked structures say, one of each type. Each of their bytes after the first two is its place and one, so a field that were
 -- read at another place would say something else.
 use Rattle.std.specs.Prelude.{[], ◌∷◌}
 use Rattle.pcct_table.specs.declared.extended.Type34.{Type34}

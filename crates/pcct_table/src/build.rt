@@ -1,12 +1,12 @@
 //! A table from its text.
 ghost use Rattle.std.specs.Prelude.{◌≡◌, ◌≤◌, ◌+◌, ◌⊎◌, ℕ, List, IfOk};
-ghost use Rattle.pcc_bytes.specs.Fields.{split_at};
+ghost use Rattle.pcc_bytes.specs.Fields.{last_in, lines_of};
 ghost use Rattle.pcct_table.specs.declared.build.BuildError.TheVariants as error;
 ghost use Rattle.pcct_table.specs.declared.table.Table.{Table};
 ghost use Rattle.pcct_table.specs.declared.build.BuildKind.{BuildKind};
 ghost use Rattle.pcct_table.specs.ShowText.{HasText, show_text};
 ghost use Rattle.pcct_table.specs.ShowFaults.{HasFault, HasTable, IfFault, IsReadAs, IsRefusedAt, TextWrong};
-ghost use Rattle.pcct_table.specs.ShowReading.{TellsStructures, TellsText, front_of, last_of};
+ghost use Rattle.pcct_table.specs.ShowReading.{TellsStructures, TellsText};
 
 use crate::header::table_with;
 use crate::line::{header_of_line, subspace_of_line};
@@ -21,7 +21,7 @@ use std::alloc::Global;
 pub enum BuildKind {
     /// It is no line of a table's text in its place, or has no line feed, or there is none.
     Text,
-    /// It is the line of a structure, behind those of `MAX_SUBSPACES`.
+    /// It is the line of a structure, after those of `MAX_SUBSPACES`.
     Many,
 }
 
@@ -55,10 +55,10 @@ fn wrong_line(place: usize, kind: BuildKind) -> BuildError
     }
 }
 
-/// The structures of the lines of a text behind the header's.
+/// The structures of the lines of a text after the header's.
 #[tactic(auto, using(crate::proofs::Building::reading_start, crate::proofs::Building::reading_more, crate::proofs::Building::reading_wrong, crate::proofs::Building::reading_many, crate::proofs::Building::reading_unended, crate::proofs::Building::reading_end))]
 fn subspaces_of(alloc: Global, text: &[u8]) -> Result<Subspaces, BuildError>
-    ensures { TellsStructures result (front_of (split_at 10 text.now)) (last_of (split_at 10 text.now)) }
+    ensures { TellsStructures result (lines_of text.now) (last_in text.now) }
 {
     let mut subspaces = Subspaces::new(alloc);
     let mut rest = text;
@@ -102,7 +102,7 @@ fn read(alloc: Global, text: &[u8]) -> Result<Table, BuildError>
 
 /// The table that a text spells. A text spells at most one, and each table that bytes spell has one text, that of `show_lines`.
 ///
-/// A first line that is no table's header, a line that is no structure in its place, bytes with no line feed behind them, and an empty text are
+/// A first line that is no table's header, a line that is no structure in its place, bytes with no line feed after them, and an empty text are
 /// `Text`. The right line of a 257th structure is `Many`.
 #[tactic(auto, using(crate::proofs::Built::is_found, crate::proofs::Built::is_only, crate::proofs::Built::is_wrong, crate::proofs::Built::is_first))]
 pub fn table_of_lines(alloc: Global, text: &[u8]) -> Result<Table, BuildError>
@@ -111,9 +111,9 @@ pub fn table_of_lines(alloc: Global, text: &[u8]) -> Result<Table, BuildError>
     // A table whose text this is is read, unless memory runs out.
     ensures only { (t : Table) → HasText t → text.now ≡ show_text t → IsReadAs t result }
 
-    // A fault that is told is the first of the text.
+    // A fault that is reported is the first of the text.
     ensures fault { IfFault result (TextWrong text.now) }
-    // The first fault of the text is told, unless memory runs out.
+    // The first fault of the text is reported, unless memory runs out.
     ensures first { (line : ℕ) (kind : BuildKind) → TextWrong text.now line kind → IsRefusedAt line kind result }
 {
     read(alloc, text)

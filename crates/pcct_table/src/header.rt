@@ -21,7 +21,7 @@ const LATER: [Row; 7] = [
     Row(b"reserved", 40, Array(8)),
 ];
 
-/// The fields behind the checksum, in the order of their places.
+/// The fields after the checksum, in the order of their places.
 pub fn later_rows() -> &'static [Row]
     ensures { fields_of result.now ≡ later_fields }
 {

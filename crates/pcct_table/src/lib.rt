@@ -1,5 +1,5 @@
 //! The Platform Communications Channel Table (PCCT, ACPI 6.5, 14.1) as a value, with its structures' bytes both ways and its text both ways.
-//! The fields of each structure stand in one table, by which its bytes and its words are read and written.
+//! The fields of each structure are in one table, by which its bytes and its words are read and written.
 #![tactic(auto)]
 
 mod build;

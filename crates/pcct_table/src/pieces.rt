@@ -1,11 +1,11 @@
-//! Numbers as bytes, lowest first, and pieces of bytes one behind the other.
+//! Numbers as bytes, lowest first, and pieces of bytes one after the other.
 ghost use Rattle.std.specs.Prelude.{◌≡◌, ◌++◌, OnOk};
 ghost use Rattle.std.specs.List.{flat_map};
 ghost use Rattle.pcct_table.specs.Values.{number_bytes};
 
 use pcc_io::NoMemory;
 
-/// Puts the pieces at the end. Where memory runs out some of them may stand there.
+/// Puts the pieces at the end. If memory runs out some of them may have been put.
 pub fn put_all(out: &mut Vec<u8>, pieces: &[&[u8]]) -> Result<(), NoMemory>
     ensures { OnOk result (out.new.items ≡ out.old.items ++ flat_map (λ p. p.now) pieces.now) }
 {

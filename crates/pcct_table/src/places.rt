@@ -1,4 +1,4 @@
-//! What stands at a place of some bytes.
+//! What is at a place of some bytes.
 ghost use Rattle.std.specs.Prelude.{◌≡◌, ◌+◌, ◌<◌, ◌≤◌, length};
 ghost use Rattle.pcc_bytes.specs.Bytes.{number_at};
 ghost use Rattle.pcct_table.specs.Values.{address_at, bytes_at};

@@ -1,10 +1,10 @@
-//! The fields of each type of structure, behind its type and its size (ACPI 6.5, 14.1).
+//! The fields of each type of structure, after its type and its size (ACPI 6.5, 14.1).
 ghost use Rattle.std.specs.Prelude.{◌≡◌};
 ghost use Rattle.pcct_table.specs.Rows.{fields_of, fields_of_kind};
 
 use Kind::{Address, Array, Byte, Dword, Qword, Word};
 
-/// What stands in a field: a number of 1, 2, 4 or 8 bytes, lowest first, a generic address of 12, or so many bytes.
+/// What a field holds: a number of 1, 2, 4 or 8 bytes, lowest first, a generic address of 12, or bytes of a fixed number.
 #[derive(Clone, Copy, Debug, PartialEq, Eq)]
 pub enum Kind {
     Byte,
@@ -15,7 +15,7 @@ pub enum Kind {
     Array(usize),
 }
 
-/// A field: its name, the place of its first byte in the structure, and what stands in it.
+/// A field: its name, the place of its first byte in the structure, and what it holds.
 #[derive(Clone, Copy, Debug)]
 pub struct Row(pub &'static [u8], pub usize, pub Kind);
 

@@ -147,7 +147,7 @@ pub fn subspace_from(bytes: &[u8]) -> Subspace
     }
 }
 
-/// Puts the bytes that spell the structure at the end. Where memory runs out some of them may stand there.
+/// Puts the bytes that spell the structure at the end. If memory runs out some of them may have been put.
 pub fn put_subspace(out: &mut Vec<u8>, subspace: Subspace) -> Result<(), NoMemory>
     ensures { OnOk result (out.new.items ≡ out.old.items ++ subspace_bytes subspace) }
 {

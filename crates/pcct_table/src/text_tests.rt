@@ -32,7 +32,7 @@ fn fault_of(alloc: Global, text: &[u8]) -> Option<(u32, BuildKind)> {
     }
 }
 
-// A text of a header and so many structures of type 0.
+// A text of a header and n structures of type 0.
 fn generic_text(alloc: Global, structures: u32) -> Result<Vec<u8>, Fail> {
     let mut text = Vec::new(alloc);
     text.extend_from_slice(HEADER)?;
@@ -45,7 +45,7 @@ fn generic_text(alloc: Global, structures: u32) -> Result<Vec<u8>, Fail> {
     Ok(text)
 }
 
-// A text with a part of it, which stands there once, put in another's place.
+// A text with a part of it, which occurs there once, put in another's place.
 fn changed(alloc: Global, text: &[u8], old: &str, new: &str) -> Result<Vec<u8>, Fail> {
     let text = str::from_utf8(text)?;
     Ok(text.replace(alloc, old, new)?.into_bytes())

@@ -1,4 +1,4 @@
-//! Worked structures, one of each type, on which the definitions are evaluated. The byte at a place behind the first two is the place and
+//! Worked structures, one of each type, on which the definitions are evaluated. The byte at a place after the first two is the place and
 //! one.
 ghost use Rattle.std.specs.Prelude.{◌≡◌};
 ghost use Rattle.pcct_table.specs.Subspaces.{SubspaceBytes};

@@ -86,7 +86,8 @@ rate_kept l ts p w =
 
 -- ---- and back
 
-turnaround_holds : (l : Limits) (ts : List Times) (p : ℕ) → WithinLimits l ts None → after_turnaround l ts ≤ p → (i : ℕ) → i + 1 < length (posts_of ts (Some p)) → (times_at ts i).done + l.turnaround ≤ slice_index (posts_of ts (Some p)) (i + 1)
+turnaround_holds : (l : Limits) (ts : List Times) (p : ℕ) → WithinLimits l ts None → after_turnaround l ts ≤ p → (i : ℕ)
+    → i + 1 < length (posts_of ts (Some p)) → (times_at ts i).done + l.turnaround ≤ slice_index (posts_of ts (Some p)) (i + 1)
 turnaround_holds l ts p w d i lt =
     let n : length (posts_of ts (Some p)) ≡ length ts + 1 = length_pending ts p in
     let k = length_posts ts in
@@ -97,7 +98,9 @@ turnaround_holds l ts p w d i lt =
           rw (last ts p (i + 1) e) (rw (done_is l ts i e) at d)
     ]
 
-rate_holds : (l : Limits) (ts : List Times) (p : ℕ) → WithinLimits l ts None → after_minute l ts ≤ p → (i : ℕ) → l.per_minute ≢ 0 → i + l.per_minute < length (posts_of ts (Some p)) → slice_index (posts_of ts (Some p)) i + minute ≤ slice_index (posts_of ts (Some p)) (i + l.per_minute)
+rate_holds : (l : Limits) (ts : List Times) (p : ℕ) → WithinLimits l ts None → after_minute l ts ≤ p → (i : ℕ) → l.per_minute ≢ 0
+    → i + l.per_minute < length (posts_of ts (Some p))
+    → slice_index (posts_of ts (Some p)) i + minute ≤ slice_index (posts_of ts (Some p)) (i + l.per_minute)
 rate_holds l ts p w d i m lt =
     let n : length (posts_of ts (Some p)) ≡ length ts + 1 = length_pending ts p in
     let k = length_posts ts in
@@ -109,7 +112,8 @@ rate_holds l ts p w d i m lt =
           rw (front ts p i (omega arith), last ts p (i + l.per_minute) e, post_at ts i (omega arith)) (rw (rate_is l ts i m e) at d)
     ]
 
-pub exact : (l : Limits) (ts : List Times) (p : ℕ) → WithinLimits l ts None → (WithinLimits l ts (Some p) → earliest_of l ts ≤ p) × (earliest_of l ts ≤ p → WithinLimits l ts (Some p))
+pub exact : (l : Limits) (ts : List Times) (p : ℕ) → WithinLimits l ts None
+    → (WithinLimits l ts (Some p) → earliest_of l ts ≤ p) × (earliest_of l ts ≤ p → WithinLimits l ts (Some p))
 exact l ts p w = (
   λ k. let d = done_kept l ts p k in let r = rate_kept l ts p k in omega arith,
   λ e. record {

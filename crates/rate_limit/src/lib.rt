@@ -26,7 +26,7 @@ pub struct Times {
     pub done: u64,
 }
 
-// The end of the turnaround behind the last completion.
+// The end of the turnaround after the last completion.
 fn after_turnaround(limits: &Limits, times: &[Times]) -> u128
     ensures { result ≡ after_turnaround limits.now times.now }
 {
@@ -36,7 +36,7 @@ fn after_turnaround(limits: &Limits, times: &[Times]) -> u128
     u128::from(times[times.len() - 1].done) + u128::from(limits.turnaround)
 }
 
-// A minute behind the post that stands as many from the end as a minute may have.
+// A minute after the post that is as many from the end as a minute may have.
 fn after_minute(limits: &Limits, times: &[Times]) -> u128
     ensures { result ≡ after_minute limits.now times.now }
 {
@@ -54,7 +54,7 @@ pub fn earliest(limits: &Limits, times: &[Times]) -> u128
     after_turnaround(limits, times).max(after_minute(limits, times))
 }
 
-/// Where posts keep the limits, one more keeps them exactly where its reading is at least the earliest. It does nothing.
+/// If posts keep the limits, one more keeps them exactly when its reading is at least the earliest. It does nothing.
 pub fn earliest_is_exact()
     ensures { (limits : Limits) (times : List Times) (post : ℕ) → WithinLimits limits times None
         → (WithinLimits limits times (Some post) ↔ (earliest_of limits times ≤ post)) }
@@ -62,7 +62,8 @@ pub fn earliest_is_exact()
 
 /// A post that keeps the limits while it is pending keeps them when it is complete, whenever that is. It does nothing.
 pub fn completion_keeps_limits()
-    ensures { (limits : Limits) (times : List Times) (last : Times) → WithinLimits limits times (Some last.post) → WithinLimits limits (times ++ last ∷ []) None }
+    ensures { (limits : Limits) (times : List Times) (last : Times) → WithinLimits limits times (Some last.post)
+        → WithinLimits limits (times ++ last ∷ []) None }
 {}
 
 /// The definitions on worked cases. It does nothing.
@@ -74,13 +75,13 @@ pub fn worked_cases()
     ensures fewer_than_the_rate { earliest_of (record { turnaround = 0; per_minute = 2 }) (record { post = 0; done = 20 } ∷ []) ≡ 20 }
     ensures the_later { earliest_of (record { turnaround = 7; per_minute = 1 }) (record { post = 5; done = 70000000 } ∷ []) ≡ 70000007 }
 
-    // Of two posts a minute the third may come a minute after the first, and no sooner.
+    // Of two posts a minute the third may be a minute after the first, and no sooner.
     ensures rate_kept { WithinLimits (record { turnaround = 0; per_minute = 2 })
         (record { post = 0; done = 0 } ∷ record { post = 1000; done = 1000 } ∷ []) (Some 60000000) }
     ensures rate_broken { WithinLimits (record { turnaround = 0; per_minute = 2 })
         (record { post = 0; done = 0 } ∷ record { post = 1000; done = 1000 } ∷ []) (Some 59999999) → ⊥ }
 
-    // The next post may come at the end of the turnaround, and not a microsecond before.
+    // The next post may be at the end of the turnaround, and not a microsecond before.
     ensures turnaround_kept { WithinLimits (record { turnaround = 500; per_minute = 0 })
         (record { post = 1000; done = 1010 } ∷ record { post = 1510; done = 1520 } ∷ []) None }
     ensures turnaround_broken { WithinLimits (record { turnaround = 500; per_minute = 0 })

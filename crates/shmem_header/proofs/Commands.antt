@@ -32,7 +32,8 @@ unfolding header_word
 header_word-generic code notify status id = refl
 
 -- the header that the code makes
-pub header_made : (code : ℕ) (notify : Bool) (status id signature low high word : ℕ) → code < 2 ^ 8 → signature ≡ signature_of id → low ≡ code → high ≡ notify_part notify
+pub header_made : (code : ℕ) (notify : Bool) (status id signature low high word : ℕ) → code < 2 ^ 8 → signature ≡ signature_of id → low ≡ code
+    → high ≡ notify_part notify
     → word ≡ generic_word (record { signature = signature; command = bit_or low high; status = status }) → word ≡ header_word code notify status id
 header_made code notify status id signature low high word fits p q r made =
     let command : bit_or low high ≡ code + notify_part notify = ap (λ (n : ℕ). bit_or n high) q ∙ command_or code notify high fits r in
@@ -58,14 +59,16 @@ is_set-header_word_notify code false status id fits =
     let e : bit_at (generic_word (header_of code false status id)) 47 ≡ 0 = omega arith in
     ap (λ (n : ℕ). eqb n 1) e
 
-pub is_set-header_word_complete : (code : ℕ) (notify : Bool) (status id : ℕ) → IsCommand code status id → is_set (header_word code notify status id) 48 ≡ is_set status 0
+pub is_set-header_word_complete : (code : ℕ) (notify : Bool) (status id : ℕ) → IsCommand code status id
+    → is_set (header_word code notify status id) 48 ≡ is_set status 0
 unfolding header_word
 is_set-header_word_complete code notify status id fits =
     let h = IsGeneric-header_of code notify status id fits in
     let e : bit_at (generic_word (header_of code notify status id)) 48 ≡ bit_at status 0 = omega arith in
     ap (λ (n : ℕ). eqb n 1) e
 
-pub is_set-header_word_error : (code : ℕ) (notify : Bool) (status id : ℕ) → IsCommand code status id → is_set (header_word code notify status id) 50 ≡ is_set status 2
+pub is_set-header_word_error : (code : ℕ) (notify : Bool) (status id : ℕ) → IsCommand code status id
+    → is_set (header_word code notify status id) 50 ≡ is_set status 2
 unfolding header_word
 is_set-header_word_error code notify status id fits =
     let h = IsGeneric-header_of code notify status id fits in
@@ -102,12 +105,14 @@ command_in-reduced_word h fits = omega arith
 pub with_status-generic_word : (h : Generic) (status : ℕ) → IsGeneric h → with_status (generic_word h) status ≡ generic_word (record h { status = status })
 with_status-generic_word h status fits = omega arith
 
-pub with_status-header_word : (code : ℕ) (notify : Bool) (before status id : ℕ) → IsCommand code before id → with_status (header_word code notify before id) status ≡ header_word code notify status id
+pub with_status-header_word : (code : ℕ) (notify : Bool) (before status id : ℕ) → IsCommand code before id
+    → with_status (header_word code notify before id) status ≡ header_word code notify status id
 unfolding header_word
 with_status-header_word code notify before status id fits = with_status-generic_word (header_of code notify before id) status (IsGeneric-header_of code notify before id fits)
 
 -- the header that a word is, with another status
-pub with_status-generic_in : (word status : ℕ) → word < 2 ^ 64 → generic_word (record (generic_in (word_bytes word)) { status = status }) ≡ with_status word status
+pub with_status-generic_in : (word status : ℕ) → word < 2 ^ 64
+    → generic_word (record (generic_in (word_bytes word)) { status = status }) ≡ with_status word status
 with_status-generic_in word status fits =
     ap (λ (h : Generic). generic_word (record h { status = status })) (generic_in-word word fits)
     ∙ (let e : word % 2 ^ 32 + word / 2 ^ 32 % 2 ^ 16 * 2 ^ 32 + status * 2 ^ 48 ≡ word % 2 ^ 48 + status * 2 ^ 48 = omega arith in e)

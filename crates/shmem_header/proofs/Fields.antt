@@ -133,7 +133,8 @@ generic_spelled h word fits e = ap (λ (w : ℕ). generic_in (word_bytes w)) e �
 pub reduced_spelled : (h : Reduced) (word : ℕ) → IsReduced h → word ≡ reduced_word h → reduced_in (word_bytes word) ≡ h
 reduced_spelled h word fits e = ap (λ (w : ℕ). reduced_in (word_bytes w)) e ∙ reduced_in-reduced_word h fits
 
-pub extended_spelled : (h : Extended) (a b : ℕ) → IsExtended h → a ≡ h.signature + h.flags * 2 ^ 32 → b ≡ h.length + h.command * 2 ^ 32 → extended_in (bytes_of (a ∷ b ∷ [])) ≡ h
+pub extended_spelled : (h : Extended) (a b : ℕ) → IsExtended h → a ≡ h.signature + h.flags * 2 ^ 32 → b ≡ h.length + h.command * 2 ^ 32
+    → extended_in (bytes_of (a ∷ b ∷ [])) ≡ h
 extended_spelled h a b fits e f = (λ i. extended_in (bytes_of (e i ∷ f i ∷ []))) ∙ extended_in-extended_words h fits
 
 -- the numbers that are read from a word are those of its header
@@ -145,13 +146,8 @@ pub reduced_read : (word signature command : ℕ) → word < 2 ^ 64 → signatur
     → record { signature = signature; command = command } ≡ reduced_in (word_bytes word)
 reduced_read word signature command fits p q = (λ i. record { signature = p i; command = q i }) ∙ sym (reduced_in-word word fits)
 
-pub extended_read : (a b signature flags len command : ℕ) → a < 2 ^ 64 → b < 2 ^ 64 → signature ≡ a % 2 ^ 32 → flags ≡ a / 2 ^ 32 → len ≡ b % 2 ^ 32 → command ≡ b / 2 ^ 32
+pub extended_read : (a b signature flags len command : ℕ) → a < 2 ^ 64 → b < 2 ^ 64 → signature ≡ a % 2 ^ 32 → flags ≡ a / 2 ^ 32 → len ≡ b % 2 ^ 32
+    → command ≡ b / 2 ^ 32
     → record { signature = signature; flags = flags; length = len; command = command } ≡ extended_in (bytes_of (a ∷ b ∷ []))
 extended_read a b signature flags len command fits_a fits_b p q r s =
     (λ i. record { signature = p i; flags = q i; length = r i; command = s i }) ∙ sym (extended_in-words a b fits_a fits_b)
-
-pub two_words : (words : List ℕ) → length words ≡ 2 → words ≡ slice_index words 0 ∷ slice_index words 1 ∷ []
-two_words [] len = absurd (omega arith)
-two_words (a ∷ []) len = absurd (omega arith)
-two_words (a ∷ b ∷ []) len = refl
-two_words (a ∷ b ∷ c ∷ rest) len = absurd (omega arith)

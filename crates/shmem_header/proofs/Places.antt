@@ -9,8 +9,8 @@ use Rattle.byteorder.specs.Endian.{little_bytes, little_number}
 use borrow.Rule.Slice.PartMut.{put_mid}
 use Rattle.byteorder.specs.Numbers.{little_from-append, little_from-lt, little_from-take, little_number-reads_back}
 use Rattle.pcc_bytes.specs.Bytes.{IsBytes, number_at}
-use Rattle.pcc_bytes.proofs.Bytes.{IsBytes-drop}
-use Rattle.pcc_bytes.proofs.Numbers.{little_bytes-little_number}
+use Rattle.pcc_bytes.proofs.Bytes.{IsBytes-append, IsBytes-drop, IsBytes-nil}
+use Rattle.pcc_bytes.proofs.Numbers.{IsBytes-low_first, little_bytes-little_number}
 use Rattle.shmem_header.specs.Spelling.{IsWords, bytes_of, first_words, word_bytes, word_of, words_of}
 
 -- ---- one word
@@ -154,22 +154,10 @@ bytes_of-drop zero words = refl
 bytes_of-drop (suc n) [] = ap (λ (k : ℕ). drop k []) (sym (eight n))
 bytes_of-drop (suc n) (w ∷ words) = bytes_of-drop n words ∙ ap (λ (k : ℕ). drop k (bytes_of (w ∷ words))) (sym (eight n))
 
-byte_at-lt : (i n : ℕ) → byte_at i n < 256
-byte_at-lt zero n = omega arith
-byte_at-lt (suc i) n = mod-lt (n / 256 ^ suc i) (omega arith)
-
-cons_fits : (byte : ℕ) (bytes : List ℕ) → byte < 256 → IsBytes bytes → (place : ℕ) → slice_index (byte ∷ bytes) place < 256
-cons_fits byte bytes small all zero = small
-cons_fits byte bytes small all (suc place) = all.fits place
-
-IsBytes-low_first : (i n word : ℕ) (rest : List ℕ) → IsBytes rest → IsBytes (bytes_low_first i n word ++ rest)
-IsBytes-low_first i zero word rest all = all
-IsBytes-low_first i (suc n) word rest all = record { fits = cons_fits (byte_at i word) (bytes_low_first (suc i) n word ++ rest) (byte_at-lt i word) (IsBytes-low_first (suc i) n word rest all) }
-
 pub IsBytes-bytes_of : (words : List ℕ) → IsBytes (bytes_of words)
 unfolding word_bytes
-IsBytes-bytes_of [] = record { fits = λ place. omega arith }
-IsBytes-bytes_of (w ∷ words) = IsBytes-low_first 0 8 w (bytes_of words) (IsBytes-bytes_of words)
+IsBytes-bytes_of [] = IsBytes-nil
+IsBytes-bytes_of (w ∷ words) = IsBytes-append (bytes_low_first 0 8 w) (bytes_of words) (IsBytes-low_first 0 8 w) (IsBytes-bytes_of words)
 
 word_cons_fits : (word : ℕ) (words : List ℕ) → word < 2 ^ 64 → IsWords words → (place : ℕ) → slice_index (word ∷ words) place < 2 ^ 64
 word_cons_fits word words small all zero = small
@@ -252,7 +240,8 @@ pub length-word_put : (place word : ℕ) (bytes : List ℕ) → 8 * place + 8 �
 length-word_put place word bytes h =
     omega (arith, length-append (take (8 * place) bytes) (word_bytes word ++ drop (8 * place + 8) bytes), length-append (word_bytes word) (drop (8 * place + 8) bytes), length-word_bytes word, length-take-le (8 * place) bytes (omega arith), length-drop (8 * place + 8) bytes)
 
-pub words_of-word_put : (place word : ℕ) (bytes : List ℕ) → word < 2 ^ 64 → 8 * place + 8 ≤ length bytes → words_of (word_put bytes place word) ≡ set (words_of bytes) place word
+pub words_of-word_put : (place word : ℕ) (bytes : List ℕ) → word < 2 ^ 64 → 8 * place + 8 ≤ length bytes
+    → words_of (word_put bytes place word) ≡ set (words_of bytes) place word
 words_of-word_put place word bytes fits h =
     let n : ℕ = length bytes / 8 in
     ap (λ (len : ℕ). first_words (len / 8) (word_put bytes place word)) (length-word_put place word bytes h)
@@ -280,11 +269,13 @@ words_of-zeros n = ap words_of (sym (bytes_of-zeros n)) ∙ words_of-bytes_of (r
 
 -- ---- as the calls use these
 
-pub word_read : (bytes : List ℕ) (place word : ℕ) → word ≡ little_number 8 (take (length bytes - 8 * place) (drop (8 * place) bytes)) → word ≡ word_of (drop (8 * place) bytes)
+pub word_read : (bytes : List ℕ) (place word : ℕ) → word ≡ little_number 8 (take (length bytes - 8 * place) (drop (8 * place) bytes))
+    → word ≡ word_of (drop (8 * place) bytes)
 unfolding word_of
 word_read bytes place word e = e ∙ ap (little_number 8) (take_rest bytes (8 * place))
 
-pub words_read : (bytes words : List ℕ) → length bytes ≡ 8 * length words → ((k : ℕ) → k < length words → slice_index words k ≡ little_number 8 (drop (8 * k) bytes)) → words ≡ words_of bytes
+pub words_read : (bytes words : List ℕ) → length bytes ≡ 8 * length words
+    → ((k : ℕ) → k < length words → slice_index words k ≡ little_number 8 (drop (8 * k) bytes)) → words ≡ words_of bytes
 unfolding word_of
 words_read bytes words len each =
     ext_get_or 0 words (words_of bytes) (omega (arith, length-words_of bytes)) (λ k inside.

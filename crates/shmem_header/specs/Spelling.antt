@@ -11,7 +11,7 @@ word_of bytes = little_number 8 bytes
 unfoldable pub word_bytes : ℕ → List ℕ
 word_bytes word = little_bytes 8 word
 
--- so many words, one after the other
+-- n words, one after the other
 abbrev pub first_words : ℕ → List ℕ → List ℕ
 first_words zero bytes = []
 first_words (suc n) bytes = word_of bytes ∷ first_words n (drop 8 bytes)

@@ -70,7 +70,7 @@ pub fn is_set(word: u64, bit: u32) -> bool
     word >> bit & 1 == 1
 }
 
-/// What stands in the bits of a header's word. It does nothing.
+/// What is in the bits of a header's word. It does nothing.
 pub fn bit_laws()
     ensures code { (h : Generic) → IsGeneric h → code_in (generic_word h) ≡ h.command % 2 ^ 8 }
     ensures notify { (h : Generic) → IsGeneric h → is_set (generic_word h) NOTIFY_BIT ≡ is_set h.command 15 }
@@ -90,7 +90,7 @@ pub fn bit_laws()
     ensures reduced_command { (h : Reduced) → IsReduced h → command_in (reduced_word h) ≡ h.command }
 {}
 
-/// What stands in the bits of a command's header. It does nothing.
+/// What is in the bits of a command's header. It does nothing.
 pub fn command_laws()
     ensures fits { (code : ℕ) (notify : Bool) (status id : ℕ) → IsCommand code status id → header_word code notify status id < 2 ^ 64 }
     ensures code { (code : ℕ) (notify : Bool) (status id : ℕ) → IsCommand code status id → code_in (header_word code notify status id) ≡ code }

@@ -8,7 +8,7 @@ ghost use Rattle.shmem_header.specs.Spelling.{bytes_of, word_bytes};
 /// The header of the subspaces of types 0 to 2: eight bytes (ACPI 6.5, 14.2).
 #[derive(Clone, Copy, Debug, PartialEq, Eq)]
 pub struct Generic {
-    /// The mark of the subspace, as `signature_of` tells it.
+    /// The mark of the subspace, as `signature_of` gives it.
     pub signature: u32,
     /// Bits 0 to 7 the command's code, bit 15 whether the platform is to notify when it has completed (14.2.1).
     pub command: u16,
@@ -30,7 +30,7 @@ impl Generic {
 /// The header of the subspaces of types 3 and 4: sixteen bytes (ACPI 6.5, 14.3).
 #[derive(Clone, Copy, Debug, PartialEq, Eq)]
 pub struct Extended {
-    /// The mark of the subspace, as `signature_of` tells it.
+    /// The mark of the subspace, as `signature_of` gives it.
     pub signature: u32,
     /// Bit 0 whether to notify on completion.
     pub flags: u32,
@@ -48,7 +48,7 @@ impl Extended {
 /// The header of the subspaces of type 5: eight bytes (ACPI 6.5, 14.4).
 #[derive(Clone, Copy, Debug, PartialEq, Eq)]
 pub struct Reduced {
-    /// The mark of the subspace, as `signature_of` tells it.
+    /// The mark of the subspace, as `signature_of` gives it.
     pub signature: u32,
     /// The command's code.
     pub command: u32,

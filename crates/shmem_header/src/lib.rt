@@ -1,4 +1,4 @@
-//! Shared memory as words of eight bytes: the headers that stand in it, their bits, and the bytes of a communication
+//! Shared memory as words of eight bytes: the headers in it, their bits, and the bytes of a communication
 //! space (ACPI 6.5, 14.2 to 14.4). A word is the little-endian number of its eight bytes.
 #![tactic(auto)]
 
