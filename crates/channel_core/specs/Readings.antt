@@ -9,7 +9,7 @@ counted n = min (n + 1) (2 ^ 64 - 1)
 abbrev pub more_time : ℕ → ℕ → ℕ
 more_time n added = min (added + n) (2 ^ 128 - 1)
 
--- the count after so many readings
+-- the count after N readings
 abbrev pub count_of : ℕ → ℕ
 count_of n = min n (2 ^ 64 - 1)
 

@@ -26,7 +26,7 @@ pub record HasRoomFor (kind room code len capacity reply : ℕ) : Type 0 where
 abbrev pub sent_by : ℕ → ReadyCommand → Reading → List ℕ → Sent
 sent_by caller r post space = sent_at caller r.code r.bytes post space
 
--- it is refused and all stands, or its memory was taken, or that ran out and all stands
+-- it is refused and nothing changes, or its memory was taken, or that ran out and nothing changes
 abbrev pub ReadiedBy : Option CallRefusal → CommandHistory → ReadyCommand → CommandHistory → Result ReadyCommand CallRefusal → Type 0
 ReadiedBy (Some e) old r new result = IsErrOf result e × (new ≡ old)
 ReadiedBy None old r new result = MatchResult result (λ made. (made ≡ r) × (new ≡ reserved old)) (λ e. (e ≡ refusal.NoMemory) × (new ≡ old))

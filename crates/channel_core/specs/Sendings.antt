@@ -74,7 +74,7 @@ abbrev pub HasMemory : Option Flight → ℕ → Type 0
 HasMemory None spare = Unit {0}
 HasMemory (Some f) spare = (length f.reply.items ≡ length f.sent.command.input) × (0 < spare)
 
--- a command is in flight, whose space has so many bytes
+-- a command is in flight, whose space has this room
 abbrev pub FliesWith : Option Sent → ℕ → Type 0
 FliesWith None room = ⊥
 FliesWith (Some c) room = length c.command.input ≡ room

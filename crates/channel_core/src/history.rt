@@ -123,7 +123,7 @@ impl History {
         self.flight = Some(flight);
     }
 
-    /// The caller of the command in flight gives it up after so many looks. The looks of the first time are kept.
+    /// The caller of the command in flight gives it up after N looks. The looks of the first time are kept.
     pub fn mark_late(&mut self, looks: u32)
         ensures { self.new ≡ marked_late looks self.old }
     {

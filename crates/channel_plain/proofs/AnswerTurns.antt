@@ -155,7 +155,8 @@ module _ (exec : Device) (w : Wiring) where
   run_after (Some o) m e f = absurd (not_false (is_rest m.stage) e f)
 
   -- a step with the device's turn
-  settled_on : AnswerStepsByTable → ExecutesByTable → (b : Bool) (told : Option AnswerOutcome) (m : Answer) (d : List ℕ) (es : List Exchange) → is_run m.stage ≡ b → m.wiring ≡ w → is_rest m.stage ≡ ends_run told → HasLoaded m.stage m → (is_run m.stage ≡ false → AnswerOk m)
+  settled_on : AnswerStepsByTable → ExecutesByTable → (b : Bool) (told : Option AnswerOutcome) (m : Answer) (d : List ℕ) (es : List Exchange)
+      → is_run m.stage ≡ b → m.wiring ≡ w → is_rest m.stage ≡ ends_run told → HasLoaded m.stage m → (is_run m.stage ≡ false → AnswerOk m)
       → let y : Answerer = settle exec (record { m = m; device = d; done = [] }) in execute exec w (answer_after told m) d es ≡ record { device = y.device; executed = es ++ y.done; run = answer_after told y.m }
   settled_on law turn false told m d es e wired stops has ok =
       plain_after told m d es (λ n. takes_plain exec w (answer_left m) (answer_next m) (λ v. answer_after (answer_told m v) (answer_fed m v)) d es (law m (ok e) (λ q. not_false (is_rest m.stage) (ap is_rest q) (stops ∙ ap ends_run n), λ q. not_false (is_run m.stage) (ap is_run q) e)))
@@ -176,7 +177,8 @@ module _ (exec : Device) (w : Wiring) where
     a_resting : is_rest s.answer.stage ≡ true → Answers exec w start lines s.device (exchanges_of_commands s.executed) → AnswerTie start s lines
     a_running : (past ls : List TraceLine) (d : List ℕ) (es : List Exchange) → is_rest s.answer.stage ≡ false → Answers exec w start past d es → AnswerWalks exec w (answer_from exec w d es) ls (record { device = s.device; executed = exchanges_of_commands s.executed; run = answer_left s.answer }) → lines ≡ past ++ ls → AnswerTie start s lines
 
-  walk_more : (a b : Answered) (ls : List TraceLine) (l : TraceLine) → AnswerWalks exec w a ls b → next_of b.run ≡ Some l.action → l.end ≡ end.Open → AnswerWalks exec w a (ls ++ l ∷ []) (answer_on exec w b l.value)
+  walk_more : (a b : Answered) (ls : List TraceLine) (l : TraceLine) → AnswerWalks exec w a ls b → next_of b.run ≡ Some l.action → l.end ≡ end.Open
+      → AnswerWalks exec w a (ls ++ l ∷ []) (answer_on exec w b l.value)
   walk_more a b [] l h n e = (ap (λ (x : Answered). next_of x.run) h ∙ n, e, ap (λ (x : Answered). answer_on exec w x l.value) h)
   walk_more a b (m ∷ ms) l h n e = (h.0, h.1, walk_more (answer_on exec w a m.value) b ms l h.2 n e)
 
@@ -201,9 +203,15 @@ module _ (exec : Device) (w : Wiring) where
   end_of Served = serves
 
   -- a step of a run that is under way
-  step_on : AnswerStepsByTable → ExecutesByTable → (told : Option AnswerOutcome) (start : List ℕ) (s : PlainState) (side : Side) (b : Answer) (v : ℕ) (past ls : List TraceLine) (d : List ℕ) (es : List Exchange) → told ≡ answer_told b v → b ≡ stepping exec s → AnswerOk b → is_rest b.stage ≡ false → is_run b.stage ≡ false → b.wiring ≡ w → (answer_fed b v).wiring ≡ w
-      → (is_run (answer_fed b v).stage ≡ false → AnswerOk (answer_fed b v)) → (y : Answerer) → y ≡ settle exec (record { m = answer_fed b v; device = s.device; done = [] }) → (ws : List ℕ) → Answers exec w start past d es → AnswerWalks exec w (answer_from exec w d es) ls (record { device = s.device; executed = exchanges_of_commands s.executed; run = answer_left b })
-      → (is_rest y.m.stage ≡ is_rest (answer_fed b v).stage) → AnswerTie start (record s { words = ws; answer = y.m; device = y.device; executed = s.executed ++ map command_by y.done }) (past ++ (ls ++ record { side = side; action = answer_next b; value = v; end = answer_end told } ∷ []))
+  step_on : AnswerStepsByTable → ExecutesByTable
+      → (told : Option AnswerOutcome) (start : List ℕ) (s : PlainState) (side : Side) (b : Answer) (v : ℕ) (past ls : List TraceLine) (d : List ℕ) (es : List Exchange)
+      → told ≡ answer_told b v → b ≡ stepping exec s → AnswerOk b → is_rest b.stage ≡ false → is_run b.stage ≡ false → b.wiring ≡ w
+      → (answer_fed b v).wiring ≡ w
+      → (is_run (answer_fed b v).stage ≡ false → AnswerOk (answer_fed b v)) → (y : Answerer)
+      → y ≡ settle exec (record { m = answer_fed b v; device = s.device; done = [] }) → (ws : List ℕ) → Answers exec w start past d es
+      → AnswerWalks exec w (answer_from exec w d es) ls (record { device = s.device; executed = exchanges_of_commands s.executed; run = answer_left b })
+      → (is_rest y.m.stage ≡ is_rest (answer_fed b v).stage)
+      → AnswerTie start (record s { words = ws; answer = y.m; device = y.device; executed = s.executed ++ map command_by y.done }) (past ++ (ls ++ record { side = side; action = answer_next b; value = v; end = answer_end told } ∷ []))
   step_on law turn told start s side b v past ls d es et eb ok rests runs wired wired' ok' y ey ws before walks same =
       let m : Answer = answer_fed b v in let E : List Exchange = exchanges_of_commands s.executed in let pre : Answered = record { device = s.device; executed = E; run = answer_left b } in
       let next : ℕ → Run AnswerEnd = λ v. answer_after (answer_told b v) (answer_fed b v) in
@@ -246,7 +254,9 @@ module _ (exec : Device) (w : Wiring) where
   settle_rest CloseLine y e = ap is_rest e
 
   -- a pick of the answering side
-  pub answer_tie : AnswersByTable → AnswerStepsByTable → ExecutesByTable → (is_state : List ℕ → Type 0) (room_of : List ℕ → ℕ) (start : List ℕ) (s : PlainState) (side : Side) (lines : List TraceLine) → Stands exec is_state room_of s → Stands exec is_state room_of (answer_picked exec s).state → s.ask.wiring ≡ w → AnswerTie start s lines
+  pub answer_tie : AnswersByTable → AnswerStepsByTable → ExecutesByTable
+      → (is_state : List ℕ → Type 0) (room_of : List ℕ → ℕ) (start : List ℕ) (s : PlainState) (side : Side) (lines : List TraceLine)
+      → Stands exec is_state room_of s → Stands exec is_state room_of (answer_picked exec s).state → s.ask.wiring ≡ w → AnswerTie start s lines
       → AnswerTie start (answer_picked exec s).state (lines ++ line_of side (answer_picked exec s) ∷ [])
   answer_tie table law turn is_state room_of start s side lines k k' wired tie =
       let b : Answer = stepping exec s in let v : ℕ = found (answer_next b) s.words in let m : Answer = answer_fed b v in let y : Answerer = after_step exec v s in

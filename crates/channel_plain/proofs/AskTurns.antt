@@ -153,7 +153,8 @@ in_flight_is false None code input h = refl
 in_flight_is false (Some p) code input h = absurd (cc h)
 
 module _ (w : Wiring) (limits : Limits) (calls : List Asked) where
-  step_tie : AsksByTable → (s : PlainState) (side : Side) (r : ℕ) → AskOk s.ask → is_rest s.ask.stage ≡ false → s.ask.wiring ≡ w → (from x : Calls) (past ls : List TraceLine) (taken : List ℕ) → Turns w limits calls from past x → Running w limits calls s x ls taken
+  step_tie : AsksByTable → (s : PlainState) (side : Side) (r : ℕ) → AskOk s.ask → is_rest s.ask.stage ≡ false → s.ask.wiring ≡ w
+      → (from x : Calls) (past ls : List TraceLine) (taken : List ℕ) → Turns w limits calls from past x → Running w limits calls s x ls taken
       → AskTie w limits calls from (ask_stepped r s).state (past ++ (ls ++ line_of side (ask_stepped r s) ∷ [])) ((x.readings ++ taken) ++ reading_of (ask_stepped r s).reads r)
   step_tie law s side r ok runs wired from x past ls taken before run =
       let a : Ask = s.ask in let st : AskStage = a.stage in let t : Action = ask_next a in let v : ℕ = found t s.words in let z : Ask = ask_fed_at st a v in let b : Ask = ask_fed a v in let told : Option AskOutcome = ask_told a v in
@@ -163,8 +164,11 @@ module _ (w : Wiring) (limits : Limits) (calls : List Asked) where
       run_turn w limits calls told st s b (act t s.words) side t v r f (blocks_stepped told a z b.steps (blocks_kept st a v)) (left_fed st a v runs ok.looks) (f.wiring ∙ wired) (takes_next (ask_left a) t next tk) (takes_rest (ask_left a) t next v tk) from x past ls taken before run
 
   -- a call is served, and no run is under way
-  soon_tie : PostsByTable → AsksByTable → (o : Option TraceEnd) (s : PlainState) (side : Side) (r : ℕ) (c : Asked) (from x : Calls) (lines : List TraceLine) → soon_end r s.calls ≡ o → s.ask.stage ≡ AskRest → s.ask.in_flight ≡ false → s.calls.sent ≡ None → s.ask.wiring ≡ w → s.calls.limits ≡ limits → s.ask.budget ≡ c.polls
-      → s.calls.readings ≡ count_of (length x.readings) → replied w s.ask.shown ≡ s.ask.space → AskOk (post_or_soon o c r s).state.ask → Turns w limits calls from lines x → Serves w limits calls x c (calls_at s s.calls.sent x.readings)
+  soon_tie : PostsByTable → AsksByTable → (o : Option TraceEnd) (s : PlainState) (side : Side) (r : ℕ) (c : Asked) (from x : Calls) (lines : List TraceLine)
+      → soon_end r s.calls ≡ o → s.ask.stage ≡ AskRest → s.ask.in_flight ≡ false → s.calls.sent ≡ None → s.ask.wiring ≡ w → s.calls.limits ≡ limits
+      → s.ask.budget ≡ c.polls
+      → s.calls.readings ≡ count_of (length x.readings) → replied w s.ask.shown ≡ s.ask.space → AskOk (post_or_soon o c r s).state.ask
+      → Turns w limits calls from lines x → Serves w limits calls x c (calls_at s s.calls.sent x.readings)
       → AskTie w limits calls from (post_or_soon o c r s).state (lines ++ line_of side (post_or_soon o c r s) ∷ []) (x.readings ++ reading_of (post_or_soon o c r s).reads r)
   soon_tie posts law (Some e) s side r c from x lines test rest free empty wired lim polls num spelled ok before sv =
       let y : Calls = calls_at s s.calls.sent x.readings in let n : ℕ = earliest_of s.calls.limits (times_of s.calls.records) in let l : TraceLine = record { side = side; action = Rest; value = 0; end = e } in
@@ -183,8 +187,12 @@ module _ (w : Wiring) (limits : Limits) (calls : List Asked) where
       subst (λ (rs : List ℕ). AskTie w limits calls from (ask_stepped r t).state (lines ++ line_of side (ask_stepped r t) ∷ []) rs) (append-nil (x.readings ++ r ∷ []))
       (step_tie law t side r good refl wired from x lines [] (r ∷ []) before run)
 
-  served_tie : PostsByTable → LooksByTable → AsksByTable → (f : Bool) (s : PlainState) (side : Side) (r : ℕ) (c : Asked) (from x : Calls) (lines : List TraceLine) → s.ask.in_flight ≡ f → s.ask.stage ≡ AskRest → AskOk s.ask → IsCarried s.ask.in_flight s.calls.sent s.ask.code s.ask.input → (f ≡ true → s.ask.looks < s.ask.budget)
-      → s.ask.wiring ≡ w → s.calls.limits ≡ limits → s.ask.budget ≡ c.polls → s.calls.readings ≡ count_of (length x.readings) → replied w s.ask.shown ≡ s.ask.space → AskOk (served f c r s).state.ask → Turns w limits calls from lines x → Serves w limits calls x c (calls_at s s.calls.sent x.readings)
+  served_tie : PostsByTable → LooksByTable → AsksByTable
+      → (f : Bool) (s : PlainState) (side : Side) (r : ℕ) (c : Asked) (from x : Calls) (lines : List TraceLine) → s.ask.in_flight ≡ f → s.ask.stage ≡ AskRest
+      → AskOk s.ask → IsCarried s.ask.in_flight s.calls.sent s.ask.code s.ask.input → (f ≡ true → s.ask.looks < s.ask.budget)
+      → s.ask.wiring ≡ w → s.calls.limits ≡ limits → s.ask.budget ≡ c.polls → s.calls.readings ≡ count_of (length x.readings)
+      → replied w s.ask.shown ≡ s.ask.space → AskOk (served f c r s).state.ask → Turns w limits calls from lines x
+      → Serves w limits calls x c (calls_at s s.calls.sent x.readings)
       → AskTie w limits calls from (served f c r s).state (lines ++ line_of side (served f c r s) ∷ []) (x.readings ++ reading_of (served f c r s).reads r)
   served_tie posts looks law true s side r c from x lines flies rest ok has left wired lim polls num spelled ok' before sv =
       let t : PlainState = record s { ask = ask_looking s.ask } in let p = carried_some s.calls.sent s.ask.code s.ask.input (subst (λ (f : Bool). IsCarried f s.calls.sent s.ask.code s.ask.input) flies has) in
@@ -194,8 +202,13 @@ module _ (w : Wiring) (limits : Limits) (calls : List Asked) where
   served_tie posts looks law false s side r c from x lines free rest ok has left wired lim polls num spelled ok' before sv =
       soon_tie posts law (soon_end r s.calls) s side r c from x lines refl rest free (subst (λ (f : Bool). IsCarried f s.calls.sent s.ask.code s.ask.input) free has) wired lim polls num spelled ok' before sv
 
-  begins_tie : PostsByTable → LooksByTable → AsksByTable → (o : Option TraceEnd) (s : PlainState) (side : Side) (r : ℕ) (c : Asked) (from : Calls) (lines : List TraceLine) (rs : List ℕ) → refusal_of s.ask.wiring c (length s.calls.records) (flying s.ask.in_flight) ≡ o → s.ask.stage ≡ AskRest → AskOk s.ask → AskOk (ask_budgeted s.ask c.polls) → IsCarried s.ask.in_flight s.calls.sent s.ask.code s.ask.input
-      → 0 < c.polls → s.ask.wiring ≡ w → s.calls.limits ≡ limits → s.calls.readings ≡ count_of (length rs) → replied w s.ask.shown ≡ s.ask.space → s.calls.begun ≡ false → slice_get calls s.calls.ended ≡ Some c → AskOk (begins o c r s).state.ask → Turns w limits calls from lines (calls_at s s.calls.sent rs)
+  begins_tie : PostsByTable → LooksByTable → AsksByTable
+      → (o : Option TraceEnd) (s : PlainState) (side : Side) (r : ℕ) (c : Asked) (from : Calls) (lines : List TraceLine) (rs : List ℕ)
+      → refusal_of s.ask.wiring c (length s.calls.records) (flying s.ask.in_flight) ≡ o → s.ask.stage ≡ AskRest → AskOk s.ask
+      → AskOk (ask_budgeted s.ask c.polls) → IsCarried s.ask.in_flight s.calls.sent s.ask.code s.ask.input
+      → 0 < c.polls → s.ask.wiring ≡ w → s.calls.limits ≡ limits → s.calls.readings ≡ count_of (length rs) → replied w s.ask.shown ≡ s.ask.space
+      → s.calls.begun ≡ false → slice_get calls s.calls.ended ≡ Some c → AskOk (begins o c r s).state.ask
+      → Turns w limits calls from lines (calls_at s s.calls.sent rs)
       → AskTie w limits calls from (begins o c r s).state (lines ++ line_of side (begins o c r s) ∷ []) (rs ++ reading_of (begins o c r s).reads r)
   begins_tie posts looks law (Some e) s side r c from lines rs q rest ok ok1 has least wired lim num spelled idle at ok' before =
       let x : Calls = calls_at s s.calls.sent rs in let l : TraceLine = record { side = side; action = Rest; value = 0; end = e } in
@@ -207,13 +220,18 @@ module _ (w : Wiring) (limits : Limits) (calls : List Asked) where
       let no : refusal_at w c x ≡ None = ap (λ (z : Wiring × ℕ). refusal_of z.0 c (length s.calls.records) z.1) (λ i. (sym wired i, in_flight_is s.ask.in_flight s.calls.sent s.ask.code s.ask.input has i)) ∙ q in
       served_tie posts looks law s.ask.in_flight t side r c from x lines refl rest ok1 has (λ e. least) wired lim refl num spelled ok' before (begins_now x c idle at no)
 
-  idle_tie : (s : PlainState) (side : Side) (from : Calls) (lines : List TraceLine) (rs : List ℕ) → slice_get calls s.calls.ended ≡ None → s.ask.stage ≡ AskRest → Turns w limits calls from lines (calls_at s s.calls.sent rs)
+  idle_tie : (s : PlainState) (side : Side) (from : Calls) (lines : List TraceLine) (rs : List ℕ) → slice_get calls s.calls.ended ≡ None
+      → s.ask.stage ≡ AskRest → Turns w limits calls from lines (calls_at s s.calls.sent rs)
       → AskTie w limits calls from s (lines ++ record { side = side; action = Rest; value = 0; end = end.Open } ∷ []) (rs ++ [])
   idle_tie s side from lines rs at rest before = let x : Calls = calls_at s s.calls.sent rs in let l : TraceLine = record { side = side; action = Rest; value = 0; end = end.Open } in
       turned w limits calls from x x s lines (l ∷ []) (lines ++ l ∷ []) (rs ++ []) (ap is_rest rest) before (idles x l at (refl, refl)) (λ i. record x { readings = sym (append-nil rs) i }) refl
 
-  rest_tie : PostsByTable → LooksByTable → AsksByTable → (b : Bool) (o : Option Asked) (s : PlainState) (side : Side) (r : ℕ) (from : Calls) (lines : List TraceLine) (rs : List ℕ) → s.calls.begun ≡ b → slice_get calls s.calls.ended ≡ o → s.ask.stage ≡ AskRest → AskOk s.ask → IsCarried s.ask.in_flight s.calls.sent s.ask.code s.ask.input
-      → (s.calls.begun ≡ true → LooksBegun s.ask.in_flight s.ask.looks s.ask.budget) → IsServing calls s → HavePolls calls → s.ask.wiring ≡ w → s.calls.limits ≡ limits → s.calls.readings ≡ count_of (length rs) → replied w s.ask.shown ≡ s.ask.space → AskOk (from_rest b o r s).state.ask → Turns w limits calls from lines (calls_at s s.calls.sent rs)
+  rest_tie : PostsByTable → LooksByTable → AsksByTable
+      → (b : Bool) (o : Option Asked) (s : PlainState) (side : Side) (r : ℕ) (from : Calls) (lines : List TraceLine) (rs : List ℕ) → s.calls.begun ≡ b
+      → slice_get calls s.calls.ended ≡ o → s.ask.stage ≡ AskRest → AskOk s.ask → IsCarried s.ask.in_flight s.calls.sent s.ask.code s.ask.input
+      → (s.calls.begun ≡ true → LooksBegun s.ask.in_flight s.ask.looks s.ask.budget) → IsServing calls s → HavePolls calls → s.ask.wiring ≡ w
+      → s.calls.limits ≡ limits → s.calls.readings ≡ count_of (length rs) → replied w s.ask.shown ≡ s.ask.space → AskOk (from_rest b o r s).state.ask
+      → Turns w limits calls from lines (calls_at s s.calls.sent rs)
       → AskTie w limits calls from (from_rest b o r s).state (lines ++ line_of side (from_rest b o r s) ∷ []) (rs ++ reading_of (from_rest b o r s).reads r)
   rest_tie posts looks law true None s side r from lines rs eb at rest ok has left serving polls wired lim num spelled ok' before = idle_tie s side from lines rs at rest before
   rest_tie posts looks law false None s side r from lines rs eb at rest ok has left serving polls wired lim num spelled ok' before = idle_tie s side from lines rs at rest before
@@ -225,8 +243,11 @@ module _ (w : Wiring) (limits : Limits) (calls : List Asked) where
 
   -- ---- a pick
 
-  tie_by : PostsByTable → LooksByTable → AsksByTable → (b : Bool) (s : PlainState) (side : Side) (r : ℕ) (from : Calls) (lines : List TraceLine) (rs : List ℕ) → is_rest s.ask.stage ≡ b → AskOk s.ask → IsCarried (carried s.ask) s.calls.sent s.ask.code s.ask.input
-      → (s.calls.begun ≡ true → LooksBegun (both (is_rest s.ask.stage) s.ask.in_flight) s.ask.looks s.ask.budget) → IsServing calls s → HavePolls calls → s.ask.wiring ≡ w → s.calls.limits ≡ limits → s.calls.readings ≡ count_of (length rs) → replied w s.ask.shown ≡ s.ask.space → AskOk (ask_picked_at s.ask.stage calls r s).state.ask → AskTie w limits calls from s lines rs
+  tie_by : PostsByTable → LooksByTable → AsksByTable → (b : Bool) (s : PlainState) (side : Side) (r : ℕ) (from : Calls) (lines : List TraceLine) (rs : List ℕ)
+      → is_rest s.ask.stage ≡ b → AskOk s.ask → IsCarried (carried s.ask) s.calls.sent s.ask.code s.ask.input
+      → (s.calls.begun ≡ true → LooksBegun (both (is_rest s.ask.stage) s.ask.in_flight) s.ask.looks s.ask.budget) → IsServing calls s → HavePolls calls
+      → s.ask.wiring ≡ w → s.calls.limits ≡ limits → s.calls.readings ≡ count_of (length rs) → replied w s.ask.shown ≡ s.ask.space
+      → AskOk (ask_picked_at s.ask.stage calls r s).state.ask → AskTie w limits calls from s lines rs
       → AskTie w limits calls from (ask_picked_at s.ask.stage calls r s).state (lines ++ line_of side (ask_picked_at s.ask.stage calls r s) ∷ []) (rs ++ reading_of (ask_picked_at s.ask.stage calls r s).reads r)
   tie_by posts looks law true s side r from lines rs e ok has left serving polls wired lim num spelled ok' (running past ls l x taken n before run el er) = absurd (not_false (is_rest s.ask.stage) e n)
   tie_by posts looks law true s side r from lines rs e ok has left serving polls wired lim num spelled ok' (resting n before) = let rest : s.ask.stage ≡ AskRest = rest_is s.ask.stage e in
@@ -242,6 +263,9 @@ module _ (w : Wiring) (limits : Limits) (calls : List Asked) where
       (λ i. (sym (ap (λ (x : List TraceLine). x ++ line_of side p ∷ []) el ∙ append_assoc past (ls ++ l ∷ []) (line_of side p ∷ [])) i, sym (ap (λ (x : List ℕ). x ++ reading_of p.reads r) er) i))
       (step_tie law s side r ok n wired from x past (ls ++ l ∷ []) taken before run))
 
-  pub pick_tie : PostsByTable → LooksByTable → AsksByTable → (exec : Device) (is_state : List ℕ → Type 0) (room_of : List ℕ → ℕ) (s : PlainState) (side : Side) (r : ℕ) (from : Calls) (lines : List TraceLine) (rs : List ℕ) → Stands exec is_state room_of s → Stands exec is_state room_of (ask_picked_at s.ask.stage calls r s).state → IsServing calls s → HavePolls calls
-      → s.ask.wiring ≡ w → s.calls.limits ≡ limits → s.calls.readings ≡ count_of (length rs) → AskTie w limits calls from s lines rs → AskTie w limits calls from (ask_picked_at s.ask.stage calls r s).state (lines ++ line_of side (ask_picked_at s.ask.stage calls r s) ∷ []) (rs ++ reading_of (ask_picked_at s.ask.stage calls r s).reads r)
+  pub pick_tie : PostsByTable → LooksByTable → AsksByTable
+      → (exec : Device) (is_state : List ℕ → Type 0) (room_of : List ℕ → ℕ) (s : PlainState) (side : Side) (r : ℕ) (from : Calls) (lines : List TraceLine) (rs : List ℕ)
+      → Stands exec is_state room_of s → Stands exec is_state room_of (ask_picked_at s.ask.stage calls r s).state → IsServing calls s → HavePolls calls
+      → s.ask.wiring ≡ w → s.calls.limits ≡ limits → s.calls.readings ≡ count_of (length rs) → AskTie w limits calls from s lines rs
+      → AskTie w limits calls from (ask_picked_at s.ask.stage calls r s).state (lines ++ line_of side (ask_picked_at s.ask.stage calls r s) ∷ []) (rs ++ reading_of (ask_picked_at s.ask.stage calls r s).reads r)
   pick_tie posts looks law exec is_state room_of s side r from lines rs k k' serving polls wired lim num t = tie_by posts looks law (is_rest s.ask.stage) s side r from lines rs refl k.agree.1.2.ask_ok k.carries k.looks serving polls wired lim num (subst (λ (z : Wiring). replied z s.ask.shown ≡ s.ask.space) wired (shown_space s.ask k.agree.1.2.ask_ok k.agree.1.2.shown)) k'.agree.1.2.ask_ok t

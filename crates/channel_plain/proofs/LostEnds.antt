@@ -63,7 +63,8 @@ module _ (w : Wiring) (limits : Limits) (calls : List Asked) where
   says s t ms ls l e (gives_up _ s' c p ns m sv es lt run is) act opened = let q = last_same ns ls m l e in given_up_says (is_late p) c.polls (sym is ∙ (ap (λ (l : TraceLine). l.end) q ∙ opened))
   says s t ms ls l e (takes _ s' c p r error block ns m sv es run is) act opened = let q = last_same ns ls m l e in drained_says (is_late p) error (sym is ∙ (ap (λ (l : TraceLine). l.end) q ∙ opened))
 
-pub asks_say : (w : Wiring) (limits : Limits) (calls : List Asked) (s t : Calls) (ls : List TraceLine) (l : TraceLine) → Turn w limits calls s (ls ++ l ∷ []) t → l.action ≢ Rest → l.end ≢ end.Open
+pub asks_say : (w : Wiring) (limits : Limits) (calls : List Asked) (s t : Calls) (ls : List TraceLine) (l : TraceLine)
+    → Turn w limits calls s (ls ++ l ∷ []) t → l.action ≢ Rest → l.end ≢ end.Open
 asks_say w limits calls s t ls l h = says w limits calls s t (ls ++ l ∷ []) ls l refl h
 
 -- ---- whole runs
@@ -72,16 +73,19 @@ ends_there : (run rest : Run AskEnd) (ls : List TraceLine) (l : TraceLine) (e : 
 ends_there run rest [] l e h w = sym h.ends ∙ (ap (λ (r : Run AskEnd). rest_of r l.value) (sym h.walks) ∙ w.2)
 ends_there run rest (m ∷ ms) l e h w = ends_there (rest_of run m.value) rest ms l e (record { rest = h.rest; walks = h.walks.2; last = h.last; ends = h.ends }) w.2
 
-pub not_cut : (run rest : Run AskEnd) (ls : List TraceLine) (l : TraceLine) (e : AskEnd) → IsRun run ls l e → Walks run (ls ++ l ∷ []) rest → IsUnfinished rest → ⊥
+pub not_cut : (run rest : Run AskEnd) (ls : List TraceLine) (l : TraceLine) (e : AskEnd) → IsRun run ls l e → Walks run (ls ++ l ∷ []) rest
+    → IsUnfinished rest → ⊥
 not_cut run rest ls l e h w u = none_left e rest (ends_there run rest ls l e h w) u
 
 module _ (exec : Device) (w : Wiring) where
-  answer_there : (a b c : Answered) (ls : List TraceLine) (l : TraceLine) → AnswerWalks exec w a ls b → AnswerWalks exec w a (ls ++ l ∷ []) c → answer_on exec w b l.value ≡ c
+  answer_there : (a b c : Answered) (ls : List TraceLine) (l : TraceLine) → AnswerWalks exec w a ls b → AnswerWalks exec w a (ls ++ l ∷ []) c
+      → answer_on exec w b l.value ≡ c
   answer_there a b c [] l h g = ap (λ (x : Answered). answer_on exec w x l.value) (sym h) ∙ g.2
   answer_there a b c (m ∷ ms) l h g = answer_there (answer_on exec w a m.value) b c ms l h.2 g.2
 
 pub answer_not_cut : (exec : Device) (w : Wiring) (a b c : Answered) (ls : List TraceLine) (l : TraceLine) (e : AnswerEnd)
-    → AnswerWalks exec w a ls b → next_of b.run ≡ Some l.action → (answer_on exec w b l.value).run ≡ ends e → AnswerWalks exec w a (ls ++ l ∷ []) c → IsUnfinished c.run → ⊥
+    → AnswerWalks exec w a ls b → next_of b.run ≡ Some l.action → (answer_on exec w b l.value).run ≡ ends e → AnswerWalks exec w a (ls ++ l ∷ []) c
+    → IsUnfinished c.run → ⊥
 answer_not_cut exec w a b c ls l e h n q g u = none_left_a e c.run (sym q ∙ ap (λ (x : Answered). x.run) (answer_there exec w a b c ls l h g)) u
 
 -- ---- lines without an end
@@ -237,7 +241,8 @@ module _ (w : Wiring) (limits : Limits) (calls : List Asked) where
 
   module _ (opening : List ℕ) (lines : List TraceLine) (readings : List ℕ) (records : List Record) (sent : Option Sent) where
     -- the run that is cut is what is left after the last end
-    cut_tail : IsAsking w limits calls opening lines readings records sent → (x : Calls) × (rs : List ℕ) × Cut w limits calls x (open_tail lines) rs × (all_mid lines ≡ true → x ≡ from_opening w limits calls opening)
+    cut_tail : IsAsking w limits calls opening lines readings records sent
+        → (x : Calls) × (rs : List ℕ) × Cut w limits calls x (open_tail lines) rs × (all_mid lines ≡ true → x ≡ from_opening w limits calls opening)
     cut_tail a = (
       a.after,
       a.taken,
@@ -298,7 +303,8 @@ posted_walk : (rest : Run AskEnd) → Walks (posts_call w0 (swap_call 0 (1 ∷ 2
 unfolding word_bytes word_of
 posted_walk rest h = h.2.2.2.2.2
 
-posted_off : (x : Calls) (ls : List TraceLine) (rs : List ℕ) → Cut w0 free_limits one_call x ls rs → ls ≡ five → x ≡ from_opening w0 free_limits one_call no_bytes → ⊥
+posted_off : (x : Calls) (ls : List TraceLine) (rs : List ℕ) → Cut w0 free_limits one_call x ls rs → ls ≡ five
+    → x ≡ from_opening w0 free_limits one_call no_bytes → ⊥
 posted_off x ls rs (whole _) e q = cc
 posted_off x ls rs (sending _ s' c r l ms rest sv free le walks left) e q = let h = served_sent w0 free_limits one_call x s' c sv in
     let at : c ≡ swap_call 0 (1 ∷ 2 ∷ []) 3 = sym (some_same (swap_call 0 (1 ∷ 2 ∷ []) 3) c (ap (λ (x : Calls). slice_get one_call x.ended) (sym q) ∙ h.2)) in
@@ -308,7 +314,8 @@ posted_off x ls rs (looking _ s' c p l ms rest sv es walks left) e q = let h = s
     let n : Some p ≡ None = sym es ∙ (h.0 ∙ ap (λ (x : Calls). x.sent) q) in absurd (cc n)
 
 -- the steps of a look
-look_off : (x : Calls) (ls : List TraceLine) (rs : List ℕ) (m : TraceLine) (ns : List TraceLine) (e : AskEnd) → m.action ≡ Load 0 → ((rest : Run AskEnd) → Walks (look_run w0) (m ∷ ns) rest → ends e ≡ rest) → Cut w0 free_limits one_call x ls rs → ls ≡ m ∷ ns → ⊥
+look_off : (x : Calls) (ls : List TraceLine) (rs : List ℕ) (m : TraceLine) (ns : List TraceLine) (e : AskEnd) → m.action ≡ Load 0
+    → ((rest : Run AskEnd) → Walks (look_run w0) (m ∷ ns) rest → ends e ≡ rest) → Cut w0 free_limits one_call x ls rs → ls ≡ m ∷ ns → ⊥
 look_off x ls rs m ns k act done (whole _) e = cc
 look_off x ls rs m ns k act done (sending _ s' c r l ms rest sv free le walks left) e = let h : Walks (posts_call w0 c s'.block) (m ∷ ns) rest = subst (λ (z : List TraceLine). Walks (posts_call w0 c s'.block) z rest) e walks in
     stores_first c.code (words_of (over (replied w0 s'.block) c.bytes)) (h.0 ∙ ap Some act)

@@ -45,10 +45,12 @@ pub begun_same : (b : Bool) (k : CallsState) → (b ≡ false → k.begun ≡ tr
 begun_same true k h = refl
 begun_same false k h = ap (λ (x : Bool). record k { begun = x }) (h refl)
 
-by_test : (o : Option TraceEnd) (begins : Bool) (polls : ℕ) (c : Asked) (r : ℕ) (s : PlainState) → soon_end r s.calls ≡ o → served false c r (begun_with begins polls s) ≡ post_or_soon o c r (begun_with begins polls s)
+by_test : (o : Option TraceEnd) (begins : Bool) (polls : ℕ) (c : Asked) (r : ℕ) (s : PlainState) → soon_end r s.calls ≡ o
+    → served false c r (begun_with begins polls s) ≡ post_or_soon o c r (begun_with begins polls s)
 by_test o begins polls c r s e = ap (λ (x : Option TraceEnd). post_or_soon x c r (begun_with begins polls s)) (soon_same begins r s.calls ∙ e)
 
-pub soon_reads : (begins : Bool) (polls : ℕ) (c : Asked) (r : ℕ) (s : PlainState) (e : TraceEnd) → soon_end r s.calls ≡ Some e → (served false c r (begun_with begins polls s)).reads ≡ true
+pub soon_reads : (begins : Bool) (polls : ℕ) (c : Asked) (r : ℕ) (s : PlainState) (e : TraceEnd) → soon_end r s.calls ≡ Some e
+    → (served false c r (begun_with begins polls s)).reads ≡ true
 soon_reads begins polls c r s x e = ap (λ (p : Picked). p.reads) (by_test (Some x) begins polls c r s e)
 
 pub soon_pick : (begins : Bool) (polls : ℕ) (c : Asked) (r : ℕ) (s s' : PlainState) (k : CallsState) (e : TraceEnd) (pick : Pick) → Soon (soon_end r s.calls) s.calls k e → s' ≡ record s { ask = budget_by begins polls s.ask; calls = k } → pick ≡ record { action = Rest; value = 0; end = e }
@@ -59,7 +61,8 @@ soon_pick begins polls c r s s' k e pick soon is q =
       q,
     )
 
-pub post_reads : (begins : Bool) (polls : ℕ) (c : Asked) (r : ℕ) (s : PlainState) → soon_end r s.calls ≡ None → (served false c r (begun_with begins polls s)).reads ≡ true
+pub post_reads : (begins : Bool) (polls : ℕ) (c : Asked) (r : ℕ) (s : PlainState) → soon_end r s.calls ≡ None
+    → (served false c r (begun_with begins polls s)).reads ≡ true
 post_reads begins polls c r s e = ap (λ (p : Picked). p.reads) (by_test None begins polls c r s e)
 
 -- the first step of a post takes no reading
@@ -69,8 +72,10 @@ no_reading s r a code bytes e = subst (λ (x : Ask). (ask_stepped r (record s { 
 other_reading : (s : PlainState) (r q : ℕ) (a : Ask) (code : ℕ) (bytes : List ℕ) → s.ask ≡ ask_begun a code bytes → ask_stepped r s ≡ ask_stepped q s
 other_reading s r q a code bytes e = subst (λ (x : Ask). ask_stepped r (record s { ask = x }) ≡ ask_stepped q (record s { ask = x })) (sym e) refl
 
-pub post_pick : (begins : Bool) (polls : ℕ) (c : Asked) (r q : ℕ) (s t s' : PlainState) (k : CallsState) (a : Ask) (pick : Pick) → soon_end r s.calls ≡ None → k ≡ call_posted c s.ask.space r (call_begun s.calls) → a ≡ ask_begun (budget_by begins polls s.ask) c.code c.bytes
-    → t ≡ record s { ask = a; calls = k } → (begins ≡ false → s.calls.begun ≡ true) → IsPick (ask_stepped q t) s' pick → IsPick (served false c r (begun_with begins polls s)) s' pick
+pub post_pick : (begins : Bool) (polls : ℕ) (c : Asked) (r q : ℕ) (s t s' : PlainState) (k : CallsState) (a : Ask) (pick : Pick) → soon_end r s.calls ≡ None
+    → k ≡ call_posted c s.ask.space r (call_begun s.calls) → a ≡ ask_begun (budget_by begins polls s.ask) c.code c.bytes
+    → t ≡ record s { ask = a; calls = k } → (begins ≡ false → s.calls.begun ≡ true) → IsPick (ask_stepped q t) s' pick
+    → IsPick (served false c r (begun_with begins polls s)) s' pick
 post_pick begins polls c r q s t s' k a pick test ek ea et h p =
     let u : PlainState = posting c r (begun_with begins polls s) in
     let same : t ≡ u = et ∙ ap (λ (z : Ask × CallsState). record s { ask = z.0; calls = z.1 }) (λ i. (ea i, (ek ∙ ap (λ (z : List ℕ × CallsState). call_posted c z.0 r z.1) (λ j. (sym (space_same begins polls s.ask) j, sym (begun_same begins s.calls h) j))) i)) in

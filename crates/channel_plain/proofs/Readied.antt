@@ -38,11 +38,13 @@ none_made (Some f) old new r e h = h.1
 -- ---- a post that is too soon, and one that isn't
 
 soon_by : (b : Bool) (l : Limits) (ts : List Times) (at : ℕ) (e : TraceEnd) → nat_lt at (earliest_of l ts) ≡ b
-    → refused_end (if b then Some (refusal.TooSoon at (earliest_of l ts)) else None) ≡ Some e → (at < earliest_of l ts) × (end.TooSoon at (earliest_of l ts) ≡ e)
+    → refused_end (if b then Some (refusal.TooSoon at (earliest_of l ts)) else None) ≡ Some e
+    → (at < earliest_of l ts) × (end.TooSoon at (earliest_of l ts) ≡ e)
 soon_by true l ts at e q h = (grind (arith, nat_tests), cc)
 soon_by false l ts at e q h = absurd (cc h)
 
-pub soon_is : (l : Limits) (ts : List Times) (at : ℕ) (e : TraceEnd) → refused_end (soon_of l ts at) ≡ Some e → (at < earliest_of l ts) × (end.TooSoon at (earliest_of l ts) ≡ e)
+pub soon_is : (l : Limits) (ts : List Times) (at : ℕ) (e : TraceEnd) → refused_end (soon_of l ts at) ≡ Some e
+    → (at < earliest_of l ts) × (end.TooSoon at (earliest_of l ts) ≡ e)
 soon_is l ts at e h = soon_by (nat_lt at (earliest_of l ts)) l ts at e refl h
 
 late_by : (b : Bool) (l : Limits) (ts : List Times) (at : ℕ) → nat_lt at (earliest_of l ts) ≡ b
@@ -74,7 +76,8 @@ pub done_is : (l : Limits) (h : CommandHistory) (readings ended : ℕ) (begun er
     → calls_of l (marked_done error output done.at done.number h) readings ended begun ≡ drained error output done (calls_of l h readings ended begun)
 done_is l h readings ended begun error output done = done_by l h.records h.notes h.sent h.spare readings ended begun error output done
 
-within_by : (l : Limits) (rs : List Record) (ns : List Note) (o : Option Sent) (spare : ℕ) (error : Bool) (output : List ℕ) (at number : ℕ) → WithinLimits l (times_of rs) (post_of o)
+within_by : (l : Limits) (rs : List Record) (ns : List Note) (o : Option Sent) (spare : ℕ) (error : Bool) (output : List ℕ) (at number : ℕ)
+    → WithinLimits l (times_of rs) (post_of o)
     → let h : CommandHistory = marked_done error output at number (record { records = rs; notes = ns; sent = o; spare = spare }) in WithinLimits l (times_of h.records) (post_of h.sent)
 within_by l rs ns None spare error output at number w = w
 within_by l rs ns (Some c) spare error output at number w =

@@ -20,7 +20,9 @@ use Rattle.pcc_steps.specs.Carrying.{carried_at, is_rest}
 use Rattle.channel_plain.specs.Standing.{Holds, IsCarried}
 
 module _ (exec : Device) (is_state : List ℕ → Type 0) (room_of : List ℕ → ℕ) where
-  pub new_holds : StartsAgreed → (w : Wiring) (l : Limits) (d d' opening ws : List ℕ) (a : Ask) (b : Answer) (k : CallsState) (reg : Executions) → IsNewAsk a w opening → AskOk a → IsNewAnswer b w → AnswerOk b → IsBytes opening → opening ≡ opening_of w → ws ≡ opening_words w (words_of opening) → is_state d → room_of d ≡ w.room → d' ≡ d
+  pub new_holds : StartsAgreed → (w : Wiring) (l : Limits) (d d' opening ws : List ℕ) (a : Ask) (b : Answer) (k : CallsState) (reg : Executions)
+      → IsNewAsk a w opening → AskOk a → IsNewAnswer b w → AnswerOk b → IsBytes opening → opening ≡ opening_of w → ws ≡ opening_words w (words_of opening)
+      → is_state d → room_of d ≡ w.room → d' ≡ d
       → k ≡ no_calls l → reg ≡ record { commands = []; ready = false; room = w.room }
       → Holds exec is_state room_of (record { words = ws; ask = a; answer = b; device = d; start = d'; calls = k; executed = reg.commands }) reg.ready reg.room
   new_holds law w l d d' opening ws a b k reg new ok new' ok' bytes eo ew is room ed ek er =

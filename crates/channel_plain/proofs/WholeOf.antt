@@ -16,7 +16,8 @@ use Rattle.channel_core.specs.Sendings.{first_looks, is_late, record_of}
 use Rattle.channel_plain.specs.WordRuns.{Calls, Serves, goes_on, begins, Turn, Turns, none, more, idles, refuses, delays, sends, looks_on, gives_up, takes, end_call, take_reading, from_opening, goes_on_if, replied, IsAsking}
 use Rattle.channel_plain.specs.Wholes.{Caller, no_call, one_more, IsWhole, bytes_asked, caller_of_call, caller_of_record}
 
-whole_more : (space : List ℕ) (xs : List Exchange) (bs : List (List ℕ)) (x : Exchange) (b : List ℕ) → WholeHistory space xs bs → x.input ≡ over (space_after space xs) b → WholeHistory space (xs ++ x ∷ []) (bs ++ b ∷ [])
+whole_more : (space : List ℕ) (xs : List Exchange) (bs : List (List ℕ)) (x : Exchange) (b : List ℕ) → WholeHistory space xs bs
+    → x.input ≡ over (space_after space xs) b → WholeHistory space (xs ++ x ∷ []) (bs ++ b ∷ [])
 whole_more space [] [] x b h e = (e, tt)
 whole_more space [] (c ∷ cs) x b h e = absurd h
 whole_more space (y ∷ ys) [] x b h e = absurd h
@@ -107,7 +108,8 @@ module _ (w : Wiring) (limits : Limits) (calls : List Asked) (opening : List ℕ
   turns_told x y ls none t = t
   turns_told x y ls' (more ls ms s u before turn) t = turn_told s u ms turn (turns_told x s ls before t)
 
-  pub whole_of : (lines : List TraceLine) (readings : List ℕ) (records : List Record) (sent : Option Sent) → IsAsking w limits calls opening lines readings records sent → IsWhole opening calls records
+  pub whole_of : (lines : List TraceLine) (readings : List ℕ) (records : List Record) (sent : Option Sent)
+      → IsAsking w limits calls opening lines readings records sent → IsWhole opening calls records
   whole_of lines readings records sent a = subst (IsWhole opening calls) (sym a.kept)
       (turns_told (from_opening w limits calls opening) a.after a.past a.runs
       (record { whole = record { place = 0; served = []; chosen = no_call 0; callers = refl; whole = tt }; space = refl; flown = omega arith })).whole

@@ -82,7 +82,8 @@ answer_beside exec w start s ws a k lines (a_running past ls d es n before walks
 
 -- ---- the end of the picks
 
-serves_sent : (w : Wiring) (limits : Limits) (calls : List Asked) (x y : Calls) (c : Asked) → Serves w limits calls x c y → (x.sent ≡ y.sent) × (x.records ≡ y.records)
+serves_sent : (w : Wiring) (limits : Limits) (calls : List Asked) (x y : Calls) (c : Asked) → Serves w limits calls x c y
+    → (x.sent ≡ y.sent) × (x.records ≡ y.records)
 serves_sent w limits calls x y c (goes_on _ _ b at) = (refl, refl)
 serves_sent w limits calls x y c (begins _ _ b at free) = (refl, refl)
 
@@ -106,7 +107,9 @@ answer_unfinished law a ok turn runs = (
 )
 
 module _ (w : Wiring) (limits : Limits) (calls : List Asked) where
-  asking_of : (opening : List ℕ) (s : PlainState) (lines : List TraceLine) (rs : List ℕ) → IsCarried (carried s.ask) s.calls.sent s.ask.code s.ask.input → (is_rest s.ask.stage ≡ false → IsUnfinished (ask_left s.ask)) → AskTie w limits calls (from_opening w limits calls opening) s lines rs → IsAsking w limits calls opening lines rs s.calls.records (flown s.ask.in_flight s.calls.sent)
+  asking_of : (opening : List ℕ) (s : PlainState) (lines : List TraceLine) (rs : List ℕ) → IsCarried (carried s.ask) s.calls.sent s.ask.code s.ask.input
+      → (is_rest s.ask.stage ≡ false → IsUnfinished (ask_left s.ask)) → AskTie w limits calls (from_opening w limits calls opening) s lines rs
+      → IsAsking w limits calls opening lines rs s.calls.records (flown s.ask.in_flight s.calls.sent)
   asking_of opening s lines rs has left (resting e before) = let rest = rest_is s.ask.stage e in record {
     past = lines;
     last = [];
@@ -144,7 +147,9 @@ module _ (w : Wiring) (limits : Limits) (calls : List Asked) where
     flies = ap (λ (f : Bool). flown f s.calls.sent) flies ∙ sym q.0;
   }
 
-answering_of : (exec : Device) (w : Wiring) (start : List ℕ) (s : PlainState) (lines : List TraceLine) → (is_rest_a s.answer.stage ≡ false → IsUnfinished (answer_left s.answer)) → AnswerTie exec w start s lines → IsAnswering exec w start lines (exchanges_of_commands s.executed)
+answering_of : (exec : Device) (w : Wiring) (start : List ℕ) (s : PlainState) (lines : List TraceLine)
+    → (is_rest_a s.answer.stage ≡ false → IsUnfinished (answer_left s.answer)) → AnswerTie exec w start s lines
+    → IsAnswering exec w start lines (exchanges_of_commands s.executed)
 answering_of exec w start s lines left (a_resting e before) = record { past = lines; last = []; device = s.device; before = exchanges_of_commands s.executed; now = answer_from exec w s.device (exchanges_of_commands s.executed); runs = before; cut = refl; unfinished = (Swap 2 0, refl); all = sym (append-nil lines); ran = refl }
 answering_of exec w start s lines left (a_running past ls d es n before walks el) = record { past = past; last = ls; device = d; before = es; now = record { device = s.device; executed = exchanges_of_commands s.executed; run = answer_left s.answer }; runs = before; cut = walks; unfinished = left n; all = el; ran = refl }
 
@@ -159,7 +164,8 @@ module _ {K : Type 0} (taken : K → ℕ) (tells : K → ℕ → Option ℕ) (ex
       one_more n l m e q = omega (arith, e, q)
   number_on false n r rs e = e ∙ ap (λ (l : List ℕ). count_of (length l)) (sym (append-nil rs))
 
-  readings_on : (b : Bool) (k m m' : K) (rs : List ℕ) (r : ℕ) → Takes taken tells m m' b r → Readings taken tells k rs m → Readings taken tells k (rs ++ reading_of b r) m'
+  readings_on : (b : Bool) (k m m' : K) (rs : List ℕ) (r : ℕ) → Takes taken tells m m' b r → Readings taken tells k rs m
+      → Readings taken tells k (rs ++ reading_of b r) m'
   readings_on true k m m' rs r t h = reads rs m m' r h t
   readings_on false k m m' rs r t h = subst (λ (z : List ℕ × K). Readings taken tells k z.0 z.1) (λ i. (sym (append-nil rs) i, sym t i)) h
 
@@ -176,8 +182,11 @@ module _ {K : Type 0} (taken : K → ℕ) (tells : K → ℕ → Option ℕ) (ex
     pub answer : AnswerTie exec s.ask.wiring s.start t (filter (answered_line s.ask.wiring.kind) trace)
 
   -- the lines of both sides, with a pick more
-  both_more : PostsByTable → LooksByTable → AsksByTable → AnswersByTable → AnswerStepsByTable → ExecutesByTable → HavePolls calls → (b : Bool) (w : Wiring) (limits : Limits) (start : List ℕ) (from : Calls) (side : Side) (r : ℕ) (t : PlainState) (asked answered : List TraceLine) (rs : List ℕ) → t.ask.wiring ≡ w → t.calls.limits ≡ limits → t.calls.readings ≡ count_of (length rs)
-      → Stands exec is_state room_of t → Stands exec is_state room_of (picked_by exec b calls r t).state → IsServing calls t → AskTie w limits calls from t asked rs → AnswerTie exec w start t answered
+  both_more : PostsByTable → LooksByTable → AsksByTable → AnswersByTable → AnswerStepsByTable → ExecutesByTable → HavePolls calls
+      → (b : Bool) (w : Wiring) (limits : Limits) (start : List ℕ) (from : Calls) (side : Side) (r : ℕ) (t : PlainState) (asked answered : List TraceLine) (rs : List ℕ)
+      → t.ask.wiring ≡ w → t.calls.limits ≡ limits → t.calls.readings ≡ count_of (length rs)
+      → Stands exec is_state room_of t → Stands exec is_state room_of (picked_by exec b calls r t).state → IsServing calls t
+      → AskTie w limits calls from t asked rs → AnswerTie exec w start t answered
       → AskTie w limits calls from (picked_by exec b calls r t).state (asked ++ kept_by b (line_of side (picked_by exec b calls r t))) (rs ++ reading_of (picked_by exec b calls r t).reads r)
       × AnswerTie exec w start (picked_by exec b calls r t).state (answered ++ kept_by (not b) (line_of side (picked_by exec b calls r t)))
   both_more posts looks asks table law turn polls true w limits start from side r t asked answered rs wired lim num k k' serving ask answer = let p : Picked = ask_picked_at t.ask.stage calls r t in let h = asks_kept exec is_state room_of calls t r k in (
@@ -189,7 +198,9 @@ module _ {K : Type 0} (taken : K → ℕ) (tells : K → ℕ → Option ℕ) (ex
     answer_tie exec w table law turn is_state room_of start t side answered k k' wired answer,
   )
 
-  tied : PostsByTable → LooksByTable → AsksByTable → AnswersByTable → AnswerStepsByTable → ExecutesByTable → HavePolls calls → (s : PlainState) (k : K) (sides : List Side) (trace : List TraceLine) (rs : List ℕ) (t : PlainState) (m : K) → IsFresh s → Wove taken tells exec calls is_state room_of s k sides trace rs t m → Tied s k sides trace rs t m
+  tied : PostsByTable → LooksByTable → AsksByTable → AnswersByTable → AnswerStepsByTable → ExecutesByTable → HavePolls calls
+      → (s : PlainState) (k : K) (sides : List Side) (trace : List TraceLine) (rs : List ℕ) (t : PlainState) (m : K) → IsFresh s
+      → Wove taken tells exec calls is_state room_of s k sides trace rs t m → Tied s k sides trace rs t m
   tied posts looks asks table law turn polls s k sides trace rs t m new unpicked = record {
     readings = unread;
     sides_are = refl;
@@ -221,7 +232,9 @@ module _ {K : Type 0} (taken : K → ℕ) (tells : K → ℕ → Option ℕ) (ex
         answer = subst (λ (z : List TraceLine). AnswerTie exec w s.start p.state z) (sym (filter_more (answered_line w.kind) ls l (not b) (ap not same))) two.1;
       }
 
-  pub word_run : PostsByTable → LooksByTable → AsksByTable → AnswersByTable → AnswerStepsByTable → ExecutesByTable → HavePolls calls → (s : PlainState) (k : K) (sides : List Side) (trace : List TraceLine) (rs : List ℕ) (t : PlainState) (m : K) → IsFresh s → Wove taken tells exec calls is_state room_of s k sides trace rs t m → Stands exec is_state room_of t
+  pub word_run : PostsByTable → LooksByTable → AsksByTable → AnswersByTable → AnswerStepsByTable → ExecutesByTable → HavePolls calls
+      → (s : PlainState) (k : K) (sides : List Side) (trace : List TraceLine) (rs : List ℕ) (t : PlainState) (m : K) → IsFresh s
+      → Wove taken tells exec calls is_state room_of s k sides trace rs t m → Stands exec is_state room_of t
       → Readings taken tells k rs m × WordRun exec s.ask.wiring s.calls.limits s.start (opening_of s.ask.wiring) calls sides trace rs t.calls.records (flown t.ask.in_flight t.calls.sent) (exchanges_of_commands t.executed)
   word_run posts looks asks table law turn polls s k sides trace rs t m new wove k' = let h = tied posts looks asks table law turn polls s k sides trace rs t m new wove in let w : Wiring = s.ask.wiring in (
     h.readings,

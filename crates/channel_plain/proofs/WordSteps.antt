@@ -42,7 +42,8 @@ takes_rest (stores p u r) x next v h = sym (h.1 v)
 takes_rest (swaps p u f) x next v h = sym (h.1 v)
 takes_rest (executes c s f) x next v h = absurd h
 
-pub walks_more : {E : Type 0} (run rest : Run E) (ls : List TraceLine) (l : TraceLine) → Walks run ls rest → next_of rest ≡ Some l.action → l.end ≡ end.Open → Walks run (ls ++ l ∷ []) (rest_of rest l.value)
+pub walks_more : {E : Type 0} (run rest : Run E) (ls : List TraceLine) (l : TraceLine) → Walks run ls rest → next_of rest ≡ Some l.action → l.end ≡ end.Open
+    → Walks run (ls ++ l ∷ []) (rest_of rest l.value)
 walks_more run rest [] l w n e = (ap next_of w ∙ n, e, ap (λ (r : _). rest_of r l.value) w)
 walks_more run rest (m ∷ ms) l w n e = (w.0, w.1, walks_more (rest_of run m.value) rest ms l w.2 n e)
 
@@ -65,22 +66,31 @@ calls_at s sent rs = record { ended = s.calls.ended; begun = s.calls.begun; look
 module _ (w : Wiring) (limits : Limits) (calls : List Asked) where
   -- a run under way, for a call that is served since the calls stood so; it took these readings
   pub data Running (s : PlainState) (x : Calls) (ls : List TraceLine) : List ℕ → Type 0 where
-    posts_run : (c : Asked) (r : ℕ) → s.ask.in_flight ≡ false → Serves w limits calls x c (calls_at s None x.readings) → s.calls.sent ≡ Some (sent_by c s.ask.space (reading_at x.readings r)) → s.ask.sent ≡ block_after w c s.ask.shown → earliest_at w limits calls (calls_at s None x.readings) ≤ r
+    posts_run : (c : Asked) (r : ℕ) → s.ask.in_flight ≡ false → Serves w limits calls x c (calls_at s None x.readings)
+        → s.calls.sent ≡ Some (sent_by c s.ask.space (reading_at x.readings r)) → s.ask.sent ≡ block_after w c s.ask.shown
+        → earliest_at w limits calls (calls_at s None x.readings) ≤ r
         → Walks (posts_call w c s.ask.shown) ls (ask_left s.ask) → s.ask.budget ≡ c.polls → Running s x ls (r ∷ [])
-    looks_run : (c : Asked) (p : Sent) → s.ask.in_flight ≡ true → Serves w limits calls x c (calls_at s s.calls.sent x.readings) → s.calls.sent ≡ Some p → Walks (look_run w) ls (ask_left s.ask) → s.ask.budget ≡ c.polls → Running s x ls []
+    looks_run : (c : Asked) (p : Sent) → s.ask.in_flight ≡ true → Serves w limits calls x c (calls_at s s.calls.sent x.readings) → s.calls.sent ≡ Some p
+        → Walks (look_run w) ls (ask_left s.ask) → s.ask.budget ≡ c.polls → Running s x ls []
 
   -- what the lines of the asking side have to do with the channel
   pub data AskTie (from : Calls) (s : PlainState) (lines : List TraceLine) (rs : List ℕ) : Type 0 where
     resting : is_rest s.ask.stage ≡ true → Turns w limits calls from lines (calls_at s s.calls.sent rs) → AskTie from s lines rs
-    running : (past ls : List TraceLine) (l : TraceLine) (x : Calls) (taken : List ℕ) → is_rest s.ask.stage ≡ false → Turns w limits calls from past x → Running s x (ls ++ l ∷ []) taken → lines ≡ past ++ (ls ++ l ∷ []) → rs ≡ x.readings ++ taken → AskTie from s lines rs
+    running : (past ls : List TraceLine) (l : TraceLine) (x : Calls) (taken : List ℕ) → is_rest s.ask.stage ≡ false → Turns w limits calls from past x
+        → Running s x (ls ++ l ∷ []) taken → lines ≡ past ++ (ls ++ l ∷ []) → rs ≡ x.readings ++ taken → AskTie from s lines rs
 
   -- the end of a run is a turn
-  pub turned : (from x y : Calls) (s : PlainState) (past ms lines : List TraceLine) (rs : List ℕ) → is_rest s.ask.stage ≡ true → Turns w limits calls from past x → Turn w limits calls x ms y → y ≡ calls_at s s.calls.sent rs → lines ≡ past ++ ms → AskTie from s lines rs
+  pub turned : (from x y : Calls) (s : PlainState) (past ms lines : List TraceLine) (rs : List ℕ) → is_rest s.ask.stage ≡ true
+      → Turns w limits calls from past x → Turn w limits calls x ms y → y ≡ calls_at s s.calls.sent rs → lines ≡ past ++ ms → AskTie from s lines rs
   turned from x y s past ms lines rs rest before t e q = resting rest (subst (λ (z : List TraceLine × Calls). Turns w limits calls from z.0 z.1) (λ i. (sym q i, e i)) (more past ms x y before t))
 
   -- the step of a run that posts
-  post_turn : (told : Option AskOutcome) (st : AskStage) (s : PlainState) (b : Ask) (ws : List ℕ) (side : Side) (action : Action) (v r : ℕ) → Fed st s.ask b told → BlocksAfter told s.ask b → next_of (ask_left s.ask) ≡ Some action → rest_of (ask_left s.ask) v ≡ ask_after told b
-      → (from x : Calls) (past ls : List TraceLine) (c : Asked) (q : ℕ) → Turns w limits calls from past x → s.ask.in_flight ≡ false → Serves w limits calls x c (calls_at s None x.readings) → s.calls.sent ≡ Some (sent_by c s.ask.space (reading_at x.readings q)) → s.ask.sent ≡ block_after w c s.ask.shown → earliest_at w limits calls (calls_at s None x.readings) ≤ q → Walks (posts_call w c s.ask.shown) ls (ask_left s.ask) → s.ask.budget ≡ c.polls
+  post_turn : (told : Option AskOutcome) (st : AskStage) (s : PlainState) (b : Ask) (ws : List ℕ) (side : Side) (action : Action) (v r : ℕ)
+      → Fed st s.ask b told → BlocksAfter told s.ask b → next_of (ask_left s.ask) ≡ Some action → rest_of (ask_left s.ask) v ≡ ask_after told b
+      → (from x : Calls) (past ls : List TraceLine) (c : Asked) (q : ℕ) → Turns w limits calls from past x → s.ask.in_flight ≡ false
+      → Serves w limits calls x c (calls_at s None x.readings) → s.calls.sent ≡ Some (sent_by c s.ask.space (reading_at x.readings q))
+      → s.ask.sent ≡ block_after w c s.ask.shown → earliest_at w limits calls (calls_at s None x.readings) ≤ q
+      → Walks (posts_call w c s.ask.shown) ls (ask_left s.ask) → s.ask.budget ≡ c.polls
       → AskTie from (record s { words = ws; ask = b; calls = (ask_ended told r b s.calls).calls }) (past ++ (ls ++ record { side = side; action = action; value = v; end = (ask_ended told r b s.calls).end } ∷ [])) ((x.readings ++ q ∷ []) ++ reading_of (takes_reading told) r)
   post_turn None st s b ws side action v r f k next rest from x past ls c q before free sv sent blk le walks polls =
       let l : TraceLine = record { side = side; action = action; value = v; end = end.Open } in let t : PlainState = record s { words = ws; ask = b } in
@@ -147,7 +157,9 @@ module _ (w : Wiring) (limits : Limits) (calls : List Asked) where
   look_turn (Some (Drained e)) st s b ws side action v r p k ek f bs left wired next rest from x past ls c before flies sv walks polls = drain_turn st s b ws side action v r e p k ek f wired next rest from x past ls c before sv walks
 
   -- a step of a run that is under way
-  pub run_turn : (told : Option AskOutcome) (st : AskStage) (s : PlainState) (b : Ask) (ws : List ℕ) (side : Side) (action : Action) (v r : ℕ) → Fed st s.ask b told → BlocksAfter told s.ask b → b.looks ≤ b.budget → b.wiring ≡ w → next_of (ask_left s.ask) ≡ Some action → rest_of (ask_left s.ask) v ≡ ask_after told b
+  pub run_turn : (told : Option AskOutcome) (st : AskStage) (s : PlainState) (b : Ask) (ws : List ℕ) (side : Side) (action : Action) (v r : ℕ)
+      → Fed st s.ask b told → BlocksAfter told s.ask b → b.looks ≤ b.budget → b.wiring ≡ w → next_of (ask_left s.ask) ≡ Some action
+      → rest_of (ask_left s.ask) v ≡ ask_after told b
       → (from x : Calls) (past ls : List TraceLine) (taken : List ℕ) → Turns w limits calls from past x → Running s x ls taken
       → AskTie from (record s { words = ws; ask = b; calls = (ask_ended told r b s.calls).calls }) (past ++ (ls ++ record { side = side; action = action; value = v; end = (ask_ended told r b s.calls).end } ∷ [])) ((x.readings ++ taken) ++ reading_of (takes_reading told) r)
   run_turn told st s b ws side action v r f bs left wired next rest from x past ls taken before (posts_run c q free sv sent blk le walks polls) = post_turn told st s b ws side action v r f bs next rest from x past ls c q before free sv sent blk le walks polls

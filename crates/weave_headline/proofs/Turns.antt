@@ -367,8 +367,8 @@ module _ (exec : Device) (w : Wiring) (limits : Limits) (start opening : List �
 
   -- whether it was given up before
   abbrev DrainsIf : Bool → Calls → TraceLog → ℕ → Bool → List ℕ → List ℕ → TraceLine → Sent → Type 0
-  DrainsIf late s g r error block output l p =
-      Holds (goes_on_if late (record (take_reading s r) { sent = None; block = block; space = output; records = s.records ++ record_for p.command error output r late ∷ [] })) (log_end w calls (drained_end late error) l g)
+  DrainsIf lost s g r error block output l p =
+      Holds (goes_on_if lost (record (take_reading s r) { sent = None; block = block; space = output; records = s.records ++ record_for p.command error output r lost ∷ [] })) (log_end w calls (drained_end lost error) l g)
 
   abbrev Drains : Calls → TraceLog → ℕ → Bool → List ℕ → List ℕ → TraceLine → Sent → Type 0
   Drains s g r error block output l p = DrainsIf (is_late p) s g r error block output l p
@@ -411,7 +411,7 @@ module _ (exec : Device) (w : Wiring) (limits : Limits) (start opening : List �
   late_holds : (s : Calls) (g : TraceLog) (p : Sent) (n : Note) (d : ℕ) (error : Bool) (block output : List ℕ) (l : TraceLine) → Holds s g → s.begun ≡ true
       → s.sent ≡ Some p → is_late p ≡ true → g.flight ≡ Some n → g.unended ≡ false
       → At s.space s.readings s.records g.notes (Some (noted_sent p n)) g.calls → Drains s g d error block output l p
-  late_holds s g p n d error block output l h b a late f u q =
+  late_holds s g p n d error block output l h b a lost f u q =
       let x : Record = record_for p.command error output d true in
       let noted : List Note = g.notes ++ record n { done_at = g.taken } ∷ [] in
       let mid : TraceLog = record g { taken = g.taken + 1; notes = noted; flight = None; run = [] } in
@@ -421,7 +421,7 @@ module _ (exec : Device) (w : Wiring) (limits : Limits) (start opening : List �
       let point : At output (s.readings ++ d ∷ []) (s.records ++ x ∷ []) (g.notes ++ record n { done_at = length s.readings } ∷ []) None g.calls =
       drained exec w limits start opening s.space s.readings s.records g.notes g.calls (noted_sent p n) error output d q in
       let more : length (s.records ++ x ∷ []) ≡ length s.records + 1 = length-append s.records (x ∷ []) in
-      subst (λ (z : Bool). DrainsIf z s g d error block output l p) (sym late) (subst (Holds end_state) (sym logged) (record {
+      subst (λ (z : Bool). DrainsIf z s g d error block output l p) (sym lost) (subst (Holds end_state) (sym logged) (record {
         ended = h.ended;
         taken = ap (λ (m : ℕ). m + 1) h.taken ∙ sym (length-append s.readings (d ∷ []));
         replies = h.replies;
