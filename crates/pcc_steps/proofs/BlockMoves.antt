@@ -1,13 +1,12 @@
 -- Words of the block that are moved at once are moved by single word steps.
-use Rattle.std.specs.Prelude.{Some, None, ltb}
-use Rattle.std.proofs.Common.{◌≡◌, ◌≢◌, ◌⊎◌, inl, inr, ℕ, zero, suc, ◌+◌, ◌-◌, ◌^◌, ◌<◌, ◌≤◌, Bool, true, false, List, length, get_or, set, refl, sym, ap, ◌∙◌, subst, arith, length-set}
+use Rattle.std.proofs.Common.{◌≡◌, ◌≢◌, ◌⊎◌, inl, inr, ℕ, zero, suc, ◌+◌, ◌-◌, ◌^◌, ◌<◌, ◌≤◌, Bool, true, List, length, get_or, set, refl, sym, ap, ◌∙◌, subst, arith, length-set}
 use Rattle.std.proofs.lemmas.Bool.{lt-ltb, cases_lt}
 use Rattle.pcc_steps.specs.declared.wiring.Wiring.{Wiring}
 use Rattle.pcc_steps.specs.declared.ask.AskStage.{AskStage}
-use Rattle.pcc_steps.specs.declared.ask.AskStage.TheVariants.{AskRest, PostBlock, LookBlock}
+use Rattle.pcc_steps.specs.declared.ask.AskStage.TheVariants.{PostBlock, LookBlock}
 use Rattle.pcc_steps.specs.declared.answer.AnswerStage.{AnswerStage}
-use Rattle.pcc_steps.specs.declared.answer.AnswerStage.TheVariants.{AnswerRest, RunDevice, TakeBlock, ReplyBlock}
-use Rattle.pcc_steps.specs.Wires.{style_of, heads_of, block_of}
+use Rattle.pcc_steps.specs.declared.answer.AnswerStage.TheVariants.{RunDevice, TakeBlock, ReplyBlock}
+use Rattle.pcc_steps.specs.Wires.{block_of}
 use Rattle.pcc_steps.specs.Asking.{Ask, AskOk, has_more, rose, ask_stepped, store_on, read_on, read_told}
 use Rattle.pcc_steps.specs.Answering.{Answer, AnswerOk, answer_stepped, load_on, reply_on}
 use Rattle.pcc_steps.specs.Moves.{AskMoves, AnswerMoves, before_last, with_stored, with_loaded, risen}
