@@ -1,13 +1,12 @@
 -- Words of the block that are moved at once are moved by single word steps.
-use Rattle.std.specs.Prelude.{Some, None, ltb}
-use Rattle.std.proofs.Common.{◌≡◌, ◌≢◌, ◌⊎◌, inl, inr, ℕ, zero, suc, ◌+◌, ◌-◌, ◌^◌, ◌<◌, ◌≤◌, Bool, true, false, List, length, get_or, set, refl, sym, ap, ◌∙◌, subst, arith, length-set}
+use Rattle.std.proofs.Common.{◌≡◌, ◌≢◌, ◌⊎◌, inl, inr, ℕ, zero, suc, ◌+◌, ◌-◌, ◌^◌, ◌<◌, ◌≤◌, Bool, true, List, length, get_or, set, refl, sym, ap, ◌∙◌, subst, arith, length-set}
 use Rattle.std.proofs.lemmas.Bool.{lt-ltb, cases_lt}
 use Rattle.pcc_steps.specs.declared.wiring.Wiring.{Wiring}
 use Rattle.pcc_steps.specs.declared.ask.AskStage.{AskStage}
-use Rattle.pcc_steps.specs.declared.ask.AskStage.TheVariants.{AskRest, PostBlock, LookBlock}
+use Rattle.pcc_steps.specs.declared.ask.AskStage.TheVariants.{PostBlock, LookBlock}
 use Rattle.pcc_steps.specs.declared.answer.AnswerStage.{AnswerStage}
-use Rattle.pcc_steps.specs.declared.answer.AnswerStage.TheVariants.{AnswerRest, RunDevice, TakeBlock, ReplyBlock}
-use Rattle.pcc_steps.specs.Wires.{style_of, heads_of, block_of}
+use Rattle.pcc_steps.specs.declared.answer.AnswerStage.TheVariants.{RunDevice, TakeBlock, ReplyBlock}
+use Rattle.pcc_steps.specs.Wires.{block_of}
 use Rattle.pcc_steps.specs.Asking.{Ask, AskOk, has_more, rose, ask_stepped, store_on, read_on, read_told}
 use Rattle.pcc_steps.specs.Answering.{Answer, AnswerOk, answer_stepped, load_on, reply_on}
 use Rattle.pcc_steps.specs.Moves.{AskMoves, AnswerMoves, before_last, with_stored, with_loaded, risen}
@@ -64,9 +63,13 @@ stores zero j steps ws a ok h = (refl, let e : j + zero ≡ j = omega arith in a
 stores (suc n) j steps ws a ok h = let b : Ask = record a { stage = PostBlock j; steps = steps } in let out : List ℕ = set ws (8 + j) (get_or a.sent j 0) in
     let fed : record a { stage = PostBlock (j + 1); steps = rose steps } ≡ ask_stepped (store_on (has_more j a.wiring) j b) = sym (ap (λ (m : Bool). ask_stepped (store_on m j b)) (more_is j n a.wiring h)) in
     let at : j + 1 + n ≡ j + suc n = omega arith in
-    let rest = stores n (j + 1) (rose steps) out a (post_ok j (j + 1) a.steps a ok (omega (arith, h))) (omega (arith, h)) in
-    (post_ok j j steps a ok (omega (arith, h)), λ q. cc, omega arith, refl,
-    subst (λ (z : Ask × ℕ). AskMoves n out z.0 (with_stored n (j + 1) a.sent out) (record a { stage = PostBlock z.1; steps = risen n (rose steps) })) (λ i. (fed i, at i)) rest)
+    let rest = stores n (j + 1) (rose steps) out a (post_ok j (j + 1) a.steps a ok (omega (arith, h))) (omega (arith, h)) in (
+      post_ok j j steps a ok (omega (arith, h)),
+      λ q. cc,
+      omega arith,
+      refl,
+      subst (λ (z : Ask × ℕ). AskMoves n out z.0 (with_stored n (j + 1) a.sent out) (record a { stage = PostBlock z.1; steps = risen n (rose steps) })) (λ i. (fed i, at i)) rest,
+    )
 
 look_ok : (j k steps : ℕ) (block : List ℕ) (a : Ask) → AskOk (record a { stage = LookBlock j }) → k < block_of a.wiring → length block ≡ block_of a.wiring
     → AskOk (record a { stage = LookBlock k; loaded = block; steps = steps })
@@ -91,9 +94,13 @@ loads (suc n) j steps ws block a small ok long h = let b : Ask = record a { stag
     let more : has_more j a.wiring ≡ true = more_is j n a.wiring h in
     let fed : record a { stage = LookBlock (j + 1); loaded = on; steps = rose steps } ≡ ask_stepped (read_on (has_more j a.wiring) j v b) = sym (ap (λ (m : Bool). ask_stepped (read_on m j v b)) more) in
     let at : j + 1 + n ≡ j + suc n = omega arith in
-    let rest = loads n (j + 1) (rose steps) ws on a small (look_ok j (j + 1) a.steps a.loaded a ok (omega (arith, h)) ok.sized.loaded) (length-set block j v ∙ long) (omega (arith, h)) in
-    (look_ok j j steps block a ok (omega (arith, h)) long, λ q. cc, small (8 + j), ap (λ (m : Bool). read_told m a.wiring.notify a.error) more,
-    subst (λ (z : Ask × ℕ). AskMoves n ws z.0 ws (record a { stage = LookBlock z.1; loaded = with_loaded n (j + 1) ws on; steps = risen n (rose steps) })) (λ i. (fed i, at i)) rest)
+    let rest = loads n (j + 1) (rose steps) ws on a small (look_ok j (j + 1) a.steps a.loaded a ok (omega (arith, h)) ok.sized.loaded) (length-set block j v ∙ long) (omega (arith, h)) in (
+      look_ok j j steps block a ok (omega (arith, h)) long,
+      λ q. cc,
+      small (8 + j),
+      ap (λ (m : Bool). read_told m a.wiring.notify a.error) more,
+      subst (λ (z : Ask × ℕ). AskMoves n ws z.0 ws (record a { stage = LookBlock z.1; loaded = with_loaded n (j + 1) ws on; steps = risen n (rose steps) })) (λ i. (fed i, at i)) rest,
+    )
 
 last_at : (j : ℕ) (w : Wiring) → j < block_of w → j + before_last j w ≡ block_of w - 1
 last_at j w h = omega (arith, h)
@@ -128,10 +135,15 @@ takes (suc n) j steps ws block b small ok long h = let c : Answer = record b { s
     let d : Answer = record b { stage = TakeBlock (j + 1); loaded = on; steps = rose steps } in
     let fed : d ≡ answer_stepped (load_on (has_more j b.wiring) j v c) = sym (ap (λ (m : Bool). answer_stepped (load_on m j v c)) (more_is j n b.wiring h)) in
     let at : j + 1 + n ≡ j + suc n = omega arith in let same : length on ≡ block_of b.wiring = length-set block j v ∙ long in
-    let rest = takes n (j + 1) (rose steps) ws on b small (take_ok j (j + 1) b.steps b.loaded b ok (omega (arith, h)) ok.sized.loaded) same (omega (arith, h)) in
-    (take_ok j j steps block b ok (omega (arith, h)) long, (λ q. cc, λ q. cc), small (8 + j), refl,
-    subst AnswerOk fed (take_ok j (j + 1) (rose steps) on b ok (omega (arith, h)) same), subst (λ (z : Answer). z.stage ≢ RunDevice) fed (λ q. cc),
-    subst (λ (z : Answer × ℕ). AnswerMoves n ws z.0 ws (record b { stage = TakeBlock z.1; loaded = with_loaded n (j + 1) ws on; steps = risen n (rose steps) })) (λ i. (fed i, at i)) rest)
+    let rest = takes n (j + 1) (rose steps) ws on b small (take_ok j (j + 1) b.steps b.loaded b ok (omega (arith, h)) ok.sized.loaded) same (omega (arith, h)) in (
+      take_ok j j steps block b ok (omega (arith, h)) long,
+      (λ q. cc, λ q. cc),
+      small (8 + j),
+      refl,
+      subst AnswerOk fed (take_ok j (j + 1) (rose steps) on b ok (omega (arith, h)) same),
+      subst (λ (z : Answer). z.stage ≢ RunDevice) fed (λ q. cc),
+      subst (λ (z : Answer × ℕ). AnswerMoves n ws z.0 ws (record b { stage = TakeBlock z.1; loaded = with_loaded n (j + 1) ws on; steps = risen n (rose steps) })) (λ i. (fed i, at i)) rest,
+    )
 
 reply_ok : (j k steps : ℕ) (b : Answer) → AnswerOk (record b { stage = ReplyBlock j }) → j ≤ k → k < block_of b.wiring
     → AnswerOk (record b { stage = ReplyBlock k; steps = steps })
@@ -144,10 +156,15 @@ replies (suc n) j steps ws b ok h = let c : Answer = record b { stage = ReplyBlo
     let d : Answer = record b { stage = ReplyBlock (j + 1); steps = rose steps } in
     let fed : d ≡ answer_stepped (reply_on (has_more j b.wiring) j c) = sym (ap (λ (m : Bool). answer_stepped (reply_on m j c)) (more_is j n b.wiring h)) in
     let at : j + 1 + n ≡ j + suc n = omega arith in
-    let rest = replies n (j + 1) (rose steps) out b (reply_ok j (j + 1) b.steps b ok (omega arith) (omega (arith, h))) (omega (arith, h)) in
-    (reply_ok j j steps b ok (omega arith) (omega (arith, h)), (λ q. cc, λ q. cc), omega arith, refl,
-    subst AnswerOk fed (reply_ok j (j + 1) (rose steps) b ok (omega arith) (omega (arith, h))), subst (λ (z : Answer). z.stage ≢ RunDevice) fed (λ q. cc),
-    subst (λ (z : Answer × ℕ). AnswerMoves n out z.0 (with_stored n (j + 1) b.out out) (record b { stage = ReplyBlock z.1; steps = risen n (rose steps) })) (λ i. (fed i, at i)) rest)
+    let rest = replies n (j + 1) (rose steps) out b (reply_ok j (j + 1) b.steps b ok (omega arith) (omega (arith, h))) (omega (arith, h)) in (
+      reply_ok j j steps b ok (omega arith) (omega (arith, h)),
+      (λ q. cc, λ q. cc),
+      omega arith,
+      refl,
+      subst AnswerOk fed (reply_ok j (j + 1) (rose steps) b ok (omega arith) (omega (arith, h))),
+      subst (λ (z : Answer). z.stage ≢ RunDevice) fed (λ q. cc),
+      subst (λ (z : Answer × ℕ). AnswerMoves n out z.0 (with_stored n (j + 1) b.out out) (record b { stage = ReplyBlock z.1; steps = risen n (rose steps) })) (λ i. (fed i, at i)) rest,
+    )
 
 pub takes_move : (j : ℕ) (ws : List ℕ) (b : Answer) → ((p : ℕ) → get_or ws p 0 < 2 ^ 64) → AnswerOk b → b.stage ≡ TakeBlock j
     → AnswerMoves (before_last j b.wiring) ws b ws (record b { stage = TakeBlock (block_of b.wiring - 1); loaded = with_loaded (before_last j b.wiring) j ws b.loaded; steps = risen (before_last j b.wiring) b.steps })

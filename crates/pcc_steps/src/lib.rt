@@ -13,8 +13,8 @@ mod words;
 mod worked;
 
 pub use answer::{
-    AnswerOutcome, AnswerStage, AnswerState, answer_block, answer_execute, answer_feed, answer_next, answer_ran,
-    answer_space, answer_start,
+    AnswerOutcome, AnswerStage, AnswerState, answer_block, answer_execute, answer_feed,
+    answer_next, answer_ran, answer_space, answer_start,
 };
 pub use ask::{
     AskOutcome, AskStage, AskState, ask_begin, ask_block, ask_budget, ask_feed, ask_look, ask_next,

@@ -1,11 +1,12 @@
 //! Both machines along hand-made traces of words.
-ghost use Rattle.std.specs.Prelude.{◌≡◌, ◌≤◌};
+ghost use Rattle.std.specs.Prelude.{◌≡◌, ◌≤◌, ◌%◌};
+ghost use Rattle.pcc_steps.specs.Kinds.{IsHeaded};
 ghost use Rattle.pcc_steps.specs.Wires.{IsRight};
 
 use crate::{
     Action, AnswerOutcome, AnswerState, AskOutcome, AskState, Wiring, answer_feed, answer_next,
-    answer_ran, answer_space, answer_start, ask_begin, ask_budget, ask_feed, ask_look, ask_next,
-    opening_words, perform,
+    answer_ran, answer_space, answer_start, ask_begin, ask_block, ask_budget, ask_feed, ask_look,
+    ask_next, opening_words, perform,
 };
 use Action::{Load, Store, Swap};
 use pcc_exec::ExecStatus;
@@ -13,9 +14,21 @@ use pcc_gas::Masks;
 
 // A subspace with a space of 8 bytes and an 8-bit doorbell.
 fn headed(kind: u8, notify: bool, has_ack: bool) -> Wiring
-    requires { kind ≤ 2 }
+    requires { IsHeaded kind }
     ensures right { IsRight result }
     ensures room { result.room ≡ 8 }
+{
+    headed_with(8, kind, notify, has_ack)
+}
+
+// The same with a space of so many bytes.
+fn headed_with(room: u32, kind: u8, notify: bool, has_ack: bool) -> Wiring
+    requires kind { IsHeaded kind }
+    requires least { 8 ≤ room }
+    requires most { room ≤ 4096 }
+    requires whole { room % 8 ≡ 0 }
+    ensures right { IsRight result }
+    ensures room { result.room ≡ room }
 {
     Wiring {
         kind,
@@ -25,7 +38,7 @@ fn headed(kind: u8, notify: bool, has_ack: bool) -> Wiring
         has_bell: true,
         has_ack,
         reports: true,
-        room: 8,
+        room,
         bell: Masks {
             preserve: 0xfe,
             set: 1,
@@ -268,4 +281,31 @@ fn word_steps_on_a_plain_list(rt: HostRuntime) {
     assert!(rt; perform(&mut words, Store(2, 1)) == 0 && words == [5, 6, 1, 8]);
     assert!(rt; perform(&mut words, Swap(2, 0)) == 1 && words == [5, 6, 0, 8]);
     assert!(rt; perform(&mut words, Load(3)) == 8 && words == [5, 6, 0, 8]);
+}
+
+#[test]
+fn the_words_of_a_block_before_its_last_one_are_moved_at_once(rt: HostRuntime) {
+    let wiring = headed_with(24, 0, false, false);
+    let mut ask = AskState::new(rt.alloc(), wiring, &[3; 24]).expect(&rt, "memory");
+    let mut words = [0; 11];
+    ask_begin(&mut ask, 16, &[1, 2]);
+    if words.len() != wiring.words() as usize {
+        panic!(rt; "a block of three words");
+    }
+    ask_block(&mut words, &mut ask);
+    let moved = [
+        0,
+        0,
+        0,
+        0,
+        0,
+        0,
+        0,
+        0,
+        0x0303_0303_0303_0201,
+        0x0303_0303_0303_0303,
+        0,
+    ];
+    assert!(rt; words == moved && ask.steps() == 2);
+    assert!(rt; ask_next(&ask) == Store(10, 0x0303_0303_0303_0303));
 }
