@@ -30,7 +30,7 @@ use Rattle.channel_plain.specs.declared.trace.TraceLine.{TraceLine}
 use Rattle.channel_plain.specs.Picks.{PlainState, started_at, answer_end, answer_picked, line_of}
 use Rattle.channel_plain.specs.Standing.{Stands}
 use Rattle.channel_plain.specs.WordRuns.{Answered, Answers, more, AnswerWalks, answer_from, answer_on, execute, next_of}
-use Rattle.channel_plain.proofs.Tests.{not_false}
+use Rattle.channel_plain.proofs.Bools.{not_false}
 use Rattle.channel_plain.proofs.WordSteps.{takes_next, takes_rest}
 use Rattle.pcc_steps.proofs.AnswerFeeds.{ends_run, fed_rests, is_rest, is_run, run_is, unsettled}
 use Rattle.channel_plain.proofs.AnswerHolds.{stepping, after_step, fed_wiring, grown, same_settle}

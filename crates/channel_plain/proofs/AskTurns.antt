@@ -41,7 +41,7 @@ use Rattle.pcc_steps.proofs.AskFeeds.{Fed, fed, stepped, rest_is}
 use Rattle.channel_plain.proofs.Blocks.{blocks_kept, blocks_stepped, shown_space}
 use Rattle.channel_plain.proofs.Readied.{late_enough, soon_is}
 use Rattle.channel_plain.proofs.AskPicks.{running as runs_on}
-use Rattle.channel_plain.proofs.Tests.{not_false}
+use Rattle.channel_plain.proofs.Bools.{not_false}
 use Rattle.channel_plain.proofs.WordSteps.{AskTie, resting, running, Running, posts_run, looks_run, calls_at, run_turn, takes_next, takes_rest, turned}
 
 -- ---- the looks stay within the budget

@@ -32,7 +32,7 @@ use Rattle.pcc_steps.specs.Carrying.{carried, carried_at, is_rest}
 use Rattle.channel_plain.specs.Standing.{asker_of, answerer_of, IsCarried, LooksBegun, Holds, owns}
 use Rattle.channel_plain.specs.Steps.{budget_by}
 use Rattle.pcc_steps.proofs.AskFeeds.{Fed, done_same, fed, stepped, not_rest}
-use Rattle.channel_plain.proofs.Tests.{below, not_false}
+use Rattle.channel_plain.proofs.Bools.{below, not_false}
 
 -- ---- small facts
 

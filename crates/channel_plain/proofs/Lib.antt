@@ -1,4 +1,4 @@
-pub mod Tests
+pub mod Bools
 pub mod Readied
 pub mod Blocks
 pub mod Keeps

@@ -26,7 +26,7 @@ use Rattle.channel_plain.specs.Picks.{refused_end, CallsState, PlainState, asks_
 use Rattle.pcc_steps.specs.Carrying.{carried, carried_at, is_rest}
 use Rattle.channel_plain.specs.Standing.{IsServing, Serving, Stands, owns}
 use Rattle.pcc_steps.proofs.AskFeeds.{Fed, fed, stepped}
-use Rattle.channel_plain.proofs.Tests.{not_false}
+use Rattle.channel_plain.proofs.Bools.{not_false}
 
 serving_as : (calls : List Asked) (w w' : Wiring) (u u' n n' f f' : ℕ) (b : CallsState) → w' ≡ w → u' ≡ u → n' ≡ n → f' ≡ f → Serving calls w u n f b
     → Serving calls w' u' n' f' b

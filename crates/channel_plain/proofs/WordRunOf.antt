@@ -35,7 +35,7 @@ use Rattle.channel_plain.proofs.AskTurns.{pick_tie}
 use Rattle.channel_plain.proofs.AnswerTurns.{AnswerTie, between_run, a_resting, a_running, answer_tie}
 use Rattle.pcc_steps.proofs.AnswerFeeds.{is_rest as is_rest_a, is_run}
 use Rattle.channel_plain.proofs.PickKeeps.{asks_kept, counted_if, picked_kept}
-use Rattle.channel_plain.proofs.Tests.{not_false}
+use Rattle.channel_plain.proofs.Bools.{not_false}
 
 -- ---- lists
 

@@ -24,7 +24,7 @@ use Rattle.channel_plain.specs.Weaving.{reading_of}
 use Rattle.channel_plain.specs.WordRuns.{Walks, Calls, Serves, Turn, Turns, more, sends, looks_on, gives_up, takes, end_call, take_reading, goes_on_if, block_after, posts_call, reading_at, earliest_at, replied, next_of, rest_of}
 use Rattle.pcc_steps.proofs.AskFeeds.{Fed}
 use Rattle.channel_plain.proofs.Blocks.{BlocksAfter}
-use Rattle.channel_plain.proofs.Tests.{below, not_false}
+use Rattle.channel_plain.proofs.Bools.{below, not_false}
 
 -- ---- runs
 
