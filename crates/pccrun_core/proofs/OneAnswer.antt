@@ -74,6 +74,29 @@ by_command words input left status text c asked (Refused d also whole read r ref
       line = refl;
     })
 
+-- ---- a refused input
+
+line_of : (c : Command) (input : List ℕ) (cause : Refusal) (status : ℕ) (text : List ℕ) → Rejects c input cause → ByCommand c input status text → IsLine c input status text
+line_of c input cause status text h (inl made) = absurd (accepted_kept c input cause (record { short = made.short; made = is_made c input text made.makes }) h)
+line_of c input cause status text h (inr line) = line
+
+refused_with : (words : List (List ℕ)) (left left' : Option (List ℕ)) (status : ℕ) (text : List ℕ) (cause : Refusal) → Answers words left left' status text → (k : IsRefusedInput words left cause)
+    → IsLine k.command k.input status text
+refused_with words left left' status text cause a k =
+    let whole : Answers words (Some k.input) left' status text = subst (λ (o : Option (List ℕ)). Answers words o left' status text) k.whole a in
+    line_of k.command k.input cause status text k.rejects (by_command words k.input left' status text k.command k.asked whole)
+
+-- a refused input leads to its line
+pub refused_input_is : (words : List (List ℕ)) (left left' : Option (List ℕ)) (status : ℕ) (text : List ℕ) (cause : Refusal) → Answers words left left' status text → IsRefusedInput words left cause
+    → status ≡ 3
+refused_input_is words left left' status text cause a k = (refused_with words left left' status text cause a k).done
+
+pub refused_line_is : OnePackage → OneSpelling → OneFault → (words : List (List ℕ)) (left left' : Option (List ℕ)) (status : ℕ) (text : List ℕ) (cause : Refusal)
+    → Answers words left left' status text → IsRefusedInput words left cause → text ≡ refused_line cause
+refused_line_is one spelling single words left left' status text cause a k =
+    let h = refused_with words left left' status text cause a k in
+    h.line ∙ ap refused_line (one_rejection one spelling single k.command k.input h.cause cause h.rejects k.rejects)
+
 -- ---- one answer
 
 -- two answers have one status, and one text where `weave` hasn't made it

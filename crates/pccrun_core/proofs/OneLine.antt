@@ -50,7 +50,7 @@ by_use c text s t h set None none = inl (s, t, record { script = h; served = rec
 
 by_set_up : (c : Command) (text : List ℕ) (s : Scenario) → IsScript text s → HasSetUp s ⊎ HasRefusal s → ScriptOr c text
 by_set_up c text s h (inl set) = by_use c text s set.table h set.checked (use_fault c s) refl
-by_set_up c text s h (inr no) = inr (no.cause, Unserved s h no.cause (BySetUp no.cause no.refused))
+by_set_up c text s h (inr failed) = inr (failed.cause, Unserved s h failed.cause (BySetUp failed.cause failed.refused))
 
 by_built : (c : Command) (text : List ℕ) (s : Scenario) → IsSpelled text s → (b : Bool) → is_built s ≡ b → ScriptOr c text
 by_built c text s h false none = inr (refusal.Unbuilt, NotBuilt s h none)
@@ -149,7 +149,7 @@ accepted_or_rejected some apart one spelling c input fit = elim (cases_lt input_
   | inl more ↦ inr (record { cause = refusal.Long; rejects = Exceeds more })
   | inr few ↦ elim (made_or_refused some apart one spelling c input fit) [
     | inl made ↦ inl (record { short = few; made = made })
-    | inr no ↦ inr (record { cause = no.0; rejects = Within few no.0 no.1 })
+    | inr failed ↦ inr (record { cause = failed.0; rejects = Within few failed.0 failed.1 })
   ]
 ]
 
@@ -172,11 +172,11 @@ is_made command.Cpc input text h = (h.0, h.1)
 
 pub some_text : (c : Command) (input : List ℕ) → c ≢ command.Weave → IsMade c input → (text : List ℕ) × Makes c input text
 some_text command.Step input other h =
-    (step_text h.0 h.1, h.0, h.1, h.2, record { text_is = refl; headline = set_up_headlines h.0 h.1 h.2.served.set_up.all_open })
+    (step_text h.0 h.1, (h.0, h.1, h.2, record { text_is = refl; headline = set_up_headlines h.0 h.1 h.2.served.set_up.all_open }))
 some_text command.Weave input other h = absurd (other refl)
-some_text command.Show input other h = (show_text h.0, h.0, h.1, refl)
-some_text command.Build input other h = (h.1.value.bytes, h.0, h.1.text_is, h.1.value.fit, h.1.value.spell)
-some_text command.Cpc input other h = (package_text h.0, h.0, h.1, refl)
+some_text command.Show input other h = (show_text h.0, (h.0, h.1, refl))
+some_text command.Build input other h = (h.1.value.bytes, (h.0, h.1.text_is, h.1.value.fit, h.1.value.spell))
+some_text command.Cpc input other h = (package_text h.0, (h.0, h.1, refl))
 
 -- a command serves one script with one table
 one_step : (input text other : List ℕ) → Makes command.Step input text → Makes command.Step input other → text ≡ other

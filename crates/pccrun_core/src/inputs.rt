@@ -1,9 +1,10 @@
 //! Each input is made or refused, by one line: the laws of the definitions that the top call cites.
 ghost use Rattle.std.specs.Prelude.{◌≡◌, ◌≢◌, ◌⊎◌, ℕ, List, Option, Some};
 ghost use Rattle.pcc_bytes.specs.Bytes.{IsBytes};
+ghost use Rattle.pcc_setup.specs.RefusalText.{refused_line};
 ghost use Rattle.pcc_setup.specs.declared.refusal.Refusal.{Refusal};
 ghost use Rattle.pccrun_core.specs.Answers.{Answers, AsksFor, IsMade, Makes};
-ghost use Rattle.pccrun_core.specs.Inputs.{IsAccepted, IsRejected, Rejects};
+ghost use Rattle.pccrun_core.specs.Inputs.{IsAccepted, IsRefusedInput, IsRejected, Rejects};
 ghost use Rattle.pccrun_core.specs.declared.command.Command.{Command};
 ghost use Rattle.pccrun_core.specs.declared.command.Command.TheVariants.{Weave};
 
@@ -25,6 +26,8 @@ pub fn input_laws()
 
 /// The words and the input lead to one status and one text; where `weave` makes the text, to one status. It does nothing.
 pub fn answer_laws()
+    ensures refused { (words : List (List ℕ)) (left rest : Option (List ℕ)) (status : ℕ) (text : List ℕ) (cause : Refusal)
+        → Answers words left rest status text → IsRefusedInput words left cause → text ≡ refused_line cause }
     ensures one_status { (words : List (List ℕ)) (input : List ℕ) (left other : Option (List ℕ)) (status another : ℕ) (text line : List ℕ)
         → Answers words (Some input) left status text → Answers words (Some input) other another line → status ≡ another }
     ensures one_answer { (words : List (List ℕ)) (input : List ℕ) (left other : Option (List ℕ)) (status another : ℕ) (text line : List ℕ)

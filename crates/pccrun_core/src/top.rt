@@ -5,8 +5,10 @@ ghost use Rattle.std.specs.Io.KnownBytes.{Appends, Keeps};
 ghost use Rattle.pcc_causes.specs.Causes.{AppendsPrefix, Rose};
 ghost use Rattle.pccrun_core.specs.Answers.{Answers, AsksFor, AsksToMake, IsServedInput, Makes, input_limit};
 ghost use Rattle.pcc_setup.specs.RefusalText.{HasLine, refused_line};
+ghost use Rattle.pcc_setup.specs.declared.refusal.Refusal.{Refusal};
 ghost use Rattle.pccrun_core.specs.CommandErrors.{IsRefusedBy};
 ghost use Rattle.pccrun_core.specs.Headlined.{Headlined};
+ghost use Rattle.pccrun_core.specs.Inputs.{IsRefusedInput};
 ghost use Rattle.pccrun_core.specs.Refusals.{Refuses};
 ghost use Rattle.pccrun_core.specs.Statuses.{code_of};
 ghost use Rattle.pccrun_core.specs.declared.command.Command.{Command};
@@ -145,7 +147,8 @@ fn refused(alloc: Global, refusal: Refusal) -> Result<Answer, Stop>
 }
 
 /// Does all that the program does for a command without threads: tests the words, reads the source to its end where they ask for a command on
-/// the input, runs what they ask for, and writes its whole text. It always returns.
+/// the input, runs what they ask for, and writes its whole text. It always returns. Each input is made or refused, never both, and refused by one line:
+/// `input_laws` and `answer_laws` say it of the definitions that the clauses cite.
 #[tactic(auto, using(crate::proofs::Tops::served_input_runs, crate::proofs::Tops::made_runs, crate::proofs::Tops::makes_alone, crate::proofs::Headlined::headlined))]
 pub fn run<S: Source, W: Sink>(
     alloc: Global,
@@ -178,6 +181,11 @@ pub fn run<S: Source, W: Sink>(
     ensures complete { IsServedInput (map (λ w. string_bytes w) words.now) (S.left source.old)
         → (Rose (S.faults source.old) (S.faults source.new) → ⊥) → (Rose (W.faults sink.old) (W.faults sink.new) → ⊥)
         → result.status ≢ 6 → result.status ≡ 0 }
+
+    // A refused input is refused, where neither source nor sink fails and memory doesn't run out.
+    ensures refused { (cause : Refusal) → IsRefusedInput (map (λ w. string_bytes w) words.now) (S.left source.old) cause
+        → (Rose (S.faults source.old) (S.faults source.new) → ⊥) → (Rose (W.faults sink.old) (W.faults sink.new) → ⊥)
+        → result.status ≢ 6 → result.status ≡ 3 }
 
     // A made-up script is always run, where the sink doesn't fail and memory doesn't run out.
     ensures made { (n : ℕ) → AsksToMake (map (λ w. string_bytes w) words.now) n → (Rose (W.faults sink.old) (W.faults sink.new) → ⊥) → result.status ≢ 6 → result.status ≡ 0 }
