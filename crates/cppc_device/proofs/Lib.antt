@@ -4,3 +4,4 @@ pub mod Chains
 pub mod Apart
 pub mod Sampling
 pub mod Commands
+pub mod Alone

@@ -223,13 +223,13 @@ written_more space len cpus old registers next d cpu i processors lt is new befo
 
 -- ---- what is read of a processor's fields doesn't change with the others
 
-same_number : (changes : List Change) (old : List ℕ) (s : Source1) → ((field : Field) → s ≡ At field → IsApartFrom field changes)
+pub same_number : (changes : List Change) (old : List ℕ) (s : Source1) → ((field : Field) → s ≡ At field → IsApartFrom field changes)
     → number_in s (with_changes changes old) ≡ number_in s old
 same_number changes old Missing apart = refl
 same_number changes old (Number value) apart = refl
 same_number changes old (At field) apart = ap (λ (n : ℕ). Some n) (changes-apart changes old field (apart field refl))
 
-same_in : (changes : List Change) (old : List ℕ) (s : Source1) → ((field : Field) → s ≡ At field → IsApartFrom field changes)
+pub same_in : (changes : List Change) (old : List ℕ) (s : Source1) → ((field : Field) → s ≡ At field → IsApartFrom field changes)
     → field_in s (with_changes changes old) ≡ field_in s old
 same_in changes old Missing apart = refl
 same_in changes old (Number value) apart = refl
@@ -238,8 +238,15 @@ same_in changes old (At field) apart = ap (λ (n : ℕ). Some n) (changes-apart 
 same_samples : (cap : Option ℕ) (cpu : Binding) (a b : List ℕ) → ((n : ℕ) → n < 23 → number_in (source_at cpu n) a ≡ number_in (source_at cpu n) b)
     → field_in (source_at cpu 8) a ≡ field_in (source_at cpu 8) b → sampled_of cap a cpu ≡ sampled_of cap b cpu
 same_samples cap cpu a b numbers minimum =
-    rw (numbers 13 (omega arith), numbers 20 (omega arith), numbers 3 (omega arith), numbers 14 (omega arith), numbers 7 (omega arith),
-    numbers 15 (omega arith), minimum) refl
+    rw (
+      numbers 13 (omega arith),
+      numbers 20 (omega arith),
+      numbers 3 (omega arith),
+      numbers 14 (omega arith),
+      numbers 7 (omega arith),
+      numbers 15 (omega arith),
+      minimum,
+    ) refl
 
 one_put : (n : ℕ) → n < 23 → IsRule (λ cpu. put_into (source_at cpu n) 0)
 one_put n lt cpu = all_of-wider cpu n (n + 1) 0 23 (put_into (source_at cpu n) 0) (omega arith) (omega arith) (put_of cpu n 0)

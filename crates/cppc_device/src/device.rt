@@ -78,7 +78,13 @@ impl CppcDevice {
     pub const WRITE: u32 = 0x01;
 
     /// A controller of processors in a space of room bytes. Its registers begin with the image, and zeros after it.
-    pub fn new(alloc: Global, room: u32, image: &[u8], cpus: &[Binding], caps: &[Cap]) -> Result<CppcDevice, DeviceFault>
+    pub fn new(
+        alloc: Global,
+        room: u32,
+        image: &[u8],
+        cpus: &[Binding],
+        caps: &[Cap],
+    ) -> Result<CppcDevice, DeviceFault>
         requires processors { AreProcessors room cpus.now }
         requires few { length caps.now < 2 ^ 32 }
         // The first fault is reported, and else the device begins, unless memory runs out.

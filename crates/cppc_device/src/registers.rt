@@ -90,7 +90,8 @@ fn sample(registers: &mut [u8], cpu: &Binding, cap: Option<u64>)
     requires inside { LiesIn (length registers.old) cpu.now }
     ensures { registers.new ≡ with_changes (sampled_of cap registers.old cpu.now) registers.old }
 {
-    let reference = u128::from(entry_number(cpu, 13, registers)) + u128::from(reference_of(cpu, registers));
+    let reference = u128::from(entry_number(cpu, 13, registers))
+        + u128::from(reference_of(cpu, registers));
     let effective = capped(cap, entry_number(cpu, 7, registers));
     let delivered = u128::from(entry_number(cpu, 14, registers)) + u128::from(effective);
     let desired = number_in(cpu.sources[7], registers);

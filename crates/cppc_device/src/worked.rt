@@ -56,8 +56,11 @@ pub fn worked_states()
         ≡ record { state = cppc_state (alone (half_bytes 0) [] 0xffffffffffffffff (0x13 ∷ [])); bad = false; space = 0x13 ∷ [] } }
     ensures both { cppc_exec (cppc_state (record { cpus = half_bytes 0 ∷ half_bytes 8 ∷ []; caps = cap 0 2 ∷ []; count = 0; registers = 0x13 ∷ 0x21 ∷ [] }))
         0 (0 ∷ 0 ∷ [])
-        ≡ record { state = cppc_state (record { cpus = half_bytes 0 ∷ half_bytes 8 ∷ []; caps = cap 0 2 ∷ []; count = 1; registers = 0x33 ∷ 0x31 ∷ [] });
-            bad = false; space = 0x33 ∷ 0x31 ∷ [] } }
+        ≡ record {
+          state = cppc_state (record { cpus = half_bytes 0 ∷ half_bytes 8 ∷ []; caps = cap 0 2 ∷ []; count = 1; registers = 0x33 ∷ 0x31 ∷ [] });
+          bad = false;
+          space = 0x33 ∷ 0x31 ∷ [];
+        } }
 
     // What makes no controller.
     ensures image { device_fault 32 (registers 0 0 0 0 0 0) [] ≡ None }
