@@ -1,5 +1,5 @@
 -- The answering machine's word steps, one after the other, with the device's turn.
-use Rattle.std.proofs.Common.{◌≡◌, ◌≢◌, ℕ, ◌+◌, ◌-◌, ◌*◌, ◌/◌, ◌%◌, ◌^◌, ◌<◌, ◌≤◌, Bool, true, false, eqb, List, [], ◌∷◌, ◌++◌, length, drop, refl, sym, ap, ◌∙◌, subst, arith, length-append, length-drop}
+use Rattle.std.proofs.Common.{◌≡◌, ◌≢◌, ℕ, zero, suc, ◌+◌, ◌-◌, ◌*◌, ◌/◌, ◌%◌, ◌^◌, ◌<◌, ◌≤◌, Bool, true, false, eqb, List, [], ◌∷◌, ◌++◌, length, drop, refl, sym, ap, ◌∙◌, subst, arith, length-append, length-drop}
 use Rattle.std.specs.Prelude.{Option, Some, None}
 use Rattle.std.proofs.lemmas.List.{append-nil}
 use Rattle.pcc_history.specs.Devices.{Device}
@@ -19,15 +19,18 @@ use Rattle.pcc_steps.specs.Runs.{Run, ends, loads, stores, swaps, executes, With
 use Rattle.pcc_steps.specs.Walk.{answer_left, answer_after, Gives}
 use Rattle.pcc_steps.specs.Asking.{has_more}
 use Rattle.pcc_steps.specs.Answering.{Answer, AnswerOk, IsAnswerStepping, answer_begun, answer_next, answer_fed, answer_told, answer_fed_at, answer_told_at, after_ack, after_take, after_error, after_reply, after_close, after_done, done_stage, update_stage, asks_notify, take_on, take_told, load_on, reply_on, ran_with, answer_code}
+use Rattle.pcc_steps.specs.Moves.{AnswerMoves}
 use Rattle.pcc_steps.specs.Agree.{act, found, Finds, Core, Asker, Answerer, Agree, Pose, free, writing, cleared, waiting, reading, replying, Fits, pose, turn_at, settle, settle_at, answerer_fed}
 use Rattle.pcc_steps.specs.Laws.{AnswerBeginAgrees, AnswerStepAgrees}
 use Rattle.pcc_steps.proofs.AnswerWalks.{answers_by_table, answer_steps_by_table, executes_by_table}
 use Rattle.pcc_steps.proofs.Bounds.{answers_within}
 use Rattle.pcc_steps.proofs.Nexts.{idle_told}
+use Rattle.pcc_steps.proofs.Wired.{answer_wired}
 use Rattle.pcc_steps.proofs.WordSteps.{long_act, finds_found}
-use Rattle.channel_turns.proofs.AnswerFeeds.{counted, framed, is_rest, is_run, rest_is, run_is, ends_run, fed_rests}
-use Rattle.channel_turns.specs.WordRuns.{AnswerStep, AnswerKeeps, HasExecuted, HistoryIs}
-use Rattle.channel_turns.proofs.AskRuns.{one_less}
+use Rattle.pcc_steps.proofs.AnswerFeeds.{counted, framed, is_rest, is_run, rest_is, run_is, not_rest, not_run, ends_run, fed_rests, unsettled, settled_wired}
+use Rattle.pcc_steps.proofs.Lists.{one_more}
+use Rattle.channel_turns.specs.WordRuns.{AnswerStep, AnswerStride, AnswerKeeps, HasExecuted, HistoryIs}
+use Rattle.pcc_steps.proofs.Lengths.{one_less}
 
 -- ---- stages
 
@@ -169,44 +172,6 @@ once CloseBellLoad a v e = refl
 once CloseBellStore a v e = close_walks (asks_notify a)
 once CloseLine a v e = refl
 
-not_rest_of : (st : AnswerStage) → st ≢ AnswerRest → is_rest st ≡ false
-not_rest_of AnswerRest n = absurd (n refl)
-not_rest_of TakeLine n = refl
-not_rest_of TakeAckLoad n = refl
-not_rest_of TakeAckStore n = refl
-not_rest_of TakeHeader n = refl
-not_rest_of (TakeBlock j) n = refl
-not_rest_of RunDevice n = refl
-not_rest_of (ReplyBlock j) n = refl
-not_rest_of ReplyError n = refl
-not_rest_of ReplyHeader n = refl
-not_rest_of ReplyUpdateLoad n = refl
-not_rest_of ReplyUpdateStore n = refl
-not_rest_of ReplyMarkLoad n = refl
-not_rest_of ReplyMarkStore n = refl
-not_rest_of CloseBellLoad n = refl
-not_rest_of CloseBellStore n = refl
-not_rest_of CloseLine n = refl
-
-not_run_of : (st : AnswerStage) → st ≢ RunDevice → is_run st ≡ false
-not_run_of RunDevice n = absurd (n refl)
-not_run_of AnswerRest n = refl
-not_run_of TakeLine n = refl
-not_run_of TakeAckLoad n = refl
-not_run_of TakeAckStore n = refl
-not_run_of TakeHeader n = refl
-not_run_of (TakeBlock j) n = refl
-not_run_of (ReplyBlock j) n = refl
-not_run_of ReplyError n = refl
-not_run_of ReplyHeader n = refl
-not_run_of ReplyUpdateLoad n = refl
-not_run_of ReplyUpdateStore n = refl
-not_run_of ReplyMarkLoad n = refl
-not_run_of ReplyMarkStore n = refl
-not_run_of CloseBellLoad n = refl
-not_run_of CloseBellStore n = refl
-not_run_of CloseLine n = refl
-
 -- the line is taken once
 abbrev is_line : AnswerStage → Bool
 is_line TakeLine = true
@@ -283,39 +248,6 @@ behind_at CloseBellLoad a v e f = refl
 behind_at CloseBellStore a v e f = behind_close (asks_notify a)
 behind_at CloseLine a v e f = refl
 
--- ---- wirings
-
-takes_wired : (b : Bool) (a : Answer) → (take_on b a).wiring ≡ a.wiring
-takes_wired true a = refl
-takes_wired false a = refl
-
-loads_wired : (b : Bool) (j v : ℕ) (a : Answer) → (load_on b j v a).wiring ≡ a.wiring
-loads_wired true j v a = refl
-loads_wired false j v a = refl
-
-replies_wired : (b : Bool) (j : ℕ) (a : Answer) → (reply_on b j a).wiring ≡ a.wiring
-replies_wired true j a = refl
-replies_wired false j a = refl
-
-pub wired : (st : AnswerStage) (a : Answer) (v : ℕ) → (answer_fed_at st a v).wiring ≡ a.wiring
-wired AnswerRest a v = refl
-wired TakeLine a v = takes_wired (eqb v 0) a
-wired TakeAckLoad a v = refl
-wired TakeAckStore a v = refl
-wired TakeHeader a v = refl
-wired (TakeBlock j) a v = loads_wired (has_more j a.wiring) j v a
-wired RunDevice a v = refl
-wired (ReplyBlock j) a v = replies_wired (has_more j a.wiring) j a
-wired ReplyError a v = refl
-wired ReplyHeader a v = refl
-wired ReplyUpdateLoad a v = refl
-wired ReplyUpdateStore a v = refl
-wired ReplyMarkLoad a v = refl
-wired ReplyMarkStore a v = refl
-wired CloseBellLoad a v = refl
-wired CloseBellStore a v = refl
-wired CloseLine a v = refl
-
 served_only : (o : AnswerOutcome) → o ≡ Served → Some o ≡ Some Idle → ⊥
 served_only Idle e q = cc
 served_only Served e q = cc
@@ -360,9 +292,6 @@ executed_early ReplyUpdateStore hp ha e = tt
 executed_early ReplyMarkLoad hp ha e = tt
 executed_early ReplyMarkStore hp ha e = tt
 
-one_more : (xs ys : List Exchange) (e : Exchange) → ys ≡ xs ++ e ∷ [] → length ys ≡ length xs + 1
-one_more xs ys e p = ap (λ (l : List Exchange). length l) p ∙ length-append xs (e ∷ [])
-
 replying_more : (p : Pose) (j : ℕ) (x : Asker) (y : Answerer) (c : Core) → Fits p (replying j) x y c → length y.done ≡ length x.done + 1
 replying_more free j x y c f = absurd (cc (f.0))
 replying_more (writing i) j x y c f = absurd (cc (f.0))
@@ -370,8 +299,24 @@ replying_more cleared j x y c f = absurd (cc (f.0))
 replying_more waiting j x y c f = one_more x.done y.done _ f.row.done
 replying_more (reading i) j x y c f = absurd (cc (f.0))
 
+pub moves_step : (n : ℕ) (ws ws' : List ℕ) (a b : Answer) → AnswerMoves n ws a ws' b → IsAnswerStepping a → IsAnswerStepping b
+moves_step zero ws ws' a b m runs = subst (λ (x : Answer). IsAnswerStepping x) (sym m.1) runs
+moves_step (suc n) ws ws' a b m runs = let v : ℕ = found (answer_next a) ws in let c : Answer = answer_fed a v in
+    let on : is_rest c.stage ≡ false = fed_rests a.stage a v (not_rest a.stage runs.0) (not_run a.stage runs.1) ∙ ap ends_run m.3 in
+    moves_step n (act (answer_next a) ws) ws' c b m.6 (λ q. not_false (is_rest c.stage) (ap is_rest q) on, m.5)
+
+pub moves_long : (n : ℕ) (ws ws' : List ℕ) (a b : Answer) → AnswerMoves n ws a ws' b → length ws ≡ 8 + block_of a.wiring → length ws' ≡ 8 + block_of b.wiring
+moves_long zero ws ws' a b m long = subst (λ (z : List ℕ × Answer). length z.0 ≡ 8 + block_of z.1.wiring) (λ i. (sym m.0 i, sym m.1 i)) long
+moves_long (suc n) ws ws' a b m long = let v : ℕ = found (answer_next a) ws in let on : List ℕ = act (answer_next a) ws in
+    moves_long n on ws' (answer_fed a v) b m.6 (long_act (answer_next a) ws ∙ long ∙ ap (λ (w : Wiring). 8 + block_of w) (sym (answer_wired a.stage a v)))
+
+pub moves_wired : (n : ℕ) (ws ws' : List ℕ) (a b : Answer) → AnswerMoves n ws a ws' b → b.wiring ≡ a.wiring
+moves_wired zero ws ws' a b m = ap (λ (x : Answer). x.wiring) m.1
+moves_wired (suc n) ws ws' a b m = let v : ℕ = found (answer_next a) ws in moves_wired n (act (answer_next a) ws) ws' (answer_fed a v) b m.6 ∙ answer_wired a.stage a v
+
 module _ (exec : Device) where
-  has_more_by : (st : AnswerStage) (start ws : List ℕ) (x : Asker) (y : Answerer) → y.m.stage ≡ st → is_past st ≡ true → Agree exec start ws x y → HasExecuted st (length y.done) (length x.done) → length y.done ≡ length x.done + 1
+  has_more_by : (st : AnswerStage) (start ws : List ℕ) (x : Asker) (y : Answerer) → y.m.stage ≡ st → is_past st ≡ true → Agree exec start ws x y
+      → HasExecuted st (length y.done) (length x.done) → length y.done ≡ length x.done + 1
   has_more_by AnswerRest start ws x y e p g h = absurd (cc p)
   has_more_by TakeLine start ws x y e p g h = absurd (cc p)
   has_more_by TakeAckLoad start ws x y e p g h = absurd (cc p)
@@ -392,27 +337,9 @@ module _ (exec : Device) where
 
   -- ---- the device's turn
 
-  unsettled : (st : AnswerStage) (y : Answerer) → is_run st ≡ false → settle_at exec st y ≡ y
-  unsettled RunDevice y e = absurd (cc e)
-  unsettled AnswerRest y e = refl
-  unsettled TakeLine y e = refl
-  unsettled TakeAckLoad y e = refl
-  unsettled TakeAckStore y e = refl
-  unsettled TakeHeader y e = refl
-  unsettled (TakeBlock j) y e = refl
-  unsettled (ReplyBlock j) y e = refl
-  unsettled ReplyError y e = refl
-  unsettled ReplyHeader y e = refl
-  unsettled ReplyUpdateLoad y e = refl
-  unsettled ReplyUpdateStore y e = refl
-  unsettled ReplyMarkLoad y e = refl
-  unsettled ReplyMarkStore y e = refl
-  unsettled CloseBellLoad y e = refl
-  unsettled CloseBellStore y e = refl
-  unsettled CloseLine y e = refl
-
   -- the stage behind the device's turn: a stage by itself, but where the device ran
-  settled_stage : (P : AnswerStage → Type 0) (st : AnswerStage) (y : Answerer) → y.m.stage ≡ st → (st ≢ RunDevice → P st) → ((j : ℕ) → P (ReplyBlock j)) → P (settle_at exec st y).m.stage
+  settled_stage : (P : AnswerStage → Type 0) (st : AnswerStage) (y : Answerer) → y.m.stage ≡ st → (st ≢ RunDevice → P st) → ((j : ℕ) → P (ReplyBlock j))
+      → P (settle_at exec st y).m.stage
   settled_stage P RunDevice y e h k = k (heads_of (style_of y.m.wiring))
   settled_stage P AnswerRest y e h k = subst P (sym e) (h (λ q. cc))
   settled_stage P TakeLine y e h k = subst P (sym e) (h (λ q. cc))
@@ -431,23 +358,21 @@ module _ (exec : Device) where
   settled_stage P CloseBellStore y e h k = subst P (sym e) (h (λ q. cc))
   settled_stage P CloseLine y e h k = subst P (sym e) (h (λ q. cc))
 
-  settled_wired : (st : AnswerStage) (y : Answerer) → (settle_at exec st y).m.wiring ≡ y.m.wiring
-  settled_wired RunDevice y = refl
-  settled_wired _ y = refl
-
   -- the machine and the device behind a step that found this value, and what was executed
   abbrev pub behind : Answer → List ℕ → ℕ → Answerer
   behind b d v = settle exec (record { m = answer_fed b v; device = d; done = [] })
 
   pub behind_wired : (b : Answer) (d : List ℕ) (v : ℕ) → (behind b d v).m.wiring ≡ b.wiring
-  behind_wired b d v = settled_wired (answer_fed b v).stage (record { m = answer_fed b v; device = d; done = [] }) ∙ wired b.stage b v
+  behind_wired b d v = settled_wired exec (answer_fed b v).stage (record { m = answer_fed b v; device = d; done = [] }) ∙ answer_wired b.stage b v
 
-  same_step : (b : Answer) (d : List ℕ) (done : List Exchange) (v : ℕ) → answerer_fed exec (record { m = b; device = d; done = done }) v ≡ (let y = behind b d v in record { m = y.m; device = y.device; done = done ++ y.done })
+  same_step : (b : Answer) (d : List ℕ) (done : List Exchange) (v : ℕ)
+      → answerer_fed exec (record { m = b; device = d; done = done }) v ≡ (let y = behind b d v in record { m = y.m; device = y.device; done = done ++ y.done })
   same_step b d done v = let st : AnswerStage = (answer_fed b v).stage in
       sym (counted exec st (record { m = answer_fed_at b.stage b v; device = d; done = done })) ∙ framed exec st (answer_fed b v) d done
 
   -- what it leaves of the history, by what it told
-  history : (told : Option AnswerOutcome) (start ws : List ℕ) (x : Asker) (b : Answer) (d : List ℕ) (done : List Exchange) (v : ℕ) → told ≡ answer_told b v → is_rest b.stage ≡ false → is_run b.stage ≡ false
+  history : (told : Option AnswerOutcome) (start ws : List ℕ) (x : Asker) (b : Answer) (d : List ℕ) (done : List Exchange) (v : ℕ) → told ≡ answer_told b v
+      → is_rest b.stage ≡ false → is_run b.stage ≡ false
       → Agree exec start ws x (record { m = b; device = d; done = done }) → HasExecuted b.stage (length done) (length x.done) → HistoryIs told (behind b d v).m.stage x.done done (done ++ (behind b d v).done)
   history told start ws x b d done v t rests runs g h = by_past (is_past b.stage) told refl t
     where
@@ -462,7 +387,7 @@ module _ (exec : Device) where
 
       -- nothing is executed
       still : is_run m.stage ≡ false → done ++ (behind b d v).done ≡ done
-      still e = ap (λ (z : Answerer). done ++ z.done) (unsettled m.stage from e) ∙ append-nil done
+      still e = ap (λ (z : Answerer). done ++ z.done) (unsettled exec m.stage from e) ∙ append-nil done
 
       late : length done ≡ length x.done + 1 → is_run m.stage ≡ false → length (done ++ (behind b d v).done) ≡ length x.done + 1
       late e r = ap (λ (l : List Exchange). length l) (still r) ∙ e
@@ -470,7 +395,8 @@ module _ (exec : Device) where
       rest_still : Some Idle ≡ answer_told b v → is_run m.stage ≡ false
       rest_still e = ap is_run (rest_is m.stage (fed_rests b.stage b v rests runs ∙ ap ends_run (sym e)))
 
-      by_past : (p : Bool) (told : Option AnswerOutcome) → is_past b.stage ≡ p → told ≡ answer_told b v → HistoryIs told (behind b d v).m.stage x.done done (done ++ (behind b d v).done)
+      by_past : (p : Bool) (told : Option AnswerOutcome) → is_past b.stage ≡ p → told ≡ answer_told b v
+          → HistoryIs told (behind b d v).m.stage x.done done (done ++ (behind b d v).done)
       by_past true None e t = executed_more (behind b d v).m.stage _ _ (late (has_more_by b.stage start ws x y refl e g h) (once b.stage b v e))
       by_past true (Some Idle) e t = still (rest_still t)
       by_past true (Some Served) e t = late (has_more_by b.stage start ws x y refl e g h) (once b.stage b v e)
@@ -482,33 +408,40 @@ module _ (exec : Device) where
 
   module _ (is_state : List ℕ → Type 0) (room_of : List ℕ → ℕ) where
     -- by the value that it finds
-    stepped : AnswerStepAgrees exec is_state room_of → (ws : List ℕ) (b : Answer) (d : List ℕ) (v : ℕ) → IsAnswerStepping b → v ≡ found (answer_next b) ws → v < 2 ^ 64
+    stepped : AnswerStepAgrees exec is_state room_of → (ws : List ℕ) (b : Answer) (d : List ℕ) (v : ℕ) → IsAnswerStepping b → v ≡ found (answer_next b) ws
+        → v < 2 ^ 64
         → AnswerKeeps exec is_state room_of ws b d (act (answer_next b) ws) (behind b d v).m (behind b d v).device (answer_told b v)
     stepped law ws b d v runs e small start x done is same g h = let y : Answerer = record { m = b; device = d; done = done } in
         let f : Finds (answer_next b) ws v = subst (λ (n : ℕ). Finds (answer_next b) ws n) (sym e) (finds_found (answer_next b) ws) in
-        let not_rest : is_rest b.stage ≡ false = not_rest_of b.stage runs.0 in let not_run : is_run b.stage ≡ false = not_run_of b.stage runs.1 in (
+        let rests : is_rest b.stage ≡ false = not_rest b.stage runs.0 in let walks : is_run b.stage ≡ false = not_run b.stage runs.1 in (
           done ++ (behind b d v).done,
           subst (λ (z : Answerer). Agree exec start (act (answer_next b) ws) x z) (same_step b d done v) (law start ws x y v is same g f small),
-          history (answer_told b v) start ws x b d done v refl not_rest not_run g h,
+          history (answer_told b v) start ws x b d done v refl rests walks g h,
         )
 
-    pub step_keeps : AnswerStepAgrees exec is_state room_of → (ws : List ℕ) (b : Answer) (d : List ℕ) (ws' : List ℕ) (b' : Answer) (d' : List ℕ) (told : Option AnswerOutcome) → IsAnswerStepping b → AnswerStep exec ws b d ws' b' d' told → AnswerKeeps exec is_state room_of ws b d ws' b' d' told
+    pub step_keeps : AnswerStepAgrees exec is_state room_of
+        → (ws : List ℕ) (b : Answer) (d : List ℕ) (ws' : List ℕ) (b' : Answer) (d' : List ℕ) (told : Option AnswerOutcome) → IsAnswerStepping b
+        → AnswerStep exec ws b d ws' b' d' told → AnswerKeeps exec is_state room_of ws b d ws' b' d' told
     step_keeps law ws b d ws' b' d' told runs s = let v : ℕ = found (answer_next b) ws in
         subst (λ (z : (List ℕ × Answer) × (List ℕ × Option AnswerOutcome)). AnswerKeeps exec is_state room_of ws b d z.0.0 z.0.1 z.1.0 z.1.1) (λ i. ((sym s.words i, sym s.machine i), (sym s.device i, sym s.told_is i)))
         (stepped law ws b d v runs refl s.small)
 
     -- behind the first step a run doesn't find the line down
-    more_keeps : (ws ws1 ws2 : List ℕ) (b b1 b2 : Answer) (d d1 d2 : List ℕ) (told : Option AnswerOutcome) → (told ≡ Some Idle → ⊥) → AnswerKeeps exec is_state room_of ws b d ws1 b1 d1 None → AnswerKeeps exec is_state room_of ws1 b1 d1 ws2 b2 d2 told → AnswerKeeps exec is_state room_of ws b d ws2 b2 d2 told
+    more_keeps : (ws ws1 ws2 : List ℕ) (b b1 b2 : Answer) (d d1 d2 : List ℕ) (told : Option AnswerOutcome) → (told ≡ Some Idle → ⊥)
+        → AnswerKeeps exec is_state room_of ws b d ws1 b1 d1 None → AnswerKeeps exec is_state room_of ws1 b1 d1 ws2 b2 d2 told
+        → AnswerKeeps exec is_state room_of ws b d ws2 b2 d2 told
     more_keeps ws ws1 ws2 b b1 b2 d d1 d2 told n h k start x done is same g e = let p = h start x done is same g e in let q = k start x p.0 is same p.1 p.2 in (q.0, q.1, other told n x.done done p.0 q.0 b2.stage q.2)
       where
-        other : (told : Option AnswerOutcome) → (told ≡ Some Idle → ⊥) → (ha before between now : List Exchange) (st : AnswerStage) → HistoryIs told st ha between now → HistoryIs told st ha before now
+        other : (told : Option AnswerOutcome) → (told ≡ Some Idle → ⊥) → (ha before between now : List Exchange) (st : AnswerStage)
+            → HistoryIs told st ha between now → HistoryIs told st ha before now
         other None n ha before between now st h = h
         other (Some Idle) n ha before between now st h = absurd (n refl)
         other (Some Served) n ha before between now st h = h
 
   -- ---- the run ends
 
-  none_less : (n : ℕ) (r : Run AnswerEnd) (x : Action) (space : List ℕ) (next : Bool → List ℕ → Run AnswerEnd) → Gives r x space next → Within n r → (bad : Bool) (reply : List ℕ) → length reply ≡ length space → Within n (next bad reply)
+  none_less : (n : ℕ) (r : Run AnswerEnd) (x : Action) (space : List ℕ) (next : Bool → List ℕ → Run AnswerEnd) → Gives r x space next → Within n r
+      → (bad : Bool) (reply : List ℕ) → length reply ≡ length space → Within n (next bad reply)
   none_less n (ends e) x space next t w bad reply long = absurd t
   none_less n (loads p f) x space next t w bad reply long = absurd t
   none_less n (stores p u r) x space next t w bad reply long = absurd t
@@ -519,8 +452,10 @@ module _ (exec : Device) where
   room_found k room loaded e whole = let a = length-bytes_of (drop k loaded) in let d = length-drop k loaded in omega (arith, a, d)
 
   -- the device's turn takes no word step
-  settled_within : (b : Bool) (n : ℕ) (m : Answer) (d : List ℕ) → is_run m.stage ≡ b → AnswerOk m → AnswerOk (settle exec (record { m = m; device = d; done = [] })).m → Within n (answer_left m) → Within n (answer_left (settle exec (record { m = m; device = d; done = [] })).m)
-  settled_within false n m d e ok ok' w = subst (λ (y : Answerer). Within n (answer_left y.m)) (sym (unsettled m.stage (record { m = m; device = d; done = [] }) e)) w
+  settled_within : (b : Bool) (n : ℕ) (m : Answer) (d : List ℕ) → is_run m.stage ≡ b → AnswerOk m
+      → AnswerOk (settle exec (record { m = m; device = d; done = [] })).m → Within n (answer_left m)
+      → Within n (answer_left (settle exec (record { m = m; device = d; done = [] })).m)
+  settled_within false n m d e ok ok' w = subst (λ (y : Answerer). Within n (answer_left y.m)) (sym (unsettled exec m.stage (record { m = m; device = d; done = [] }) e)) w
   settled_within true n m d e ok ok' w = let st : m.stage ≡ RunDevice = run_is m.stage e in let from : Answerer = record { m = m; device = d; done = [] } in
       let x = exec d (answer_code m) m.space in let k : ℕ = heads_of (style_of m.wiring) in let ran : Answer = ran_with (record m { space = x.space }) x.bad in
       let same : settle exec from ≡ settle_at exec RunDevice from = ap (λ (s : AnswerStage). settle_at exec s from) st in
@@ -532,7 +467,8 @@ module _ (exec : Device) where
   least : (n : ℕ) (b : Answer) → AnswerOk b → IsAnswerStepping b → Within n (answer_left b) → 0 < n
   least n b ok runs w = (one_less n (answer_left b) (answer_next b) (λ v. answer_after (answer_told b v) (answer_fed b v)) (answer_steps_by_table b ok runs) w).0
 
-  rest_of : (n : ℕ) (b : Answer) (v : ℕ) → AnswerOk b → IsAnswerStepping b → answer_told b v ≡ None → Within n (answer_left b) → Within (n - 1) (answer_left (answer_fed b v))
+  rest_of : (n : ℕ) (b : Answer) (v : ℕ) → AnswerOk b → IsAnswerStepping b → answer_told b v ≡ None → Within n (answer_left b)
+      → Within (n - 1) (answer_left (answer_fed b v))
   rest_of n b v ok runs e w = subst (λ (told : Option AnswerOutcome). Within (n - 1) (answer_after told (answer_fed b v))) e ((one_less n (answer_left b) (answer_next b) (λ v. answer_after (answer_told b v) (answer_fed b v)) (answer_steps_by_table b ok runs) w).1 v)
 
   module _ (is_state : List ℕ → Type 0) (room_of : List ℕ → ℕ) where
@@ -545,7 +481,8 @@ module _ (exec : Device) where
       pub behind_line : b'.stage ≢ TakeLine
       pub within : AnswerOk b' → Within (most - i) (answer_left b')
 
-    pub going_start : (ws : List ℕ) (b : Answer) (d : List ℕ) (most : ℕ) → IsAnswerStepping b → b.stage ≢ TakeLine → (AnswerOk b → Within most (answer_left b)) → AnswerGoing ws b d most 0 ws b d
+    going_start : (ws : List ℕ) (b : Answer) (d : List ℕ) (most : ℕ) → IsAnswerStepping b → b.stage ≢ TakeLine → (AnswerOk b → Within most (answer_left b))
+        → AnswerGoing ws b d most 0 ws b d
     going_start ws b d most runs line w = record {
       keeps = λ start x done is same g e. (done, g, e);
       long = refl;
@@ -556,13 +493,16 @@ module _ (exec : Device) where
     }
 
     -- the stage behind a step that goes on
-    goes_on : (b : Answer) (d : List ℕ) (v : ℕ) → IsAnswerStepping b → answer_told b v ≡ None → ((behind b d v).m.stage ≢ AnswerRest) × ((behind b d v).m.stage ≢ RunDevice) × ((behind b d v).m.stage ≢ TakeLine)
+    goes_on : (b : Answer) (d : List ℕ) (v : ℕ) → IsAnswerStepping b → answer_told b v ≡ None
+        → ((behind b d v).m.stage ≢ AnswerRest) × ((behind b d v).m.stage ≢ RunDevice) × ((behind b d v).m.stage ≢ TakeLine)
     goes_on b d v runs e = let m : Answer = answer_fed b v in
         settled_stage (λ (s : AnswerStage). (s ≢ AnswerRest) × (s ≢ RunDevice) × (s ≢ TakeLine)) m.stage (record { m = m; device = d; done = [] }) refl
-        (λ q. (λ r. not_false (is_rest m.stage) (ap is_rest r) (fed_rests b.stage b v (not_rest_of b.stage runs.0) (not_run_of b.stage runs.1) ∙ ap ends_run e), q, λ r. not_false (is_line m.stage) (ap is_line r) (behind_at b.stage b v (not_rest_of b.stage runs.0) (not_run_of b.stage runs.1))))
+        (λ q. (λ r. not_false (is_rest m.stage) (ap is_rest r) (fed_rests b.stage b v (not_rest b.stage runs.0) (not_run b.stage runs.1) ∙ ap ends_run e), q, λ r. not_false (is_line m.stage) (ap is_line r) (behind_at b.stage b v (not_rest b.stage runs.0) (not_run b.stage runs.1))))
         (λ j. (λ q. cc, λ q. cc, λ q. cc))
 
-    pub going_more : AnswerStepAgrees exec is_state room_of → (ws : List ℕ) (b : Answer) (d : List ℕ) (most i : ℕ) (ws1 ws2 : List ℕ) (b1 b2 : Answer) (d1 d2 : List ℕ) → AnswerGoing ws b d most i ws1 b1 d1 → AnswerStep exec ws1 b1 d1 ws2 b2 d2 None → AnswerGoing ws b d most (i + 1) ws2 b2 d2
+    going_more : AnswerStepAgrees exec is_state room_of
+        → (ws : List ℕ) (b : Answer) (d : List ℕ) (most i : ℕ) (ws1 ws2 : List ℕ) (b1 b2 : Answer) (d1 d2 : List ℕ) → AnswerGoing ws b d most i ws1 b1 d1
+        → AnswerStep exec ws1 b1 d1 ws2 b2 d2 None → AnswerGoing ws b d most (i + 1) ws2 b2 d2
     going_more law ws b d most i ws1 ws2 b1 b2 d1 d2 h s = let v : ℕ = found (answer_next b1) ws1 in let y : Answerer = behind b1 d1 v in let on = goes_on b1 d1 v h.runs (sym s.told_is) in record {
       keeps = more_keeps is_state room_of ws ws1 ws2 b b1 b2 d d1 d2 None (λ q. cc) h.keeps (step_keeps is_state room_of law ws1 b1 d1 ws2 b2 d2 None h.runs s);
       long = ap (λ (l : List ℕ). length l) s.words ∙ long_act (answer_next b1) ws1 ∙ h.long;
@@ -576,27 +516,97 @@ module _ (exec : Device) where
 
     -- the last step of a run
     rests_at : (b : Answer) (d : List ℕ) (v : ℕ) (o : AnswerOutcome) → IsAnswerStepping b → answer_told b v ≡ Some o → (behind b d v).m.stage ≡ AnswerRest
-    rests_at b d v o runs e = let m : Answer = answer_fed b v in let r : m.stage ≡ AnswerRest = rest_is m.stage (fed_rests b.stage b v (not_rest_of b.stage runs.0) (not_run_of b.stage runs.1) ∙ ap ends_run e) in
-        ap (λ (y : Answerer). y.m.stage) (unsettled m.stage (record { m = m; device = d; done = [] }) (ap is_run r)) ∙ r
+    rests_at b d v o runs e = let m : Answer = answer_fed b v in let r : m.stage ≡ AnswerRest = rest_is m.stage (fed_rests b.stage b v (not_rest b.stage runs.0) (not_run b.stage runs.1) ∙ ap ends_run e) in
+        ap (λ (y : Answerer). y.m.stage) (unsettled exec m.stage (record { m = m; device = d; done = [] }) (ap is_run r)) ∙ r
 
-    pub step_rests : (ws : List ℕ) (b : Answer) (d : List ℕ) (ws' : List ℕ) (b' : Answer) (d' : List ℕ) (o : AnswerOutcome) → IsAnswerStepping b → AnswerStep exec ws b d ws' b' d' (Some o) → b'.stage ≡ AnswerRest
+    step_rests : (ws : List ℕ) (b : Answer) (d : List ℕ) (ws' : List ℕ) (b' : Answer) (d' : List ℕ) (o : AnswerOutcome) → IsAnswerStepping b
+        → AnswerStep exec ws b d ws' b' d' (Some o) → b'.stage ≡ AnswerRest
     step_rests ws b d ws' b' d' o runs s = ap (λ (a : Answer). a.stage) s.machine ∙ rests_at b d (found (answer_next b) ws) o runs (sym s.told_is)
 
-    pub step_serves : (ws : List ℕ) (b : Answer) (d : List ℕ) (ws' : List ℕ) (b' : Answer) (d' : List ℕ) (o : AnswerOutcome) → b.stage ≢ TakeLine → AnswerStep exec ws b d ws' b' d' (Some o) → o ≡ Served
+    step_serves : (ws : List ℕ) (b : Answer) (d : List ℕ) (ws' : List ℕ) (b' : Answer) (d' : List ℕ) (o : AnswerOutcome) → b.stage ≢ TakeLine
+        → AnswerStep exec ws b d ws' b' d' (Some o) → o ≡ Served
     step_serves ws b d ws' b' d' Idle n s = absurd (n ((idle_told b (found (answer_next b) ws)).0 (sym s.told_is)).0)
     step_serves ws b d ws' b' d' Served n s = refl
 
-    pub going_ends : AnswerStepAgrees exec is_state room_of → (ws : List ℕ) (b : Answer) (d : List ℕ) (most i : ℕ) (ws1 ws2 : List ℕ) (b1 b2 : Answer) (d1 d2 : List ℕ) (o : AnswerOutcome) → AnswerGoing ws b d most i ws1 b1 d1 → AnswerStep exec ws1 b1 d1 ws2 b2 d2 (Some o) → AnswerKeeps exec is_state room_of ws b d ws2 b2 d2 (Some o)
+    going_ends : AnswerStepAgrees exec is_state room_of
+        → (ws : List ℕ) (b : Answer) (d : List ℕ) (most i : ℕ) (ws1 ws2 : List ℕ) (b1 b2 : Answer) (d1 d2 : List ℕ) (o : AnswerOutcome)
+        → AnswerGoing ws b d most i ws1 b1 d1 → AnswerStep exec ws1 b1 d1 ws2 b2 d2 (Some o) → AnswerKeeps exec is_state room_of ws b d ws2 b2 d2 (Some o)
     going_ends law ws b d most i ws1 ws2 b1 b2 d1 d2 o h s = let e : o ≡ Served = step_serves ws1 b1 d1 ws2 b2 d2 o h.behind_line s in
         more_keeps is_state room_of ws ws1 ws2 b b1 b2 d d1 d2 (Some o) (served_only o e) h.keeps (step_keeps is_state room_of law ws1 b1 d1 ws2 b2 d2 (Some o) h.runs s)
 
     -- it isn't longer
-    pub going_stops : (ws : List ℕ) (b : Answer) (d : List ℕ) (most i : ℕ) (ws' : List ℕ) (b' : Answer) (d' : List ℕ) → AnswerGoing ws b d most i ws' b' d' → AnswerOk b' → most ≤ i → ⊥
+    going_stops : (ws : List ℕ) (b : Answer) (d : List ℕ) (most i : ℕ) (ws' : List ℕ) (b' : Answer) (d' : List ℕ) → AnswerGoing ws b d most i ws' b' d'
+        → AnswerOk b' → most ≤ i → ⊥
     going_stops ws b d most i ws' b' d' h ok le = let p : 0 < most - i = least (most - i) b' ok h.runs (h.within ok) in omega (arith, p, le)
+
+    -- ---- a run whose block is moved at once
+
+    -- a step that the device doesn't follow
+    step_of : (ws : List ℕ) (b : Answer) (d : List ℕ) → let v = found (answer_next b) ws in AnswerOk b → v < 2 ^ 64 → answer_told b v ≡ None
+        → AnswerOk (answer_fed b v) → (answer_fed b v).stage ≢ RunDevice
+        → AnswerStep exec ws b d (act (answer_next b) ws) (answer_fed b v) d None
+    step_of ws b d ok small told fed plain = let v : ℕ = found (answer_next b) ws in let m : Answer = answer_fed b v in
+        let e : settle exec (record { m = m; device = d; done = [] }) ≡ record { m = m; device = d; done = [] } = unsettled exec m.stage (record { m = m; device = d; done = [] }) (not_run m.stage plain) in
+        record { right = ok; fed = fed; small = small; words = refl; machine = ap (λ (y : Answerer). y.m) (sym e); device = ap (λ (y : Answerer). y.device) (sym e); told_is = sym told }
+
+    -- so many steps more
+    going_moves : AnswerStepAgrees exec is_state room_of
+        → (n : ℕ) (ws : List ℕ) (b : Answer) (d : List ℕ) (most i : ℕ) (ws1 ws2 : List ℕ) (b1 b2 : Answer) (d1 : List ℕ) → AnswerGoing ws b d most i ws1 b1 d1
+        → AnswerMoves n ws1 b1 ws2 b2 → AnswerGoing ws b d most (i + n) ws2 b2 d1
+    going_moves law zero ws b d most i ws1 ws2 b1 b2 d1 h m = let e : i ≡ i + zero = omega arith in
+        subst (λ (z : ℕ × List ℕ × Answer). AnswerGoing ws b d most z.0 z.1 z.2 d1) (λ j. (e j, sym m.0 j, sym m.1 j)) h
+    going_moves law (suc n) ws b d most i ws1 ws2 b1 b2 d1 h m = let v : ℕ = found (answer_next b1) ws1 in let on : List ℕ = act (answer_next b1) ws1 in let e : i + 1 + n ≡ i + suc n = omega arith in
+        subst (λ (k : ℕ). AnswerGoing ws b d most k ws2 b2 d1) e
+        (going_moves law n ws b d most (i + 1) on ws2 (answer_fed b1 v) b2 d1 (going_more law ws b d most i ws1 on b1 (answer_fed b1 v) d1 d1 h (step_of ws1 b1 d1 m.0 m.2 m.3 m.4 m.5)) m.6)
+
+    -- after i turns of the loop so many steps are taken
+    pub record AnswerWent (ws : List ℕ) (b : Answer) (d : List ℕ) (most i : ℕ) (ws' : List ℕ) (b' : Answer) (d' : List ℕ) : Type 0 where
+      pub taken : ℕ
+      pub least_taken : i ≤ taken
+      pub going : AnswerGoing ws b d most taken ws' b' d'
+
+    pub went_start : (ws : List ℕ) (b : Answer) (d : List ℕ) (most : ℕ) → IsAnswerStepping b → b.stage ≢ TakeLine → (AnswerOk b → Within most (answer_left b))
+        → AnswerWent ws b d most 0 ws b d
+    went_start ws b d most runs line w = record { taken = 0; least_taken = omega arith; going = going_start ws b d most runs line w }
+
+    -- the state after the words that are moved at once
+    after_moves : AnswerStepAgrees exec is_state room_of
+        → (ws : List ℕ) (b : Answer) (d : List ℕ) (most i : ℕ) (ws1 ws2 : List ℕ) (b1 b2 : Answer) (d1 d2 : List ℕ) (told : Option AnswerOutcome) (h : AnswerWent ws b d most i ws1 b1 d1) (s : AnswerStride exec ws1 b1 d1 ws2 b2 d2 told)
+        → AnswerGoing ws b d most (h.taken + s.count) s.words s.answer d1
+    after_moves law ws b d most i ws1 ws2 b1 b2 d1 d2 told h s = going_moves law s.count ws b d most h.taken ws1 s.words b1 s.answer d1 h.going s.moves
+
+    pub went_more : AnswerStepAgrees exec is_state room_of
+        → (ws : List ℕ) (b : Answer) (d : List ℕ) (most i : ℕ) (ws1 ws2 : List ℕ) (b1 b2 : Answer) (d1 d2 : List ℕ) → AnswerWent ws b d most i ws1 b1 d1
+        → AnswerStride exec ws1 b1 d1 ws2 b2 d2 None → AnswerWent ws b d most (i + 1) ws2 b2 d2
+    went_more law ws b d most i ws1 ws2 b1 b2 d1 d2 h s = record {
+      taken = h.taken + s.count + 1;
+      least_taken = let l = h.least_taken in omega (arith, l);
+      going = going_more law ws b d most (h.taken + s.count) s.words ws2 s.answer b2 d1 d2 (after_moves law ws b d most i ws1 ws2 b1 b2 d1 d2 None h s) s.step;
+    }
+
+    pub went_rests : AnswerStepAgrees exec is_state room_of
+        → (ws : List ℕ) (b : Answer) (d : List ℕ) (most i : ℕ) (ws1 ws2 : List ℕ) (b1 b2 : Answer) (d1 d2 : List ℕ) (o : AnswerOutcome)
+        → AnswerWent ws b d most i ws1 b1 d1 → AnswerStride exec ws1 b1 d1 ws2 b2 d2 (Some o) → b2.stage ≡ AnswerRest
+    went_rests law ws b d most i ws1 ws2 b1 b2 d1 d2 o h s = step_rests s.words s.answer d1 ws2 b2 d2 o (after_moves law ws b d most i ws1 ws2 b1 b2 d1 d2 (Some o) h s).runs s.step
+
+    pub went_serves : AnswerStepAgrees exec is_state room_of
+        → (ws : List ℕ) (b : Answer) (d : List ℕ) (most i : ℕ) (ws1 ws2 : List ℕ) (b1 b2 : Answer) (d1 d2 : List ℕ) (o : AnswerOutcome)
+        → AnswerWent ws b d most i ws1 b1 d1 → AnswerStride exec ws1 b1 d1 ws2 b2 d2 (Some o) → o ≡ Served
+    went_serves law ws b d most i ws1 ws2 b1 b2 d1 d2 o h s = step_serves s.words s.answer d1 ws2 b2 d2 o (after_moves law ws b d most i ws1 ws2 b1 b2 d1 d2 (Some o) h s).behind_line s.step
+
+    pub went_ends : AnswerStepAgrees exec is_state room_of
+        → (ws : List ℕ) (b : Answer) (d : List ℕ) (most i : ℕ) (ws1 ws2 : List ℕ) (b1 b2 : Answer) (d1 d2 : List ℕ) (o : AnswerOutcome)
+        → AnswerWent ws b d most i ws1 b1 d1 → AnswerStride exec ws1 b1 d1 ws2 b2 d2 (Some o) → AnswerKeeps exec is_state room_of ws b d ws2 b2 d2 (Some o)
+    went_ends law ws b d most i ws1 ws2 b1 b2 d1 d2 o h s = going_ends law ws b d most (h.taken + s.count) s.words ws2 s.answer b2 d1 d2 o (after_moves law ws b d most i ws1 ws2 b1 b2 d1 d2 (Some o) h s) s.step
+
+    pub went_stops : (ws : List ℕ) (b : Answer) (d : List ℕ) (most i : ℕ) (ws' : List ℕ) (b' : Answer) (d' : List ℕ) → AnswerWent ws b d most i ws' b' d'
+        → AnswerOk b' → most ≤ i → ⊥
+    went_stops ws b d most i ws' b' d' h ok le = going_stops ws b d most h.taken ws' b' d' h.going ok (let l = h.least_taken in omega (arith, l, le))
 
     -- ---- whole runs
 
-    first_keeps : AnswerBeginAgrees → (ws ws' : List ℕ) (b b0 b' : Answer) (d d' : List ℕ) (told : Option AnswerOutcome) → b.stage ≡ AnswerRest → b0 ≡ answer_begun b → AnswerKeeps exec is_state room_of ws b0 d ws' b' d' told → AnswerKeeps exec is_state room_of ws b d ws' b' d' told
+    first_keeps : AnswerBeginAgrees → (ws ws' : List ℕ) (b b0 b' : Answer) (d d' : List ℕ) (told : Option AnswerOutcome) → b.stage ≡ AnswerRest
+        → b0 ≡ answer_begun b → AnswerKeeps exec is_state room_of ws b0 d ws' b' d' told → AnswerKeeps exec is_state room_of ws b d ws' b' d' told
     first_keeps law ws ws' b b0 b' d d' told rests e k = λ start x done is same g h.
         subst (λ (z : Answer). AnswerKeeps exec is_state room_of ws z d ws' b' d' told) e k start x done is same (law exec start ws x (record { m = b; device = d; done = done }) rests g) tt
 
@@ -604,24 +614,30 @@ module _ (exec : Device) where
     begun_steps b b0 e = subst (λ (z : Answer). IsAnswerStepping z) (sym e) (λ q. cc, λ q. cc)
 
     -- the line was down
-    pub run_idle : AnswerBeginAgrees → AnswerStepAgrees exec is_state room_of → (ws ws' : List ℕ) (b b0 b' : Answer) (d d' : List ℕ) (o : AnswerOutcome) → b.stage ≡ AnswerRest → b0 ≡ answer_begun b → AnswerStep exec ws b0 d ws' b' d' (Some o) → AnswerKeeps exec is_state room_of ws b d ws' b' d' (Some o)
+    pub run_idle : AnswerBeginAgrees → AnswerStepAgrees exec is_state room_of → (ws ws' : List ℕ) (b b0 b' : Answer) (d d' : List ℕ) (o : AnswerOutcome)
+        → b.stage ≡ AnswerRest → b0 ≡ answer_begun b → AnswerStep exec ws b0 d ws' b' d' (Some o) → AnswerKeeps exec is_state room_of ws b d ws' b' d' (Some o)
     run_idle begin step ws ws' b b0 b' d d' o rests e s = first_keeps begin ws ws' b b0 b' d d' (Some o) rests e (step_keeps is_state room_of step ws b0 d ws' b' d' (Some o) (begun_steps b b0 e) s)
 
     -- the line was up
-    pub run_served : AnswerBeginAgrees → AnswerStepAgrees exec is_state room_of → (ws ws1 ws2 : List ℕ) (b b0 b1 b2 : Answer) (d d1 d2 : List ℕ) (o : AnswerOutcome) → b.stage ≡ AnswerRest → b0 ≡ answer_begun b → AnswerStep exec ws b0 d ws1 b1 d1 None → o ≡ Served
+    pub run_served : AnswerBeginAgrees → AnswerStepAgrees exec is_state room_of
+        → (ws ws1 ws2 : List ℕ) (b b0 b1 b2 : Answer) (d d1 d2 : List ℕ) (o : AnswerOutcome) → b.stage ≡ AnswerRest → b0 ≡ answer_begun b
+        → AnswerStep exec ws b0 d ws1 b1 d1 None → o ≡ Served
         → AnswerKeeps exec is_state room_of ws1 b1 d1 ws2 b2 d2 (Some o) → AnswerKeeps exec is_state room_of ws b d ws2 b2 d2 (Some o)
     run_served begin step ws ws1 ws2 b b0 b1 b2 d d1 d2 o rests e s is k =
         first_keeps begin ws ws2 b b0 b2 d d2 (Some o) rests e (more_keeps is_state room_of ws ws1 ws2 b0 b1 b2 d d1 d2 (Some o) (served_only o is) (step_keeps is_state room_of step ws b0 d ws1 b1 d1 None (begun_steps b b0 e) s) k)
 
-    pub run_goes_on : (ws ws' : List ℕ) (b b0 b' : Answer) (d d' : List ℕ) → b0 ≡ answer_begun b → AnswerStep exec ws b0 d ws' b' d' None → IsAnswerStepping b' × (b'.stage ≢ TakeLine)
+    pub run_goes_on : (ws ws' : List ℕ) (b b0 b' : Answer) (d d' : List ℕ) → b0 ≡ answer_begun b → AnswerStep exec ws b0 d ws' b' d' None
+        → IsAnswerStepping b' × (b'.stage ≢ TakeLine)
     run_goes_on ws ws' b b0 b' d d' e s = let on = goes_on b0 d (found (answer_next b0) ws) (begun_steps b b0 e) (sym s.told_is) in
         subst (λ (z : Answer). IsAnswerStepping z × (z.stage ≢ TakeLine)) (sym s.machine) ((on.0, on.1), on.2)
 
-    pub run_long : (ws ws' : List ℕ) (b b0 b' : Answer) (d d' : List ℕ) (o : Option AnswerOutcome) → b0 ≡ answer_begun b → AnswerStep exec ws b0 d ws' b' d' o → length ws ≡ 8 + block_of b.wiring → length ws' ≡ 8 + block_of b'.wiring
+    pub run_long : (ws ws' : List ℕ) (b b0 b' : Answer) (d d' : List ℕ) (o : Option AnswerOutcome) → b0 ≡ answer_begun b → AnswerStep exec ws b0 d ws' b' d' o
+        → length ws ≡ 8 + block_of b.wiring → length ws' ≡ 8 + block_of b'.wiring
     run_long ws ws' b b0 b' d d' o e s long = let v : ℕ = found (answer_next b0) ws in
         ap (λ (l : List ℕ). length l) s.words ∙ long_act (answer_next b0) ws ∙ long ∙ ap (λ (w : Wiring). 8 + block_of w) (sym (ap (λ (a : Answer). a.wiring) s.machine ∙ behind_wired b0 d v ∙ ap (λ (a : Answer). a.wiring) e))
 
-    pub run_within : (ws ws' : List ℕ) (b b0 b' : Answer) (d d' : List ℕ) (n : ℕ) → b0 ≡ answer_begun b → AnswerStep exec ws b0 d ws' b' d' None → n ≡ block_of b.wiring → AnswerOk b' → Within (2 * n + 10) (answer_left b')
+    pub run_within : (ws ws' : List ℕ) (b b0 b' : Answer) (d d' : List ℕ) (n : ℕ) → b0 ≡ answer_begun b → AnswerStep exec ws b0 d ws' b' d' None
+        → n ≡ block_of b.wiring → AnswerOk b' → Within (2 * n + 10) (answer_left b')
     run_within ws ws' b b0 b' d d' n e s k ok = let v : ℕ = found (answer_next b0) ws in let m : ℕ = block_of b.wiring in
         let whole : Within (2 * m + 11) (answer_left b0) = subst (λ (z : Answer). Within (2 * m + 11) (answer_left z)) (sym e) (subst (Within (2 * m + 11)) (sym (answers_by_table b)) (answers_within b.wiring)) in
         let i : 2 * m + 11 - 1 ≡ 2 * n + 10 = omega (arith, k) in

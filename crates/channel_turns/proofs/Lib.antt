@@ -1,6 +1,4 @@
-pub mod AskFeeds
 pub mod AskRuns
-pub mod AnswerFeeds
 pub mod AnswerRuns
 pub mod Standings
 pub mod Tellings

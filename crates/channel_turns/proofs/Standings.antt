@@ -2,7 +2,7 @@
 use Rattle.std.proofs.Common.{◌≡◌, ⊎_elim, ℕ, suc, ◌+◌, ◌^◌, ◌<◌, ◌≤◌, Bool, true, false, List, [], ◌∷◌, ◌++◌, length, take, drop, refl, sym, ap, ◌∙◌, subst, arith, length-append, length-drop}
 use Rattle.std.specs.Prelude.{Option, Some, None, Result, Ok, Err, get_or, not}
 use Rattle.std.specs.Int.{from_bool}
-use Rattle.std.proofs.lemmas.List.{map-append, append-nil, drop_all, take_all}
+use Rattle.std.proofs.lemmas.List.{length-map, map-append, append-nil, drop_all, take_all}
 use Rattle.std.proofs.Math.Seq.{get_or-append_seam}
 use Rattle.pcc_bytes.specs.Bytes.{IsBytes}
 use Rattle.pcc_exec.specs.Execution.{IsSpace, Leaves}
@@ -26,6 +26,7 @@ use Rattle.pcc_steps.specs.Answering.{Answer, AnswerOk, IsNewAnswer}
 use Rattle.pcc_steps.specs.Agree.{flying, Core, Asker, asker_begun, new_asker, Answerer, Agree, Agreed, quiet, resting, pose_at, turn_at, Fits, Row, IsDone, flight, answered, closed}
 use Rattle.pcc_steps.proofs.Agreement.{budget_agrees, device_stays, look_begin_agrees, post_begin_agrees, starts_agreed}
 use Rattle.pcc_steps.proofs.Bits.{finished_set}
+use Rattle.pcc_steps.proofs.Lists.{eight_more, one_more}
 use Rattle.channel_core.specs.CommandHistory.{CommandHistory, posts_of}
 use Rattle.channel_core.specs.Readying.{IsReadied, ReadiedBy, ReadyCommand}
 use Rattle.channel_core.specs.Refusals.{refusal_of}
@@ -47,13 +48,6 @@ not_both b t f = cc
 
 -- ---- lists
 
-lengths : (rs : List Record) → length (exchanges_of rs) ≡ length rs
-lengths [] = refl
-lengths (r ∷ rs) = ap suc (lengths rs)
-
-eight : (a b c d e f g h : ℕ) (l : List ℕ) → length (a ∷ b ∷ c ∷ d ∷ e ∷ f ∷ g ∷ h ∷ l) ≡ 8 + length l
-eight a b c d e f g h l = omega arith
-
 pub over_long : (space bytes : List ℕ) → length bytes ≤ length space → length (over space bytes) ≡ length space
 over_long space bytes le = let a = length-append bytes (drop (length bytes) space) in let d = length-drop (length bytes) space in omega (arith, a, d, le)
 
@@ -64,9 +58,6 @@ whole_words n new items e l = let none : drop (length new) items ≡ [] = drop_a
 
 last_same : (xs : List Exchange) (x y : Exchange) → xs ++ x ∷ [] ≡ xs ++ y ∷ [] → x ≡ y
 last_same xs x y e = sym (get_or-append_seam xs x [] x) ∙ ap (λ (l : List Exchange). get_or l (length xs) x) e ∙ get_or-append_seam xs y [] x
-
-one_more : (xs ys : List Exchange) (e : Exchange) → ys ≡ xs ++ e ∷ [] → length ys ≡ length xs + 1
-one_more xs ys e p = ap (λ (l : List Exchange). length l) p ∙ length-append xs (e ∷ [])
 
 not_more : (xs ys : List Exchange) (e : Exchange) → ys ≡ xs → ys ≡ xs ++ e ∷ [] → ⊥
 not_more xs ys e p q = let l = ap (λ (l : List Exchange). length l) p in let k = one_more xs ys e q in omega (arith, l, k)
@@ -452,7 +443,7 @@ module _ (exec : Device) where
     -- ---- a post
 
     pub posts_left : (p : LinkState) (rs : List Record) (x : Bool) → Standing p rs None x → length rs < 4096 → p.ask.posts < 4096
-    posts_left p rs x k few = let a = k.agree.1.2.posts in let b : flying p.ask.in_flight ≡ 0 = ap flying k.carries in let c : length (exchanges_of rs) ≡ length rs = lengths rs in omega (arith, a, b, c, few)
+    posts_left p rs x k few = let a = k.agree.1.2.posts in let b : flying p.ask.in_flight ≡ 0 = ap flying k.carries in let c : length (exchanges_of rs) ≡ length rs = length-map rs exchange_of_record in omega (arith, a, b, c, few)
 
     -- the command fits the channel
     pub record Fitting (p : LinkState) (code : ℕ) (bytes : List ℕ) : Type 0 where
@@ -497,7 +488,7 @@ module _ (exec : Device) where
           agree = subst (λ (z : List ℕ × List ℕ). Agree exec first z.0 (new_asker p.ask opening) (record { m = p.answer; device = z.1; done = [] })) (λ i. (sym ew i, sym ed i)) g;
           rests = new.1;
           quiet = new'.1;
-          long = ap (λ (l : List ℕ). length l) ew ∙ (eight (opening_word (style_of w) w) 0 0 0 0 0 0 0 (opening_header (style_of w) w ++ words_of opening) ∙ ap (λ (n : ℕ). 8 + n) (ap (λ (x : List ℕ). length x) (sym new.3) ∙ ok.sized.shown));
+          long = ap (λ (l : List ℕ). length l) ew ∙ (eight_more (opening_word (style_of w) w) 0 0 0 0 0 0 0 (opening_header (style_of w) w ++ words_of opening) ∙ ap (λ (n : ℕ). 8 + n) (ap (λ (x : List ℕ). length x) (sym new.3) ∙ ok.sized.shown));
           start = is;
           room = room ∙ ap (λ (w : Wiring). w.room) (sym wired);
           wired = subst (IsHeadOf head) (sym wired) hd;

@@ -1,7 +1,7 @@
 //! The words of a channel with the machines of both ends and the device.
 
 ghost use Rattle.std.specs.Prelude.{◌≡◌, ◌≢◌, ◌≤◌, ◌<◌, ◌+◌, ◌*◌, ℕ, true, false, Some, length, get_or, IfOk};
-ghost use Rattle.pcc_bytes.specs.Bytes.{IsBytes};
+ghost use Rattle.pcc_steps.specs.Kinds.{IsHeaded};
 ghost use Rattle.pcc_steps.specs.declared.ask.AskStage.TheVariants.{AskRest};
 ghost use Rattle.pcc_steps.specs.declared.ask.AskOutcome.TheVariants.{Posted, Clear};
 ghost use Rattle.pcc_steps.specs.declared.answer.AnswerStage.TheVariants.{AnswerRest};
@@ -11,6 +11,7 @@ ghost use Rattle.channel_turns.specs.WordRuns.{AnswerKeeps, AskSteps, LineWas, l
 ghost use Rattle.channel_turns.specs.Links.{IsNewLink};
 
 use crate::runs::{answer_run, look_run, post_run};
+use pcc_bytes::are_bytes;
 use pcc_exec::Executor;
 use pcc_io::NoMemory;
 use pcc_steps::{
@@ -50,7 +51,7 @@ impl<E: Executor> Link<E> {
         ensures { IfOk result (IsNewLink E.is_state E.room_of wiring (E.state device) opening.now) }
     {
         device.room();
-        fit(opening);
+        are_bytes(opening);
         Ok(Link {
             words: opening_words(alloc, &wiring, opening)?,
             ask: AskState::new(alloc, wiring, opening)?,
@@ -80,7 +81,7 @@ impl<E: Executor> Link<E> {
         requires free { self.old.ask.in_flight ≡ false }
         requires fits { length bytes.now ≤ self.old.ask.wiring.room }
         requires posts { self.old.ask.posts < 4096 }
-        requires code { self.old.ask.wiring.kind ≤ 2 → code < 256 }
+        requires code { IsHeaded self.old.ask.wiring.kind → code < 256 }
         requires long { length self.old.words ≡ 8 + block_of self.old.ask.wiring }
         ensures steps { AskSteps self.old.words (ask_begun self.old.ask code bytes.now) self.new.words self.new.ask (Some Posted) }
         ensures count { self.new.ask.steps ≤ self.old.ask.steps + (block_of self.old.ask.wiring + 7) }
@@ -109,7 +110,8 @@ impl<E: Executor> Link<E> {
         requires long { length self.old.words ≡ 8 + block_of self.old.answer.wiring }
         requires room { E.room_of self.old.device ≡ self.old.answer.wiring.room }
         requires same { self.old.answer.wiring ≡ self.old.ask.wiring }
-        ensures keeps { AnswerKeeps E.exec_of E.is_state E.room_of self.old.words self.old.answer self.old.device self.new.words self.new.answer self.new.device (Some result) }
+        ensures keeps { AnswerKeeps E.exec_of E.is_state E.room_of self.old.words self.old.answer self.old.device self.new.words self.new.answer self.new.device
+            (Some result) }
         ensures rests { self.new.answer.stage ≡ AnswerRest }
         ensures long { length self.new.words ≡ length self.old.words }
         ensures line { LineWas result self.old.words }
@@ -118,11 +120,4 @@ impl<E: Executor> Link<E> {
         let block = self.ask.wiring().block();
         answer_run(&mut self.words, &mut self.answer, &mut self.device, block)
     }
-}
-
-// A slice of bytes has bytes. It does nothing.
-fn fit(bytes: &[u8])
-    ensures { IsBytes bytes.now }
-{
-    let _ = bytes;
 }

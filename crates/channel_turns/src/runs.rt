@@ -5,18 +5,20 @@ ghost use Rattle.pcc_steps.specs.declared.ask.AskStage.TheVariants.{AskRest, Loo
 ghost use Rattle.pcc_steps.specs.declared.ask.AskOutcome.TheVariants.{Posted, Clear};
 ghost use Rattle.pcc_steps.specs.declared.answer.AnswerStage.TheVariants.{AnswerRest, TakeLine};
 ghost use Rattle.pcc_steps.specs.declared.answer.AnswerOutcome.TheVariants.{Idle, Served};
+ghost use Rattle.pcc_steps.specs.Kinds.{IsHeaded};
 ghost use Rattle.pcc_steps.specs.Wires.{block_of, sees_done};
 ghost use Rattle.pcc_steps.specs.Asking.{AskOk, IsAskRunning, ask_begun, ask_looking};
 ghost use Rattle.pcc_steps.specs.Answering.{AnswerOk, IsAnswerStepping};
 ghost use Rattle.pcc_steps.specs.Runs.{Within};
 ghost use Rattle.pcc_steps.specs.Walk.{answer_left, ask_left};
 ghost use Rattle.pcc_steps.specs.Agree.{settle};
-ghost use Rattle.channel_turns.specs.WordRuns.{AnswerKeeps, AnswerStep, AskStep, AskSteps, LineWas, look_most};
+ghost use Rattle.channel_turns.specs.WordRuns.{AnswerKeeps, AnswerStep, AnswerStride, AskStep, AskSteps, AskStride, LineWas, look_most};
 
 use pcc_exec::Executor;
 use pcc_steps::{
-    Action, AnswerOutcome, AnswerState, AskOutcome, AskState, answer_execute, answer_feed,
-    answer_next, answer_start, answering_laws, ask_begin, ask_feed, ask_look, ask_next, perform,
+    Action, AnswerOutcome, AnswerState, AskOutcome, AskState, answer_block, answer_execute,
+    answer_feed, answer_next, answer_start, answering_laws, ask_begin, ask_block, ask_feed,
+    ask_look, ask_next, perform,
 };
 
 /// The place of the word that says whether a command is complete, with whose load a look begins.
@@ -36,8 +38,19 @@ fn ask_step(words: &mut [u64], ask: &mut AskState) -> Option<AskOutcome>
     ask_feed(ask, value)
 }
 
-// The word steps that are left of a run behind its load of completion, at most so many.
-#[tactic(auto, using(crate::proofs::AskRuns::going_start, crate::proofs::AskRuns::going_sees))]
+// The words of the block before its last one at once, and then the next word step.
+#[inline(always)]
+fn ask_stride(words: &mut [u64], ask: &mut AskState) -> Option<AskOutcome>
+    requires runs { IsAskRunning ask.old }
+    requires long { length words.old ≡ 8 + block_of ask.old.wiring }
+    ensures { AskStride words.old ask.old words.new ask.new result }
+{
+    ask_block(words, ask);
+    ask_step(words, ask)
+}
+
+// The word steps that are left of a run after its load of completion, at most `most`.
+#[tactic(auto, using(crate::proofs::AskRuns::went_start))]
 fn finish_ask(words: &mut [u64], ask: &mut AskState, most: u32) -> AskOutcome
     requires runs { IsAskRunning ask.old }
     requires behind { ask.old.stage ≢ LookWord }
@@ -48,7 +61,7 @@ fn finish_ask(words: &mut [u64], ask: &mut AskState, most: u32) -> AskOutcome
     ensures seen { result ≢ Clear }
 {
     for _ in 0..most {
-        if let Some(outcome) = ask_step(words, ask) {
+        if let Some(outcome) = ask_stride(words, ask) {
             return outcome;
         }
     }
@@ -63,7 +76,7 @@ pub(crate) fn post_run(words: &mut [u64], ask: &mut AskState, code: u32, bytes: 
     requires free { ask.old.in_flight ≡ false }
     requires fits { length bytes.now ≤ ask.old.wiring.room }
     requires posts { ask.old.posts < 4096 }
-    requires code { ask.old.wiring.kind ≤ 2 → code < 256 }
+    requires code { IsHeaded ask.old.wiring.kind → code < 256 }
     requires long { length words.old ≡ 8 + block_of ask.old.wiring }
     ensures steps { AskSteps words.old (ask_begun ask.old code bytes.now) words.new ask.new (Some Posted) }
     ensures count { ask.new.steps ≤ ask.old.steps + (block_of ask.old.wiring + 7) }
@@ -131,7 +144,24 @@ fn answer_step<E: Executor>(
     told
 }
 
-// The word steps that are left of a run behind its first one, at most so many.
+// The words of the block before its last one at once, and then the next word step, with the device's turn.
+#[inline(always)]
+fn answer_stride<E: Executor>(
+    words: &mut [u64],
+    answer: &mut AnswerState,
+    device: &mut E,
+) -> Option<AnswerOutcome>
+    requires steps { IsAnswerStepping answer.old }
+    requires long { length words.old ≡ 8 + block_of answer.old.wiring }
+    requires room { E.room_of (E.state device.old) ≡ answer.old.wiring.room }
+    ensures step { AnswerStride E.exec_of words.old answer.old (E.state device.old) words.new answer.new (E.state device.new) result }
+    ensures room { E.room_of (E.state device.new) ≡ answer.old.wiring.room }
+{
+    answer_block(words, answer);
+    answer_step(words, answer, device)
+}
+
+// The word steps that are left of a run after its first one, at most `most`.
 fn finish_answer<E: Executor>(
     words: &mut [u64],
     answer: &mut AnswerState,
@@ -143,14 +173,15 @@ fn finish_answer<E: Executor>(
     requires long { length words.old ≡ 8 + block_of answer.old.wiring }
     requires room { E.room_of (E.state device.old) ≡ answer.old.wiring.room }
     requires within { AnswerOk answer.old → Within most (answer_left answer.old) }
-    ensures keeps { AnswerKeeps E.exec_of E.is_state E.room_of words.old answer.old (E.state device.old) words.new answer.new (E.state device.new) (Some result) }
+    ensures keeps { AnswerKeeps E.exec_of E.is_state E.room_of words.old answer.old (E.state device.old) words.new answer.new (E.state device.new)
+        (Some result) }
     ensures served { result ≡ Served }
     ensures rests { answer.new.stage ≡ AnswerRest }
     ensures long { length words.new ≡ length words.old }
 {
     answering_laws::<E>();
     for _ in 0..most {
-        if let Some(outcome) = answer_step(words, answer, device) {
+        if let Some(outcome) = answer_stride(words, answer, device) {
             return outcome;
         }
     }
@@ -170,7 +201,8 @@ pub(crate) fn answer_run<E: Executor>(
     requires rests { answer.old.stage ≡ AnswerRest }
     requires long { length words.old ≡ 8 + block_of answer.old.wiring }
     requires room { E.room_of (E.state device.old) ≡ answer.old.wiring.room }
-    ensures keeps { AnswerKeeps E.exec_of E.is_state E.room_of words.old answer.old (E.state device.old) words.new answer.new (E.state device.new) (Some result) }
+    ensures keeps { AnswerKeeps E.exec_of E.is_state E.room_of words.old answer.old (E.state device.old) words.new answer.new (E.state device.new)
+        (Some result) }
     ensures rests { answer.new.stage ≡ AnswerRest }
     ensures long { length words.new ≡ length words.old }
     ensures line { LineWas result words.old }

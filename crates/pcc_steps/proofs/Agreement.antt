@@ -45,7 +45,8 @@ module _ (exec : Device) (is_state : List ℕ → Type 0) (room_of : List ℕ �
   unfolding IsAt
   of_room room d is = is
 
-  keeps_room : (room : ℕ) (d : List ℕ) (code : ℕ) (s : List ℕ) → IsAt room d → IsSpace room s → IsAt room (exec d code s).state × IsSpace room (exec d code s).space
+  keeps_room : (room : ℕ) (d : List ℕ) (code : ℕ) (s : List ℕ) → IsAt room d → IsSpace room s
+      → IsAt room (exec d code s).state × IsSpace room (exec d code s).space
   unfolding IsAt
   keeps_room room d code s is space = let k = keeps d code s is.0 (subst (λ (n : ℕ). IsSpace n s) (sym is.1) space) in ((k.state, k.room ∙ is.1), subst (λ (n : ℕ). IsSpace n (exec d code s).space) is.1 k.space)
 

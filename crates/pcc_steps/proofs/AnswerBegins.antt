@@ -16,7 +16,8 @@ module _ (exec : Device) (start : List ℕ) where
   still waiting x y c m f = f
   still (reading j) x y c m f = f
 
-  begins_at : (x : Asker) (y : Answerer) (c : Core) → Agreed exec start x (record y { m = record y.m { stage = AnswerRest } }) c → Agreed exec start x (record y { m = answer_begun y.m }) c
+  begins_at : (x : Asker) (y : Answerer) (c : Core) → Agreed exec start x (record y { m = record y.m { stage = AnswerRest } }) c
+      → Agreed exec start x (record y { m = answer_begun y.m }) c
   begins_at x y c g = let ok = g.answer_ok in record {
     ask_ok = g.ask_ok;
     answer_ok = record { wired = ok.wired; sized = ok.sized; place = tt; kept = ok.kept; header = omega arith };
@@ -34,7 +35,8 @@ module _ (exec : Device) (start : List ℕ) where
   }
 
   -- an answering run begins
-  pub begins : (y : Answerer) → y.m.stage ≡ AnswerRest → (ws : List ℕ) (x : Asker) → Agree exec start ws x y → Agree exec start ws x (record y { m = answer_begun y.m })
+  pub begins : (y : Answerer) → y.m.stage ≡ AnswerRest → (ws : List ℕ) (x : Asker) → Agree exec start ws x y
+      → Agree exec start ws x (record y { m = answer_begun y.m })
   begins y rest ws x g = (g.0, (g.1.0, g.1.1, begins_at x y g.0 (subst (λ (s : AnswerStage). Agreed exec start x (record y { m = record y.m { stage = s } }) g.0) rest g.1.2)))
 
   -- the number of steps is no part of a phase

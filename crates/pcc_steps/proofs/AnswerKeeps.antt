@@ -58,7 +58,8 @@ module _ (exec : Device) (is_state : List ℕ → Type 0) (room : ℕ) (law : (d
   still waiting x y c m f = f
   still (reading j) x y c m f = f
 
-  rung : (q : Pose) (x : Asker) (y : Answerer) (c : Core) → c.line ≢ 0 → Fits q quiet x y c → (q ≡ waiting) × Row x.m.wiring x.m.code y.done c closed 1 x.m.sent x.done
+  rung : (q : Pose) (x : Asker) (y : Answerer) (c : Core) → c.line ≢ 0 → Fits q quiet x y c
+      → (q ≡ waiting) × Row x.m.wiring x.m.code y.done c closed 1 x.m.sent x.done
   rung free x y c up f = absurd (up f.1.line)
   rung (writing j) x y c up f = absurd (up f.1.line)
   rung cleared x y c up f = absurd (up f.1.line)
@@ -69,7 +70,8 @@ module _ (exec : Device) (is_state : List ℕ → Type 0) (room : ℕ) (law : (d
   in_flight t x y c e w = subst (λ (q : Pose). Fits q t x y c) (sym e) w
 
   -- what a step within a run changes, and what it has to show anew
-  pub moves : (x : Asker) (y : Answerer) (c d : Core) (before st : AnswerStage) (kept header : ℕ) (loaded : List ℕ) → let m : Answer = record y.m { wiring = x.m.wiring; stage = st; kept = kept; header = header; loaded = loaded } in
+  pub moves : (x : Asker) (y : Answerer) (c d : Core) (before st : AnswerStage) (kept header : ℕ) (loaded : List ℕ)
+      → let m : Answer = record y.m { wiring = x.m.wiring; stage = st; kept = kept; header = header; loaded = loaded } in
       Agreed exec start x (at before x y) c → AnswerOk m → IsBetween st → d.irq < 2 → Fits (pose x.m) (turn_at st m) x (record y { m = m }) d → Agreed exec start x (record y { m = m }) d
   moves x y c d before st kept header loaded g ok between low fits = record {
     ask_ok = g.ask_ok;
@@ -88,7 +90,8 @@ module _ (exec : Device) (is_state : List ℕ → Type 0) (room : ℕ) (law : (d
   }
 
   -- the machine's own facts, at another stage of its run
-  pub steps_on : (a : Answer) (st : AnswerStage) (kept : ℕ) → AnswerOk a → kept < 2 ^ 64 → AnswerPlace st a.wiring → AnswerOk (record a { stage = st; kept = kept })
+  pub steps_on : (a : Answer) (st : AnswerStage) (kept : ℕ) → AnswerOk a → kept < 2 ^ 64 → AnswerPlace st a.wiring
+      → AnswerOk (record a { stage = st; kept = kept })
   steps_on a st kept ok small place = record { wired = ok.wired; sized = ok.sized; place = place; kept = small; header = ok.header }
 
   -- ---- taking a command
@@ -96,7 +99,8 @@ module _ (exec : Device) (is_state : List ℕ → Type 0) (room : ℕ) (law : (d
   pub rests : (x : Asker) (y : Answerer) → KeepsAt AnswerRest x y
   rests x y ws v same g f small = g
 
-  down : (v : ℕ) (x : Asker) (y : Answerer) (c : Core) → v ≡ c.line → eqb v 0 ≡ true → Agreed exec start x (at TakeLine x y) c → Agreed exec start x (at AnswerRest x y) (record c { line = 0 })
+  down : (v : ℕ) (x : Asker) (y : Answerer) (c : Core) → v ≡ c.line → eqb v 0 ≡ true → Agreed exec start x (at TakeLine x y) c
+      → Agreed exec start x (at AnswerRest x y) (record c { line = 0 })
   down v x y c same none g = let ok = g.answer_ok in let is : c.line ≡ 0 = sym same ∙ eqb-true v 0 none in subst (λ (n : ℕ). Agreed exec start x (at AnswerRest x y) (record c { line = n })) is
       (moves x y c c TakeLine AnswerRest y.m.kept y.m.header y.m.loaded g (steps_on (staged TakeLine x y) AnswerRest y.m.kept ok ok.kept tt) tt g.irq (still (pose x.m) x (at TakeLine x y) c (staged AnswerRest x y) g.fits))
 
@@ -145,7 +149,8 @@ module _ (exec : Device) (is_state : List ℕ → Type 0) (room : ℕ) (law : (d
   between_take false s = between_ack s
 
   -- a row with the line down
-  lower : (w : Wiring) (code : ℕ) (hp : List Exchange) (c : Core) (b : List ℕ) (h : List Exchange) → Row w code hp c closed 1 b h → Row w code hp (record c { line = 0 }) closed 0 b h
+  lower : (w : Wiring) (code : ℕ) (hp : List Exchange) (c : Core) (b : List ℕ) (h : List Exchange) → Row w code hp c closed 1 b h
+      → Row w code hp (record c { line = 0 }) closed 0 b h
   lower w code hp c b h r = record { completion = r.completion; line = refl; block = r.block; done = r.done }
 
   taken_now : (v : ℕ) (x : Asker) (y : Answerer) (c : Core) → v ≡ c.line → eqb v 0 ≡ false → Agreed exec start x (at TakeLine x y) c
@@ -157,7 +162,8 @@ module _ (exec : Device) (is_state : List ℕ → Type 0) (room : ℕ) (law : (d
       (subst (λ (t : Turn). Fits (pose x.m) t x z d) (sym (turn_take b s z.m))
       (in_flight (taken 0) x z d r.0 record { row = lower w x.m.code y.done c x.m.sent x.done r.1; loaded = refl; header = header_take b s s w x.m.code y.m.header refl })))
 
-  taking : (b : Bool) (v : ℕ) (x : Asker) (y : Answerer) (c : Core) → v ≡ c.line → eqb v 0 ≡ b → Agreed exec start x (at TakeLine x y) c → Agreed exec start x (settle exec (record y { m = take_on b (staged TakeLine x y) })) (record c { line = 0 })
+  taking : (b : Bool) (v : ℕ) (x : Asker) (y : Answerer) (c : Core) → v ≡ c.line → eqb v 0 ≡ b → Agreed exec start x (at TakeLine x y) c
+      → Agreed exec start x (settle exec (record y { m = take_on b (staged TakeLine x y) })) (record c { line = 0 })
   taking true v x y c same is g = down v x y c same is g
   taking false v x y c same is g = taken_now v x y c same is g
 
@@ -203,7 +209,8 @@ module _ (exec : Device) (is_state : List ℕ → Type 0) (room : ℕ) (law : (d
   -- ---- executing it
 
   -- the device makes its reply of the command in flight
-  executes : (j : ℕ) (l : List ℕ) (x : Asker) (y : Answerer) (c : Core) → x.m.wiring.room ≡ room → Agreed exec start x (at (TakeBlock j) x y) c → pose x.m ≡ waiting → IsTaken (flight x) (at (TakeBlock j) x y) c j → l ≡ x.m.sent → let k : ℕ = heads_of (style_of x.m.wiring) in
+  executes : (j : ℕ) (l : List ℕ) (x : Asker) (y : Answerer) (c : Core) → x.m.wiring.room ≡ room → Agreed exec start x (at (TakeBlock j) x y) c
+      → pose x.m ≡ waiting → IsTaken (flight x) (at (TakeBlock j) x y) c j → l ≡ x.m.sent → let k : ℕ = heads_of (style_of x.m.wiring) in
       let m : Answer = record y.m { wiring = x.m.wiring; stage = RunDevice; loaded = l; space = bytes_of (drop k l) } in Agreed exec start x (settle_at exec RunDevice (record y { m = m })) c
   executes j l x y c same g q t whole = let ok = g.answer_ok in let w = x.m.wiring in let s : Style = style_of w in let k : ℕ = heads_of s in let r : Bool = w.reports in let f : Flight = flight x in
       let input : List ℕ = bytes_of (drop k l) in let code : ℕ = code_by s y.m.header l in let e : Executed = exec y.device code input in
@@ -247,7 +254,8 @@ module _ (exec : Device) (is_state : List ℕ → Type 0) (room : ℕ) (law : (d
         };
       }
 
-  loaded_on : (b : Bool) (j v : ℕ) (x : Asker) (y : Answerer) (c : Core) → x.m.wiring.room ≡ room → has_more j x.m.wiring ≡ b → v ≡ get_or c.block j 0 → Agreed exec start x (at (TakeBlock j) x y) c
+  loaded_on : (b : Bool) (j v : ℕ) (x : Asker) (y : Answerer) (c : Core) → x.m.wiring.room ≡ room → has_more j x.m.wiring ≡ b → v ≡ get_or c.block j 0
+      → Agreed exec start x (at (TakeBlock j) x y) c
       → Agreed exec start x (settle exec (record y { m = load_on b j v (staged (TakeBlock j) x y) })) c
   loaded_on true j v x y c room_is more same g = let ok = g.answer_ok in let w = x.m.wiring in let n : ℕ = block_of w in let here : j < n = ok.place in let t = while_taken (pose x.m) j x (at (TakeBlock j) x y) c g.fits in
       let long : length y.m.loaded ≡ n = ok.sized.loaded in let long' : length x.m.sent ≡ n = g.ask_ok.sized.sent in let z : Answerer = record y { m = load_on true j v (staged (TakeBlock j) x y) } in

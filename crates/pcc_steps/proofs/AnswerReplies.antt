@@ -145,7 +145,8 @@ module _ (exec : Device) (is_state : List ℕ → Type 0) (room : ℕ) (law : (d
   between_done false asks = between_close asks
 
   -- completion is set: the command is done
-  completes : (before : AnswerStage) (z : ℕ) (x : Asker) (y : Answerer) (c : Core) → Agreed exec start x (at before x y) c → pose x.m ≡ waiting → IsReplying (flight x) (at before x y) c (block_of x.m.wiring) → Shows x.m.wiring c.error (both x.m.wiring.reports y.m.bad)
+  completes : (before : AnswerStage) (z : ℕ) (x : Asker) (y : Answerer) (c : Core) → Agreed exec start x (at before x y) c → pose x.m ≡ waiting
+      → IsReplying (flight x) (at before x y) c (block_of x.m.wiring) → Shows x.m.wiring c.error (both x.m.wiring.reports y.m.bad)
       → Marked (style_of x.m.wiring) x.m.wiring x.m.code (finished (both x.m.wiring.reports y.m.bad)) z
       → Agreed exec start x (settle_at exec (done_stage (staged before x y)) (at (done_stage (staged before x y)) x y)) (record c { completion = z })
   completes before z x y c g q t shows mark = let ok = g.answer_ok in let w = x.m.wiring in let n : ℕ = block_of w in let b : Bool = four_by (style_of w) w.has_bell in let asks : Bool = asks_notify (staged before x y) in let st : AnswerStage = after_done b asks in let u : Answerer = at st x y in
@@ -165,7 +166,8 @@ module _ (exec : Device) (is_state : List ℕ → Type 0) (room : ℕ) (law : (d
   all_told true bad e = refl
   all_told false bad e = cc
 
-  header_sent : (s : Style) (w : Wiring) (code header : ℕ) (bad : Bool) → s ≡ Headed → w.id < 2 ^ 8 → CodeFits s code → HasHeader (TakeBlock 0) s w code header → Marked s w code (finished bad) (with_status header (status_of bad))
+  header_sent : (s : Style) (w : Wiring) (code header : ℕ) (bad : Bool) → s ≡ Headed → w.id < 2 ^ 8 → CodeFits s code → HasHeader (TakeBlock 0) s w code header
+      → Marked s w code (finished bad) (with_status header (status_of bad))
   header_sent Headed w code header bad e id fits h = status_seen w code header bad id fits h
   header_sent _ w code header bad e id fits h = cc
 
@@ -211,7 +213,8 @@ module _ (exec : Device) (is_state : List ℕ → Type 0) (room : ℕ) (law : (d
       (record c { completion = z }, (g.1.0, ap (λ (l : List ℕ). set l 0 z) g.1.1, completes ReplyMarkStore z x y c h t.0 t.1 t.1.told mark))
 
   -- the update register is written: completion is set, where it is the check register
-  updated : (s : Style) (x : Asker) (y : Answerer) (ws : List ℕ) → style_of x.m.wiring ≡ s → AnswerUpdates s → Agree exec start ws x (at ReplyUpdateStore x y) → let z : ℕ = masked_by x.m.wiring.update y.m.kept in let st : AnswerStage = after_update s (staged ReplyUpdateStore x y) in
+  updated : (s : Style) (x : Asker) (y : Answerer) (ws : List ℕ) → style_of x.m.wiring ≡ s → AnswerUpdates s → Agree exec start ws x (at ReplyUpdateStore x y)
+      → let z : ℕ = masked_by x.m.wiring.update y.m.kept in let st : AnswerStage = after_update s (staged ReplyUpdateStore x y) in
       Agree exec start (set ws (update_place s) z) x (settle_at exec st (at st x y))
   updated Headed x y ws e u g = absurd u
   updated Joined3 x y ws e u g = absurd u
@@ -252,7 +255,8 @@ module _ (exec : Device) (is_state : List ℕ → Type 0) (room : ℕ) (law : (d
   )
 
   -- the interrupt line is no part of a row
-  raised : (x : Asker) (y : Answerer) (c : Core) (e : Bool) (output : List ℕ) → IsDone (flight x) y.done c e output → IsDone (flight x) y.done (record c { irq = 1 }) e output
+  raised : (x : Asker) (y : Answerer) (c : Core) (e : Bool) (output : List ℕ) → IsDone (flight x) y.done c e output
+      → IsDone (flight x) y.done (record c { irq = 1 }) e output
   raised x y c e output is = record { row = record { completion = is.row.completion; line = is.row.line; block = is.row.block; done = is.row.done }; long = is.long; bytes = is.bytes; shows = is.shows }
 
   raised_fits : (q : Pose) (x : Asker) (y : Answerer) (c : Core) → Fits q quiet x y c → Fits q quiet x y (record c { irq = 1 })
@@ -292,7 +296,8 @@ module _ (exec : Device) (is_state : List ℕ → Type 0) (room : ℕ) (law : (d
   keeps_at CloseLine = raises_line
 
   -- both machines have one wiring
-  pub answer_keeps : (st : AnswerStage) (x : Asker) (y : Answerer) (ws : List ℕ) (v : ℕ) → x.m.wiring.room ≡ room → Agree exec start ws x (record y { m = record y.m { stage = st } }) → Finds (answer_next_at st (record y.m { stage = st })) ws v → v < 2 ^ 64
+  pub answer_keeps : (st : AnswerStage) (x : Asker) (y : Answerer) (ws : List ℕ) (v : ℕ) → x.m.wiring.room ≡ room
+      → Agree exec start ws x (record y { m = record y.m { stage = st } }) → Finds (answer_next_at st (record y.m { stage = st })) ws v → v < 2 ^ 64
       → Agree exec start (act (answer_next_at st (record y.m { stage = st })) ws) x (answerer_fed_at exec st (record y { m = record y.m { stage = st } }) v)
   answer_keeps st x y ws v same g f small = subst (λ (w : Wiring). let z : Answerer = record y { m = record y.m { wiring = w; stage = st } } in Agree exec start ws x z → Finds (answer_next_at st z.m) ws v → Agree exec start (act (answer_next_at st z.m) ws) x (answerer_fed_at exec st z v))
       (sym g.1.2.same) (λ (h : Agree exec start ws x (at st x y)) (q : Finds (answer_next_at st (staged st x y)) ws v). keeps_at st x y ws v same h q small) g f

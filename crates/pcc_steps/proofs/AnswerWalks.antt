@@ -41,17 +41,20 @@ past_taking : (s : Style) (r : List AnswerStep) (n : ℕ) → (2 == n) ≡ false
 past_taking Headed r n h k = ap (λ (c : Bool). if c then takes_header ∷ takes_block ∷ r else from answer_number n (takes_block ∷ r)) h ∙ ap (λ (c : Bool). if c then takes_block ∷ r else from answer_number n r) k
 past_taking _ r n h k = ap (λ (c : Bool). if c then takes_block ∷ r else from answer_number n r) k
 
-from_two : (ack tells rings : Bool) → from answer_number 2 (answer_table Headed ack tells rings) ≡ takes_header ∷ takes_block ∷ executes_command ∷ replies_space ∷ replied Headed tells rings
+from_two : (ack tells rings : Bool)
+    → from answer_number 2 (answer_table Headed ack tells rings) ≡ takes_header ∷ takes_block ∷ executes_command ∷ replies_space ∷ replied Headed tells rings
 from_two ack tells rings = skip ack acknowledges_bell (taking_steps Headed (executes_command ∷ replies_space ∷ replied Headed tells rings)) 2 refl
 
 block_first : (s : Style) (r : List AnswerStep) → from answer_number 3 (taking_steps s r) ≡ takes_block ∷ r
 block_first Headed r = refl
 block_first _ r = refl
 
-from_three : (s : Style) (ack tells rings : Bool) → from answer_number 3 (answer_table s ack tells rings) ≡ takes_block ∷ executes_command ∷ replies_space ∷ replied s tells rings
+from_three : (s : Style) (ack tells rings : Bool)
+    → from answer_number 3 (answer_table s ack tells rings) ≡ takes_block ∷ executes_command ∷ replies_space ∷ replied s tells rings
 from_three s ack tells rings = let r : List AnswerStep = executes_command ∷ replies_space ∷ replied s tells rings in skip ack acknowledges_bell (taking_steps s r) 3 refl ∙ block_first s r
 
-from_four : (s : Style) (ack tells rings : Bool) → from answer_number 4 (answer_table s ack tells rings) ≡ executes_command ∷ replies_space ∷ replied s tells rings
+from_four : (s : Style) (ack tells rings : Bool)
+    → from answer_number 4 (answer_table s ack tells rings) ≡ executes_command ∷ replies_space ∷ replied s tells rings
 from_four s ack tells rings = let r : List AnswerStep = executes_command ∷ replies_space ∷ replied s tells rings in skip ack acknowledges_bell (taking_steps s r) 4 refl ∙ past_taking s r 4 refl refl
 
 from_five : (s : Style) (ack tells rings : Bool) → from answer_number 5 (answer_table s ack tells rings) ≡ replies_space ∷ replied s tells rings
@@ -97,10 +100,12 @@ zero_less : (n : ℕ) → n - 0 ≡ n
 zero_less n = omega arith
 
 -- the block is loaded from its first word on
-block_starts : (s : Style) (ack tells rings : Bool) (a : Answer) → let t : List AnswerStep = answer_table s ack tells rings in answer_left_by t (TakeBlock 0) a ≡ answering (takes_block ∷ executes_command ∷ replies_space ∷ replied s tells rings) a.wiring (got a)
+block_starts : (s : Style) (ack tells rings : Bool) (a : Answer)
+    → let t : List AnswerStep = answer_table s ack tells rings in answer_left_by t (TakeBlock 0) a ≡ answering (takes_block ∷ executes_command ∷ replies_space ∷ replied s tells rings) a.wiring (got a)
 block_starts s ack tells rings a = λ i. load_words 8 (zero_less (block_of a.wiring) i) [] (λ b. answering (drop 1 (from_three s ack tells rings i)) a.wiring (record (got a) { block = b }))
 
-left_acked : (s : Style) (ack tells rings : Bool) (a : Answer) → let t : List AnswerStep = answer_table s ack tells rings in answer_left_by t (after_ack s) a ≡ answering (taking_steps s (executes_command ∷ replies_space ∷ replied s tells rings)) a.wiring (got a)
+left_acked : (s : Style) (ack tells rings : Bool) (a : Answer)
+    → let t : List AnswerStep = answer_table s ack tells rings in answer_left_by t (after_ack s) a ≡ answering (taking_steps s (executes_command ∷ replies_space ∷ replied s tells rings)) a.wiring (got a)
 left_acked Headed ack tells rings a = ap (λ (l : List AnswerStep). answering l a.wiring (got a)) (from_two ack tells rings)
 left_acked Joined3 ack tells rings a = block_starts Joined3 ack tells rings a
 left_acked Separate3 ack tells rings a = block_starts Separate3 ack tells rings a
@@ -108,11 +113,13 @@ left_acked Joined4 ack tells rings a = block_starts Joined4 ack tells rings a
 left_acked Separate4 ack tells rings a = block_starts Separate4 ack tells rings a
 left_acked Reduced5 ack tells rings a = block_starts Reduced5 ack tells rings a
 
-left_taken : (s : Style) (ack tells rings : Bool) (a : Answer) → let t : List AnswerStep = answer_table s ack tells rings in answer_left_by t (after_take ack s) a ≡ answering (behind answer_number 0 t) a.wiring (got a)
+left_taken : (s : Style) (ack tells rings : Bool) (a : Answer)
+    → let t : List AnswerStep = answer_table s ack tells rings in answer_left_by t (after_take ack s) a ≡ answering (behind answer_number 0 t) a.wiring (got a)
 left_taken s true tells rings a = refl
 left_taken s false tells rings a = left_acked s false tells rings a
 
-left_error : (s : Style) (ack tells rings : Bool) (a : Answer) → let t : List AnswerStep = answer_table s ack tells rings in answer_left_by t (after_error s) a ≡ answering (completing_steps s (closing rings)) a.wiring (got a)
+left_error : (s : Style) (ack tells rings : Bool) (a : Answer)
+    → let t : List AnswerStep = answer_table s ack tells rings in answer_left_by t (after_error s) a ≡ answering (completing_steps s (closing rings)) a.wiring (got a)
 left_error Headed ack tells rings a = ap (λ (l : List AnswerStep). answering l a.wiring (got a)) (from_seven ack tells rings)
 left_error Joined3 ack tells rings a = ap (λ (l : List AnswerStep). answering l a.wiring (got a)) (from_nine Joined3 ack tells rings tt)
 left_error Separate3 ack tells rings a = ap (λ (l : List AnswerStep). answering l a.wiring (got a)) (from_nine Separate3 ack tells rings tt)
@@ -120,22 +127,26 @@ left_error Joined4 ack tells rings a = ap (λ (l : List AnswerStep). answering l
 left_error Separate4 ack tells rings a = ap (λ (l : List AnswerStep). answering l a.wiring (got a)) (from_eight Separate4 ack tells rings tt)
 left_error Reduced5 ack tells rings a = ap (λ (l : List AnswerStep). answering l a.wiring (got a)) (from_nine Reduced5 ack tells rings tt)
 
-left_reply : (s : Style) (ack tells rings : Bool) (a : Answer) → let t : List AnswerStep = answer_table s ack tells rings in answer_left_by t (after_reply tells s) a ≡ answering (replied s tells rings) a.wiring (got a)
+left_reply : (s : Style) (ack tells rings : Bool) (a : Answer)
+    → let t : List AnswerStep = answer_table s ack tells rings in answer_left_by t (after_reply tells s) a ≡ answering (replied s tells rings) a.wiring (got a)
 left_reply s ack true rings a = ap (λ (l : List AnswerStep). answering l a.wiring (got a)) (from_six s ack true rings refl)
 left_reply s ack false rings a = left_error s ack false rings a
 
-closed : (asks : Bool) (a : Answer) → answer_after (served_at (after_close asks)) (record a { stage = after_close asks }) ≡ (if asks then stores 4 1 (ends serves) else ends serves)
+closed : (asks : Bool) (a : Answer)
+    → answer_after (served_at (after_close asks)) (record a { stage = after_close asks }) ≡ (if asks then stores 4 1 (ends serves) else ends serves)
 closed true a = refl
 closed false a = refl
 
-done_left : (rings : Bool) (a : Answer) → four_by (style_of a.wiring) a.wiring.has_bell ≡ rings → let asks : Bool = asks_notify a in answer_after (served_at (after_done rings asks)) (record a { stage = after_done rings asks }) ≡ answering (closing (four_by (style_of a.wiring) a.wiring.has_bell)) a.wiring (got a)
+done_left : (rings : Bool) (a : Answer) → four_by (style_of a.wiring) a.wiring.has_bell ≡ rings
+    → let asks : Bool = asks_notify a in answer_after (served_at (after_done rings asks)) (record a { stage = after_done rings asks }) ≡ answering (closing (four_by (style_of a.wiring) a.wiring.has_bell)) a.wiring (got a)
 done_left true a e = ap (λ (l : List AnswerStep). answering l a.wiring (got a)) (from_ten (style_of a.wiring) (four_by (style_of a.wiring) a.wiring.has_ack) (tells_error a.wiring) (four_by (style_of a.wiring) a.wiring.has_bell) e)
 done_left false a e = closed (asks_notify a) a ∙ sym (ap (λ (b : Bool). answering (closing b) a.wiring (got a)) e)
 
 -- ---- the steps
 
 -- what is left is told by a list of steps
-by_list : (l m : List AnswerStep) (a : Answer) (x : Action) (next : ℕ → Run AnswerEnd) → l ≡ m → Takes (answering m a.wiring (got a)) x next → Takes (answering l a.wiring (got a)) x next
+by_list : (l m : List AnswerStep) (a : Answer) (x : Action) (next : ℕ → Run AnswerEnd) → l ≡ m → Takes (answering m a.wiring (got a)) x next
+    → Takes (answering l a.wiring (got a)) x next
 by_list l m a x next e h = subst (λ (l : List AnswerStep). Takes (answering l a.wiring (got a)) x next) (sym e) h
 
 -- the table of this machine, and its parts
@@ -149,10 +160,12 @@ abbrev pub tells : Answer → Bool
 tells a = tells_error a.wiring
 
 -- what the device gives is not yet known
-unknown : (l : List AnswerStep) (w : Wiring) (header : ℕ) (block : List ℕ) (b b' : Bool) (r r' : List ℕ) → answering (executes_command ∷ l) w (record { header = header; block = block; bad = b; reply = r }) ≡ answering (executes_command ∷ l) w (record { header = header; block = block; bad = b'; reply = r' })
+unknown : (l : List AnswerStep) (w : Wiring) (header : ℕ) (block : List ℕ) (b b' : Bool) (r r' : List ℕ)
+    → answering (executes_command ∷ l) w (record { header = header; block = block; bad = b; reply = r }) ≡ answering (executes_command ∷ l) w (record { header = header; block = block; bad = b'; reply = r' })
 unknown l w header block b b' r r' = refl
 
-took : (b : Bool) (a : Answer) → answer_after (take_told b) (take_on b a) ≡ (if b then ends finds_none else answering (behind answer_number 0 (answer_steps a.wiring)) a.wiring (got a))
+took : (b : Bool) (a : Answer)
+    → answer_after (take_told b) (take_on b a) ≡ (if b then ends finds_none else answering (behind answer_number 0 (answer_steps a.wiring)) a.wiring (got a))
 took true a = refl
 took false a = left_taken (style_of a.wiring) (acks a) (tells a) (rings a) (record a { stage = after_take (acks a) (style_of a.wiring) })
 
@@ -161,7 +174,8 @@ ack_walks : (s : Style) (b c d : Bool) (a : Answer) → b ≡ true → let t : L
 ack_walks s true c d a e = (refl, λ v. refl)
 ack_walks s false c d a e = cc
 
-acked : (s : Style) (b c d : Bool) (a : Answer) → b ≡ true → let t : List AnswerStep = answer_table s b c d in answer_left_by t (after_ack s) a ≡ answering (behind answer_number 1 t) a.wiring (got a)
+acked : (s : Style) (b c d : Bool) (a : Answer) → b ≡ true
+    → let t : List AnswerStep = answer_table s b c d in answer_left_by t (after_ack s) a ≡ answering (behind answer_number 1 t) a.wiring (got a)
 acked s true c d a e = left_acked s true c d a
 acked s false c d a e = cc
 
@@ -171,7 +185,8 @@ header_walks Headed b c d a e = by_list (from answer_number 2 (answer_table Head
     (from_two b c d) (refl, λ v. block_starts Headed b c d (record a { stage = TakeBlock 0; header = v }))
 header_walks _ b c d a e = cc
 
-taken_block : (b : Bool) (j v : ℕ) (a : Answer) → has_more j a.wiring ≡ b → j < block_of a.wiring → length a.loaded ≡ block_of a.wiring → let k = λ (l : List ℕ). answering (behind answer_number 3 (answer_steps a.wiring)) a.wiring (record (got a) { block = l }) in
+taken_block : (b : Bool) (j v : ℕ) (a : Answer) → has_more j a.wiring ≡ b → j < block_of a.wiring → length a.loaded ≡ block_of a.wiring
+    → let k = λ (l : List ℕ). answering (behind answer_number 3 (answer_steps a.wiring)) a.wiring (record (got a) { block = l }) in
     answer_left (load_on b j v a) ≡ load_words (8 + j + 1) (block_of a.wiring - (j + 1)) (take j a.loaded ++ v ∷ []) k
 taken_block true j v a more here long = let k = λ (l : List ℕ). answering (behind answer_number 3 (answer_steps a.wiring)) a.wiring (record (got a) { block = l }) in let m : ℕ = block_of a.wiring - (j + 1) in
     let t = take_more_set a.loaded j v (omega arith) in λ i. load_words (next_place j i) m (t i) k
@@ -182,7 +197,8 @@ taken_block false j v a more here long = let k = λ (l : List ℕ). answering (b
     ap (λ (z : List AnswerStep). answering z w (record { header = a.header; block = l; bad = a.bad; reply = bytes_of (drop (heads_of (style_of w)) l) })) one
     ∙ (sym (ap (λ (z : List AnswerStep). answering (drop 1 z) w (record (got a) { block = l })) two) ∙ sym (λ i. load_words (8 + j + 1) (none i) (t i) k))
 
-replied_words : (b : Bool) (j : ℕ) (a : Answer) → has_more j a.wiring ≡ b → length a.out ≡ block_of a.wiring → answer_left (reply_on b j a) ≡ store_words (8 + j + 1) (drop (j + 1) a.out) (answering (behind answer_number 5 (answer_steps a.wiring)) a.wiring (got a))
+replied_words : (b : Bool) (j : ℕ) (a : Answer) → has_more j a.wiring ≡ b → length a.out ≡ block_of a.wiring
+    → answer_left (reply_on b j a) ≡ store_words (8 + j + 1) (drop (j + 1) a.out) (answering (behind answer_number 5 (answer_steps a.wiring)) a.wiring (got a))
 replied_words true j a more long = ap (λ (p : ℕ). store_words p (drop (j + 1) a.out) (answering (behind answer_number 5 (answer_steps a.wiring)) a.wiring (got a))) (next_place j)
 replied_words false j a more long = let w = a.wiring in let k : Run AnswerEnd = answering (behind answer_number 5 (answer_steps w)) w (got a) in let last : block_of w ≤ j + 1 = ltb-false (j + 1) (block_of w) more in
     left_reply (style_of w) (acks a) (tells a) (rings a) (record a { stage = after_reply (tells a) (style_of w) })
@@ -194,11 +210,13 @@ error_walks s b true d a e = by_list (from answer_number 6 (answer_table s b tru
     (from_six s b true d refl) (refl, λ v. left_error s b true d (record a { stage = after_error s }))
 error_walks s b false d a e = cc
 
-status_walks : (s : Style) (b c d : Bool) (a : Answer) (next : ℕ → Run AnswerEnd) → s ≡ Headed → ((v : ℕ) → next v ≡ answering (closing d) a.wiring (got a)) → Takes (answer_left_by (answer_table s b c d) ReplyHeader a) (answer_next_at ReplyHeader a) next
+status_walks : (s : Style) (b c d : Bool) (a : Answer) (next : ℕ → Run AnswerEnd) → s ≡ Headed → ((v : ℕ) → next v ≡ answering (closing d) a.wiring (got a))
+    → Takes (answer_left_by (answer_table s b c d) ReplyHeader a) (answer_next_at ReplyHeader a) next
 status_walks Headed b c d a next e h = by_list (from answer_number 7 (answer_table Headed b c d)) (replies_status ∷ closing d) a (answer_next_at ReplyHeader a) next (from_seven b c d) (refl, h)
 status_walks _ b c d a next e h = cc
 
-update_first : (s : Style) (d : Bool) (a : Answer) (next : ℕ → Run AnswerEnd) → AnswerUpdates s → ((v : ℕ) → next v ≡ stores (update_place (style_of a.wiring)) (masked_by a.wiring.update v) (answering (drop 1 (completing_steps s (closing d))) a.wiring (got a)))
+update_first : (s : Style) (d : Bool) (a : Answer) (next : ℕ → Run AnswerEnd) → AnswerUpdates s
+    → ((v : ℕ) → next v ≡ stores (update_place (style_of a.wiring)) (masked_by a.wiring.update v) (answering (drop 1 (completing_steps s (closing d))) a.wiring (got a)))
     → Takes (answering (completing_steps s (closing d)) a.wiring (got a)) (answer_next_at ReplyUpdateLoad a) next
 update_first Headed d a next u h = absurd u
 update_first Joined3 d a next u h = absurd u
@@ -213,7 +231,8 @@ update_walks s b c d a u = let next = λ (v : ℕ). answer_left_by (answer_table
     by_list (from answer_number 8 (answer_table s b c d)) (completing_steps s (closing d)) a (answer_next_at ReplyUpdateLoad a) next (from_eight s b c d u)
     (update_first s d a next u (λ v. ap (λ (z : List AnswerStep). stores (update_place (style_of a.wiring)) (masked_by a.wiring.update v) (answering (drop 1 z) a.wiring (got a))) (from_eight s b c d u)))
 
-updated : (s : Style) (b c d : Bool) (a : Answer) (done : AnswerStage) → AnswerUpdates s → answer_steps a.wiring ≡ answer_table s b c d → answer_after (served_at done) (record a { stage = done }) ≡ answering (closing d) a.wiring (got a)
+updated : (s : Style) (b c d : Bool) (a : Answer) (done : AnswerStage) → AnswerUpdates s → answer_steps a.wiring ≡ answer_table s b c d
+    → answer_after (served_at done) (record a { stage = done }) ≡ answering (closing d) a.wiring (got a)
     → answer_after (served_at (update_stage s done)) (record a { stage = update_stage s done }) ≡ answering (behind answer_number 8 (answer_table s b c d)) a.wiring (got a)
 updated Headed b c d a done u e h = absurd u
 updated Joined3 b c d a done u e h = absurd u
@@ -242,7 +261,8 @@ rung_off s b c false e = cc
 abbrev pub left_at : AnswerStage → Answer → Run AnswerEnd
 left_at st a = answer_left_by (answer_steps a.wiring) st a
 
-pub walks : (st : AnswerStage) (a : Answer) → st ≢ AnswerRest → st ≢ RunDevice → AnswerOk (record a { stage = st }) → Takes (left_at st a) (answer_next_at st a) (λ v. answer_after (answer_told_at st a v) (answer_fed_at st a v))
+pub walks : (st : AnswerStage) (a : Answer) → st ≢ AnswerRest → st ≢ RunDevice → AnswerOk (record a { stage = st })
+    → Takes (left_at st a) (answer_next_at st a) (λ v. answer_after (answer_told_at st a v) (answer_fed_at st a v))
 walks AnswerRest a runs steps ok = absurd (runs refl)
 walks TakeLine a runs steps ok = (refl, λ v. took (eqb v 0) a)
 walks TakeAckLoad a runs steps ok = ack_walks (style_of a.wiring) (acks a) (tells a) (rings a) a ok.place
@@ -265,7 +285,8 @@ walks CloseLine a runs steps ok = (refl, λ v. refl)
 
 -- ---- the device, and the beginning
 
-pub gives : (a : Answer) → AnswerOk (record a { stage = RunDevice }) → Gives (left_at RunDevice a) (Execute (answer_code a)) (bytes_of (drop (heads_of (style_of a.wiring)) a.loaded)) (λ bad reply. answer_left (ran_with (record a { space = reply }) bad))
+pub gives : (a : Answer) → AnswerOk (record a { stage = RunDevice })
+    → Gives (left_at RunDevice a) (Execute (answer_code a)) (bytes_of (drop (heads_of (style_of a.wiring)) a.loaded)) (λ bad reply. answer_left (ran_with (record a { space = reply }) bad))
 gives a ok = let w = a.wiring in let k : ℕ = heads_of (style_of w) in let long : length a.loaded ≡ block_of w = ok.sized.loaded in
     subst (λ (l : List AnswerStep). Gives (answering l w (got a)) (Execute (answer_code a)) (bytes_of (drop k a.loaded)) (λ bad reply. answer_left (ran_with (record a { space = reply }) bad))) (sym (from_four (style_of w) (acks a) (tells a) (rings a)))
     (refl, refl, λ bad reply. (λ i. store_words (8 + k) (behind_front k a.loaded (words_of reply) (omega arith) i) (answering (drop 1 (from_five (style_of w) (acks a) (tells a) (rings a) i)) w (record { header = a.header; block = a.loaded; bad = bad; reply = reply }))))

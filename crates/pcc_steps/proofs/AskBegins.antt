@@ -17,7 +17,8 @@ use Rattle.pcc_steps.proofs.Trails.{post_asks}
 use Rattle.pcc_steps.proofs.Spaces.{IsBytes-append, some_words}
 use Rattle.pcc_steps.proofs.AskKeeps.{at, moves}
 
-pub begun_ok : (a : Ask) (code : ℕ) (bytes : List ℕ) → a.in_flight ≡ false → length bytes ≤ a.wiring.room → a.posts < 4096 → CodeFits (style_of a.wiring) code → a.looks ≤ a.budget → AskOk a → AskOk (ask_begun a code bytes)
+pub begun_ok : (a : Ask) (code : ℕ) (bytes : List ℕ) → a.in_flight ≡ false → length bytes ≤ a.wiring.room → a.posts < 4096 → CodeFits (style_of a.wiring) code
+    → a.looks ≤ a.budget → AskOk a → AskOk (ask_begun a code bytes)
 begun_ok a code bytes unflown fits left low looks ok = let w = a.wiring in let input : List ℕ = over a.space bytes in let long : length input ≡ w.room = over_long a.space bytes w.room ok.sized.space fits in record {
   wired = ok.wired;
   sized = record { sent = block_sent (style_of w) w code (length bytes) w.room input long; shown = ok.sized.shown; loaded = ok.sized.loaded; input = long; space = ok.sized.space };
@@ -38,7 +39,8 @@ looks_rest a rest ok = subst (λ (st : AskStage). LooksLeft st a.looks a.budget)
 -- ---- the relation
 
 module _ (exec : Device) (start : List ℕ) where
-  begins_at : (x : Asker) (y : Answerer) (c : Core) (code : ℕ) (bytes : List ℕ) → x.m.in_flight ≡ false → length bytes ≤ x.m.wiring.room → x.m.posts < 4096 → CodeFits (style_of x.m.wiring) code → IsBytes bytes → Agreed exec start (at AskRest x) y c
+  begins_at : (x : Asker) (y : Answerer) (c : Core) (code : ℕ) (bytes : List ℕ) → x.m.in_flight ≡ false → length bytes ≤ x.m.wiring.room → x.m.posts < 4096
+      → CodeFits (style_of x.m.wiring) code → IsBytes bytes → Agreed exec start (at AskRest x) y c
       → Agreed exec start (asker_begun x code bytes) y c
   begins_at x y c code bytes unflown short left low fits g = let ok = g.ask_ok in let w = x.m.wiring in let s : Style = style_of w in let input : List ℕ = over x.m.space bytes in
       let row = subst (λ (f : Bool). Fits (resting f) (turn y.m) (at AskRest x) y c) unflown g.fits in record {
@@ -58,21 +60,25 @@ module _ (exec : Device) (start : List ℕ) where
       }
 
   -- a run that posts begins
-  pub begins : (x : Asker) (code : ℕ) (bytes : List ℕ) → x.m.stage ≡ AskRest → x.m.in_flight ≡ false → length bytes ≤ x.m.wiring.room → x.m.posts < 4096 → CodeFits (style_of x.m.wiring) code → IsBytes bytes → (ws : List ℕ) (y : Answerer) → Agree exec start ws x y
+  pub begins : (x : Asker) (code : ℕ) (bytes : List ℕ) → x.m.stage ≡ AskRest → x.m.in_flight ≡ false → length bytes ≤ x.m.wiring.room → x.m.posts < 4096
+      → CodeFits (style_of x.m.wiring) code → IsBytes bytes → (ws : List ℕ) (y : Answerer) → Agree exec start ws x y
       → Agree exec start ws (asker_begun x code bytes) y
   begins x code bytes rest unflown short left low fits ws y g = (g.0, (g.1.0, g.1.1, begins_at x y g.0 code bytes unflown short left low fits (subst (λ (st : AskStage). Agreed exec start (at st x) y g.0) rest g.1.2)))
 
-  looks_at : (x : Asker) (y : Answerer) (c : Core) → x.m.in_flight ≡ true → x.m.looks < x.m.budget → Agreed exec start (at AskRest x) y c → Agreed exec start (at LookWord x) y c
+  looks_at : (x : Asker) (y : Answerer) (c : Core) → x.m.in_flight ≡ true → x.m.looks < x.m.budget → Agreed exec start (at AskRest x) y c
+      → Agreed exec start (at LookWord x) y c
   looks_at x y c flies left g = let ok = g.ask_ok in
       moves exec start (at AskRest x) y c c LookWord x.m.kept x.m.error x.m.loaded x.m.looks x.clears (sym flies) g (record { wired = ok.wired; sized = ok.sized; place = tt; flies = flies; looks = left; posts = ok.posts; kept = ok.kept; mask = ok.mask; id = ok.id; code = ok.code }) g.irq
       (subst (λ (f : Bool). Fits (resting f) (turn y.m) (at AskRest x) y c) flies g.fits)
 
   -- a run that looks begins
-  pub looks_begin : (x : Asker) → x.m.stage ≡ AskRest → x.m.in_flight ≡ true → x.m.looks < x.m.budget → (ws : List ℕ) (y : Answerer) → Agree exec start ws x y → Agree exec start ws (record x { m = ask_looking x.m }) y
+  pub looks_begin : (x : Asker) → x.m.stage ≡ AskRest → x.m.in_flight ≡ true → x.m.looks < x.m.budget → (ws : List ℕ) (y : Answerer) → Agree exec start ws x y
+      → Agree exec start ws (record x { m = ask_looking x.m }) y
   looks_begin x rest flies left ws y g = (g.0, (g.1.0, g.1.1, looks_at x y g.0 flies left (subst (λ (st : AskStage). Agreed exec start (at st x) y g.0) rest g.1.2)))
 
   -- the numbers of looks and steps are no part of a phase
-  counted : (q : Pose) (t : Turn) (x : Asker) (y : Answerer) (c : Core) (looks budget steps : ℕ) → Fits q t x y c → Fits q t (record x { m = record x.m { looks = looks; budget = budget; steps = steps } }) y c
+  counted : (q : Pose) (t : Turn) (x : Asker) (y : Answerer) (c : Core) (looks budget steps : ℕ) → Fits q t x y c
+      → Fits q t (record x { m = record x.m { looks = looks; budget = budget; steps = steps } }) y c
   counted free t x y c looks budget steps f = f
   counted (writing j) t x y c looks budget steps f = f
   counted cleared t x y c looks budget steps f = f
@@ -83,7 +89,8 @@ module _ (exec : Device) (start : List ℕ) where
   posed AskRest a looks budget steps = refl
   posed _ a looks budget steps = refl
 
-  counts_at : (x : Asker) (y : Answerer) (c : Core) (looks budget steps : ℕ) → LooksLeft x.m.stage looks budget → Agreed exec start x y c → Agreed exec start (record x { m = record x.m { looks = looks; budget = budget; steps = steps } }) y c
+  counts_at : (x : Asker) (y : Answerer) (c : Core) (looks budget steps : ℕ) → LooksLeft x.m.stage looks budget → Agreed exec start x y c
+      → Agreed exec start (record x { m = record x.m { looks = looks; budget = budget; steps = steps } }) y c
   counts_at x y c looks budget steps left g = let ok = g.ask_ok in record {
     ask_ok = record { wired = ok.wired; sized = ok.sized; place = ok.place; flies = ok.flies; looks = left; posts = ok.posts; kept = ok.kept; mask = ok.mask; id = ok.id; code = ok.code };
     answer_ok = g.answer_ok;
@@ -101,7 +108,8 @@ module _ (exec : Device) (start : List ℕ) where
   }
 
   -- a budget is set
-  pub budgets : (x : Asker) (polls : ℕ) → x.m.stage ≡ AskRest → (ws : List ℕ) (y : Answerer) → Agree exec start ws x y → Agree exec start ws (record x { m = ask_budgeted x.m polls }) y
+  pub budgets : (x : Asker) (polls : ℕ) → x.m.stage ≡ AskRest → (ws : List ℕ) (y : Answerer) → Agree exec start ws x y
+      → Agree exec start ws (record x { m = ask_budgeted x.m polls }) y
   budgets x polls rest ws y g = (g.0, (g.1.0, g.1.1, counts_at x y g.0 0 polls x.m.steps (subst (λ (st : AskStage). LooksLeft st 0 polls) (sym rest) (let h : 0 ≤ polls = omega arith in h)) g.1.2))
 
   -- a step is counted

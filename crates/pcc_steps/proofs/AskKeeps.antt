@@ -23,7 +23,8 @@ module _ (exec : Device) (start : List ℕ) where
   Keeps st = (x : Asker) (y : Answerer) (ws : List ℕ) (v : ℕ) → Agree exec start ws (at st x) y → Finds (ask_next_at st x.m) ws v → v < 2 ^ 64 → Agree exec start (act (ask_next_at st x.m) ws) (asker_fed_at st (at st x) v) y
 
   -- what a step within a run changes, and what it has to show anew
-  pub moves : (x : Asker) (y : Answerer) (c d : Core) (st : AskStage) (kept : ℕ) (error : Bool) (loaded : List ℕ) (looks clears : ℕ) → let m : Ask = record x.m { stage = st; kept = kept; error = error; loaded = loaded; looks = looks } in
+  pub moves : (x : Asker) (y : Answerer) (c d : Core) (st : AskStage) (kept : ℕ) (error : Bool) (loaded : List ℕ) (looks clears : ℕ)
+      → let m : Ask = record x.m { stage = st; kept = kept; error = error; loaded = loaded; looks = looks } in
       is_pending_at st x.m.in_flight ≡ is_pending_at x.m.stage x.m.in_flight → Agreed exec start x y c → AskOk m → d.irq < 2 → Fits (pose m) (turn y.m) (record x { m = m; clears = clears }) y d → Agreed exec start (record x { m = m; clears = clears }) y d
   moves x y c d st kept error loaded looks clears pends g ok low fits = record {
     ask_ok = ok;
@@ -42,7 +43,8 @@ module _ (exec : Device) (start : List ℕ) where
   }
 
   -- the machine's own facts, at another stage of its run
-  pub steps_on : (a : Ask) (st : AskStage) (kept : ℕ) → AskOk a → kept < 2 ^ 64 → AskPlace st a.wiring → Flies st a.in_flight → LooksLeft st a.looks a.budget → PostsLeft st a.posts → AskOk (record a { stage = st; kept = kept })
+  pub steps_on : (a : Ask) (st : AskStage) (kept : ℕ) → AskOk a → kept < 2 ^ 64 → AskPlace st a.wiring → Flies st a.in_flight → LooksLeft st a.looks a.budget
+      → PostsLeft st a.posts → AskOk (record a { stage = st; kept = kept })
   steps_on a st kept ok small place flies looks posts = record { wired = ok.wired; sized = ok.sized; place = place; flies = flies; looks = looks; posts = posts; kept = small; mask = ok.mask; id = ok.id; code = ok.code }
 
   -- ---- posting
@@ -83,7 +85,8 @@ module _ (exec : Device) (start : List ℕ) where
   )
 
   -- the whole block stands there
-  written : (x : Asker) (y : Answerer) (c : Core) (st : AskStage) → AskOk (record x.m { stage = st }) → c.block ≡ mix (block_of x.m.wiring) x.m.sent x.m.shown → c.block ≡ x.m.sent
+  written : (x : Asker) (y : Answerer) (c : Core) (st : AskStage) → AskOk (record x.m { stage = st }) → c.block ≡ mix (block_of x.m.wiring) x.m.sent x.m.shown
+      → c.block ≡ x.m.sent
   written x y c st ok e = e ∙ mix_all (block_of x.m.wiring) x.m.sent x.m.shown ok.sized.sent ok.sized.shown
 
   pub stores_header : Keeps PostHeader
@@ -107,7 +110,8 @@ module _ (exec : Device) (start : List ℕ) where
       (c, (g.1.0, g.1.1, moves (at PostMarkLoad x) y c c PostMarkStore v x.m.error x.m.loaded x.m.looks x.clears refl h (steps_on (at PostMarkLoad x).m PostMarkStore v ok small ok.place ok.flies ok.looks ok.posts) h.irq h.fits))
 
   -- the doorbell's register is no part of the relation
-  bell_still : (s : Style) (n : ℕ) (t : Turn) (x : Asker) (y : Answerer) (c : Core) (st : AskStage) (kept : ℕ) → Fits (bell_pose s n) t x y c → Fits (bell_pose s n) t (record x { m = record x.m { stage = st; kept = kept } }) y c
+  bell_still : (s : Style) (n : ℕ) (t : Turn) (x : Asker) (y : Answerer) (c : Core) (st : AskStage) (kept : ℕ) → Fits (bell_pose s n) t x y c
+      → Fits (bell_pose s n) t (record x { m = record x.m { stage = st; kept = kept } }) y c
   bell_still Reduced5 n t x y c st kept f = f
   bell_still _ n t x y c st kept f = f
 
@@ -139,7 +143,8 @@ module _ (exec : Device) (start : List ℕ) where
   )
 
   -- the update register is written: completion is cleared, where it is the check register
-  updated : (s : Style) (x : Asker) (y : Answerer) (ws : List ℕ) → style_of x.m.wiring ≡ s → AskUpdates s → Agree exec start ws (at PostUpdateStore x) y → let z : ℕ = masked_by x.m.wiring.update x.m.kept in
+  updated : (s : Style) (x : Asker) (y : Answerer) (ws : List ℕ) → style_of x.m.wiring ≡ s → AskUpdates s → Agree exec start ws (at PostUpdateStore x) y
+      → let z : ℕ = masked_by x.m.wiring.update x.m.kept in
       Agree exec start (set ws (update_place s) z) (at (after_update s) x) y
   updated Headed x y ws e u g = absurd u
   updated Joined3 x y ws e u g = let c = g.0 in let h = g.1.2 in let ok = h.ask_ok in let fits = h.fits.1 in let w = x.m.wiring in let z : ℕ = masked_by w.update x.m.kept in let d : Core = record c { completion = z } in (
@@ -175,7 +180,8 @@ module _ (exec : Device) (start : List ℕ) where
   not_headed Separate4 u e = cc
   not_headed Reduced5 u e = cc
 
-  marked_on : (s : Style) (x : Asker) (y : Answerer) (c : Core) → style_of x.m.wiring ≡ s → AskClears s → Fits cleared (turn y.m) (at (after_mark s) x) y c → Fits (pose (at (after_mark s) x).m) (turn y.m) (at (after_mark s) x) y c
+  marked_on : (s : Style) (x : Asker) (y : Answerer) (c : Core) → style_of x.m.wiring ≡ s → AskClears s → Fits cleared (turn y.m) (at (after_mark s) x) y c
+      → Fits (pose (at (after_mark s) x).m) (turn y.m) (at (after_mark s) x) y c
   marked_on Headed x y c e u f = absurd u
   marked_on Joined3 x y c e u f = absurd u
   marked_on Separate3 x y c e u f = subst (λ (s : Style). Fits (bell_pose s (block_of x.m.wiring)) (turn y.m) (at PostBellLoad x) y c) (sym e) f

@@ -25,7 +25,9 @@ module _ (exec : Device) (start : List ℕ) where
   -- ---- completion
 
   -- while completion is seen set, the answering end is done
-  sees : (t : Turn) (s : Style) (x : Asker) (y : Answerer) (c : Core) → AskOk x.m → style_of x.m.wiring ≡ s → is_complete s x.m.wiring.check_mask c.completion ≡ true → Waits t (flight x) y c → (t ≡ quiet) × ((o : Bool × List ℕ) × IsDone (flight x) y.done c o.0 o.1)
+  sees : (t : Turn) (s : Style) (x : Asker) (y : Answerer) (c : Core) → AskOk x.m → style_of x.m.wiring ≡ s
+      → is_complete s x.m.wiring.check_mask c.completion ≡ true → Waits t (flight x) y c
+      → (t ≡ quiet) × ((o : Bool × List ℕ) × IsDone (flight x) y.done c o.0 o.1)
   sees quiet s x y c ok is seen w = ⊎_elim (λ (r : Row x.m.wiring x.m.code y.done c closed 1 x.m.sent x.done). let not = closed_unset (style_of x.m.wiring) x.m.wiring x.m.code c.completion ok.id ok.code r.completion in let e = ap (λ (s : Style). is_complete s x.m.wiring.check_mask c.completion) is in cc) (λ (d : (o : Bool × List ℕ) × IsDone (flight x) y.done c o.0 o.1). (refl, d)) w
   sees (taken j) s x y c ok is seen w = let not = closed_unset (style_of x.m.wiring) x.m.wiring x.m.code c.completion ok.id ok.code w.row.completion in let e = ap (λ (s : Style). is_complete s x.m.wiring.check_mask c.completion) is in cc
   sees (replying j) s x y c ok is seen w = let not = closed_unset (style_of x.m.wiring) x.m.wiring x.m.code c.completion ok.id ok.code w.row.completion in let e = ap (λ (s : Style). is_complete s x.m.wiring.check_mask c.completion) is in cc
@@ -34,7 +36,8 @@ module _ (exec : Device) (start : List ℕ) where
   pose_look true a = refl
   pose_look false a = refl
 
-  look_ok : (b : Bool) (a : Ask) (e : Bool) → tells_error a.wiring ≡ b → 0 < block_of a.wiring → AskOk (record a { stage = LookWord }) → AskOk (record a { stage = after_look b; error = e })
+  look_ok : (b : Bool) (a : Ask) (e : Bool) → tells_error a.wiring ≡ b → 0 < block_of a.wiring → AskOk (record a { stage = LookWord })
+      → AskOk (record a { stage = after_look b; error = e })
   look_ok true a e is some ok = record { wired = ok.wired; sized = ok.sized; place = is; flies = ok.flies; looks = let l = ok.looks in omega arith; posts = ok.posts; kept = ok.kept; mask = ok.mask; id = ok.id; code = ok.code }
   look_ok false a e is some ok = record { wired = ok.wired; sized = ok.sized; place = some; flies = ok.flies; looks = let l = ok.looks in omega arith; posts = ok.posts; kept = ok.kept; mask = ok.mask; id = ok.id; code = ok.code }
 
@@ -70,7 +73,8 @@ module _ (exec : Device) (start : List ℕ) where
   -- ---- the end of a look
 
   -- the whole block is loaded: the command is drained
-  pub drains : (x : Asker) (y : Answerer) (c d : Core) (st : AskStage) (l : List ℕ) (e : Bool) (output : List ℕ) → Agreed exec start (at st x) y c → x.m.in_flight ≡ true → x.m.looks ≤ x.m.budget → x.m.posts ≤ 4096 → length l ≡ block_of x.m.wiring → d.irq < 2
+  pub drains : (x : Asker) (y : Answerer) (c d : Core) (st : AskStage) (l : List ℕ) (e : Bool) (output : List ℕ) → Agreed exec start (at st x) y c
+      → x.m.in_flight ≡ true → x.m.looks ≤ x.m.budget → x.m.posts ≤ 4096 → length l ≡ block_of x.m.wiring → d.irq < 2
       → turn y.m ≡ quiet → IsDone (flight x) y.done d e output → take (block_of x.m.wiring) l ≡ take (block_of x.m.wiring) (reply_block (flight x) output) → x.m.error ≡ e → Agreed exec start (ended (record x { m = record x.m { loaded = l } })) y d
   drains x y c d st l e output g flies left posts long low rests is loaded knows = let ok = g.ask_ok in let w = x.m.wiring in let k : ℕ = heads_of (style_of w) in
       let whole : l ≡ reply_block (flight x) output = take_all (block_of w) l (reply_block (flight x) output) long (block_long k w.room x.m.sent output ok.sized.sent is.long) loaded in
@@ -102,7 +106,8 @@ module _ (exec : Device) (start : List ℕ) where
       }
 
   -- the last word of the block is loaded
-  blocked : (b : Bool) (j : ℕ) (l : List ℕ) (x : Asker) (y : Answerer) (c : Core) (e : Bool) (output : List ℕ) → x.m.wiring.notify ≡ b → Agreed exec start (at (LookBlock j) x) y c → length l ≡ block_of x.m.wiring → IsDone (flight x) y.done c e output
+  blocked : (b : Bool) (j : ℕ) (l : List ℕ) (x : Asker) (y : Answerer) (c : Core) (e : Bool) (output : List ℕ) → x.m.wiring.notify ≡ b
+      → Agreed exec start (at (LookBlock j) x) y c → length l ≡ block_of x.m.wiring → IsDone (flight x) y.done c e output
       → take (block_of x.m.wiring) l ≡ take (block_of x.m.wiring) (reply_block (flight x) output) → x.m.error ≡ e → turn y.m ≡ quiet → let a : Ask = record x.m { stage = LookBlock j; loaded = l } in
       Agreed exec start (record x { m = block_on b a; done = done_after (end_told b x.m.error) x.done (block_on b a); clears = clears_after (end_told b x.m.error) x.clears }) y c
   blocked true j l x y c e output asks g long is loaded knows rests = let ok = g.ask_ok in
@@ -110,7 +115,8 @@ module _ (exec : Device) (start : List ℕ) where
       (rests, record { error = e; output = output; is = is; loaded = loaded; knows = knows })
   blocked false j l x y c e output asks g long is loaded knows rests = let ok = g.ask_ok in drains x y c c (LookBlock j) l e output g ok.flies ok.looks ok.posts long g.irq rests is loaded knows
 
-  read : (b : Bool) (j v : ℕ) (x : Asker) (y : Answerer) (c : Core) → has_more j x.m.wiring ≡ b → v ≡ get_or c.block j 0 → Agreed exec start (at (LookBlock j) x) y c
+  read : (b : Bool) (j v : ℕ) (x : Asker) (y : Answerer) (c : Core) → has_more j x.m.wiring ≡ b → v ≡ get_or c.block j 0
+      → Agreed exec start (at (LookBlock j) x) y c
       → Agreed exec start (record x { m = read_on b j v (at (LookBlock j) x).m; done = done_after (read_told b x.m.wiring.notify x.m.error) x.done (read_on b j v (at (LookBlock j) x).m); clears = clears_after (read_told b x.m.wiring.notify x.m.error) x.clears }) y c
   read true j v x y c more same g = let ok = g.ask_ok in let w = x.m.wiring in let n : ℕ = block_of w in let r = g.fits.1 in let here : j < n = ok.place in let long : length x.m.loaded ≡ n = ok.sized.loaded in
       let long' : length (reply_block (flight x) r.output) ≡ n = block_long (heads_of (style_of w)) w.room x.m.sent r.output ok.sized.sent r.is.long in
@@ -136,7 +142,8 @@ module _ (exec : Device) (start : List ℕ) where
   looks_line x y ws v g f small = (g.0, (g.1.0, g.1.1, lined (eqb v 0) x y g.0 g.1.2))
 
   -- the interrupt line is no part of a row
-  lower : (x : Asker) (y : Answerer) (c : Core) (e : Bool) (output : List ℕ) → IsDone (flight x) y.done c e output → IsDone (flight x) y.done (record c { irq = 0 }) e output
+  lower : (x : Asker) (y : Answerer) (c : Core) (e : Bool) (output : List ℕ) → IsDone (flight x) y.done c e output
+      → IsDone (flight x) y.done (record c { irq = 0 }) e output
   lower x y c e output is = record { row = record { completion = is.row.completion; line = is.row.line; block = is.row.block; done = is.row.done }; long = is.long; bytes = is.bytes; shows = is.shows }
 
   lowered : (b : Bool) (x : Asker) (y : Answerer) (c : Core) → acknowledges x.m.wiring ≡ b → Agreed exec start (at LookLineStore x) y c

@@ -53,7 +53,8 @@ module _ (look : List LookStep) where
   left_block Separate4 a = refl
   left_block Reduced5 a = refl
 
-  left_update : (s : Style) (a : Ask) → AskUpdates s → ask_left_by (post_steps s) look (after_update s) a ≡ posting (behind post_number 2 (post_steps s)) a.wiring a.code a.sent
+  left_update : (s : Style) (a : Ask) → AskUpdates s
+      → ask_left_by (post_steps s) look (after_update s) a ≡ posting (behind post_number 2 (post_steps s)) a.wiring a.code a.sent
   left_update Headed a u = absurd u
   left_update Joined3 a u = refl
   left_update Separate3 a u = refl
@@ -61,7 +62,8 @@ module _ (look : List LookStep) where
   left_update Separate4 a u = absurd u
   left_update Reduced5 a u = absurd u
 
-  left_mark : (s : Style) (a : Ask) → AskClears s → ask_left_by (post_steps s) look (after_mark s) a ≡ posting (behind post_number 3 (post_steps s)) a.wiring a.code a.sent
+  left_mark : (s : Style) (a : Ask) → AskClears s
+      → ask_left_by (post_steps s) look (after_mark s) a ≡ posting (behind post_number 3 (post_steps s)) a.wiring a.code a.sent
   left_mark Headed a u = absurd u
   left_mark Joined3 a u = absurd u
   left_mark Separate3 a u = refl
@@ -69,7 +71,8 @@ module _ (look : List LookStep) where
   left_mark Separate4 a u = refl
   left_mark Reduced5 a u = refl
 
-  left_bell : (s : Style) (a : Ask) → AskRings s → ask_left_by (post_steps s) look (after_bell s) a ≡ posting (behind post_number 4 (post_steps s)) a.wiring a.code a.sent
+  left_bell : (s : Style) (a : Ask) → AskRings s
+      → ask_left_by (post_steps s) look (after_bell s) a ≡ posting (behind post_number 4 (post_steps s)) a.wiring a.code a.sent
   left_bell Headed a u = refl
   left_bell Joined3 a u = refl
   left_bell Separate3 a u = refl
@@ -77,11 +80,13 @@ module _ (look : List LookStep) where
   left_bell Separate4 a u = absurd u
   left_bell Reduced5 a u = refl
 
-  header_walks : (s : Style) (a : Ask) → s ≡ Headed → Takes (ask_left_by (post_steps s) look PostHeader a) (ask_next_at PostHeader a) (λ v. ask_left_by (post_steps s) look PostBellLoad (record a { stage = PostBellLoad }))
+  header_walks : (s : Style) (a : Ask) → s ≡ Headed
+      → Takes (ask_left_by (post_steps s) look PostHeader a) (ask_next_at PostHeader a) (λ v. ask_left_by (post_steps s) look PostBellLoad (record a { stage = PostBellLoad }))
   header_walks Headed a e = (refl, λ v. refl)
   header_walks _ a e = cc
 
-  update_walks : (s : Style) (a : Ask) → AskUpdates s → Takes (ask_left_by (post_steps s) look PostUpdateLoad a) (ask_next_at PostUpdateLoad a) (λ v. ask_left_by (post_steps s) look PostUpdateStore (record a { stage = PostUpdateStore; kept = v }))
+  update_walks : (s : Style) (a : Ask) → AskUpdates s
+      → Takes (ask_left_by (post_steps s) look PostUpdateLoad a) (ask_next_at PostUpdateLoad a) (λ v. ask_left_by (post_steps s) look PostUpdateStore (record a { stage = PostUpdateStore; kept = v }))
   update_walks Headed a u = absurd u
   update_walks Joined3 a u = (refl, λ v. refl)
   update_walks Separate3 a u = (refl, λ v. refl)
@@ -89,7 +94,8 @@ module _ (look : List LookStep) where
   update_walks Separate4 a u = absurd u
   update_walks Reduced5 a u = absurd u
 
-  mark_walks : (s : Style) (a : Ask) → AskClears s → Takes (ask_left_by (post_steps s) look PostMarkLoad a) (ask_next_at PostMarkLoad a) (λ v. ask_left_by (post_steps s) look PostMarkStore (record a { stage = PostMarkStore; kept = v }))
+  mark_walks : (s : Style) (a : Ask) → AskClears s
+      → Takes (ask_left_by (post_steps s) look PostMarkLoad a) (ask_next_at PostMarkLoad a) (λ v. ask_left_by (post_steps s) look PostMarkStore (record a { stage = PostMarkStore; kept = v }))
   mark_walks Headed a u = absurd u
   mark_walks Joined3 a u = absurd u
   mark_walks Separate3 a u = (refl, λ v. refl)
@@ -97,7 +103,8 @@ module _ (look : List LookStep) where
   mark_walks Separate4 a u = (refl, λ v. refl)
   mark_walks Reduced5 a u = (refl, λ v. refl)
 
-  bell_walks : (s : Style) (a : Ask) → AskRings s → Takes (ask_left_by (post_steps s) look PostBellLoad a) (ask_next_at PostBellLoad a) (λ v. ask_left_by (post_steps s) look PostBellStore (record a { stage = PostBellStore; kept = v }))
+  bell_walks : (s : Style) (a : Ask) → AskRings s
+      → Takes (ask_left_by (post_steps s) look PostBellLoad a) (ask_next_at PostBellLoad a) (λ v. ask_left_by (post_steps s) look PostBellStore (record a { stage = PostBellStore; kept = v }))
   bell_walks Headed a u = (refl, λ v. refl)
   bell_walks Joined3 a u = (refl, λ v. refl)
   bell_walks Separate3 a u = (refl, λ v. refl)
@@ -112,11 +119,13 @@ module _ (look : List LookStep) where
 -- ---- looking
 
 module _ (post : List PostStep) where
-  left_look : (t n : Bool) (a : Ask) (e : Bool) → ask_left_by post (look_table t n) (after_look t) (record a { stage = after_look t; error = e }) ≡ looking (behind look_number 0 (look_table t n)) a.wiring (record { error = e; block = [] })
+  left_look : (t n : Bool) (a : Ask) (e : Bool)
+      → ask_left_by post (look_table t n) (after_look t) (record a { stage = after_look t; error = e }) ≡ looking (behind look_number 0 (look_table t n)) a.wiring (record { error = e; block = [] })
   left_look true n a e = refl
   left_look false n a e = ap (λ (k : ℕ). load_words 8 k [] (λ b. looking (behind look_number 2 (look_table false n)) a.wiring (record { error = e; block = b }))) (let z : block_of a.wiring - 0 ≡ block_of a.wiring = omega arith in z)
 
-  error_walks : (t n : Bool) (a : Ask) → t ≡ true → Takes (ask_left_by post (look_table t n) LookError a) (ask_next_at LookError a) (λ v. ask_left_by post (look_table t n) (LookBlock 0) (record a { stage = LookBlock 0; error = meets v a.wiring.error_mask }))
+  error_walks : (t n : Bool) (a : Ask) → t ≡ true
+      → Takes (ask_left_by post (look_table t n) LookError a) (ask_next_at LookError a) (λ v. ask_left_by post (look_table t n) (LookBlock 0) (record a { stage = LookBlock 0; error = meets v a.wiring.error_mask }))
   error_walks true n a e = (refl, λ v. ap (λ (k : ℕ). load_words 8 k [] (λ b. looking (behind look_number 2 (look_table true n)) a.wiring (record { error = meets v a.wiring.error_mask; block = b }))) (let z : block_of a.wiring - 0 ≡ block_of a.wiring = omega arith in z))
   error_walks false n a e = cc
 
@@ -151,15 +160,18 @@ word_walks : (t n : Bool) (a : Ask) (next : ℕ → Run AskEnd)
     → Takes (looking (from look_number 0 (look_table t n)) a.wiring (record { error = false; block = [] })) (Load 0) next
 word_walks t n a next h = (refl, h)
 
-looked : (b : Bool) (v : ℕ) (a : Ask) → ask_after (look_told b) (look_on b v a) ≡ (if b then looking (behind look_number 0 (look_steps a.wiring)) a.wiring (record { error = header_error (style_of a.wiring) v; block = [] }) else ends sees_clear)
+looked : (b : Bool) (v : ℕ) (a : Ask)
+    → ask_after (look_told b) (look_on b v a) ≡ (if b then looking (behind look_number 0 (look_steps a.wiring)) a.wiring (record { error = header_error (style_of a.wiring) v; block = [] }) else ends sees_clear)
 looked true v a = left_look (post_steps (style_of a.wiring)) (tells_error a.wiring) a.wiring.notify a (header_error (style_of a.wiring) v)
 looked false v a = refl
 
-blocked : (b : Bool) (a : Ask) → a.wiring.notify ≡ b → ask_after (end_told b a.error) (block_on b a) ≡ looking (behind look_number 2 (look_steps a.wiring)) a.wiring (seen a)
+blocked : (b : Bool) (a : Ask) → a.wiring.notify ≡ b
+    → ask_after (end_told b a.error) (block_on b a) ≡ looking (behind look_number 2 (look_steps a.wiring)) a.wiring (seen a)
 blocked true a e = ap (λ (l : List LookStep). looking l a.wiring (seen a)) (tail_look (tells_error a.wiring) a.wiring.notify)
 blocked false a e = sym (ap (λ (l : List LookStep). looking l a.wiring (seen a)) (no_tail (tells_error a.wiring) a.wiring.notify e))
 
-read : (b : Bool) (j v : ℕ) (a : Ask) → has_more j a.wiring ≡ b → j < block_of a.wiring → length a.loaded ≡ block_of a.wiring → let k = λ (l : List ℕ). looking (behind look_number 2 (look_steps a.wiring)) a.wiring (record { error = a.error; block = l }) in
+read : (b : Bool) (j v : ℕ) (a : Ask) → has_more j a.wiring ≡ b → j < block_of a.wiring → length a.loaded ≡ block_of a.wiring
+    → let k = λ (l : List ℕ). looking (behind look_number 2 (look_steps a.wiring)) a.wiring (record { error = a.error; block = l }) in
     ask_after (read_told b a.wiring.notify a.error) (read_on b j v a) ≡ load_words (8 + j + 1) (block_of a.wiring - (j + 1)) (take j a.loaded ++ v ∷ []) k
 read true j v a more here long = let k = λ (l : List ℕ). looking (behind look_number 2 (look_steps a.wiring)) a.wiring (record { error = a.error; block = l }) in let m : ℕ = block_of a.wiring - (j + 1) in
     let t = take_more_set a.loaded j v (omega arith) in λ i. load_words (next_place j i) m (t i) k
@@ -168,7 +180,8 @@ read false j v a more here long = let k = λ (l : List ℕ). looking (behind loo
     let t : take j a.loaded ++ v ∷ [] ≡ l = sym (take_more_set a.loaded j v (omega arith)) ∙ all_taken (j + 1) l (omega arith) in
     blocked a.wiring.notify (record a { loaded = l }) refl ∙ sym (λ i. load_words (8 + j + 1) (none i) (t i) k)
 
-lined : (b : Bool) (a : Ask) → ask_after (line_told b a.error) (line_on b a) ≡ (if b then ends (drains a.error a.loaded) else stores 4 0 (acknowledging a.wiring (ends (drains a.error a.loaded))))
+lined : (b : Bool) (a : Ask)
+    → ask_after (line_told b a.error) (line_on b a) ≡ (if b then ends (drains a.error a.loaded) else stores 4 0 (acknowledging a.wiring (ends (drains a.error a.loaded))))
 lined true a = refl
 lined false a = ap (λ (r : Run AskEnd). stores 4 0 (acknowledging a.wiring r)) (over_now a)
 
@@ -179,13 +192,15 @@ line_walks_at true true a next e h = (refl, h)
 line_walks_at false true a next e h = (refl, h)
 line_walks_at t false a next e h = cc
 
-lowered : (b : Bool) (a : Ask) → let k : Run AskEnd = looking (behind look_number 3 (look_steps a.wiring)) a.wiring (seen a) in ask_after (end_told b a.error) (lowered_on b a) ≡ (if b then masked_write 5 a.wiring.ack k else k)
+lowered : (b : Bool) (a : Ask)
+    → let k : Run AskEnd = looking (behind look_number 3 (look_steps a.wiring)) a.wiring (seen a) in ask_after (end_told b a.error) (lowered_on b a) ≡ (if b then masked_write 5 a.wiring.ack k else k)
 lowered true a = refl
 lowered false a = sym (over_now a)
 
 -- ---- every stage
 
-store_walks : (b : Bool) (j : ℕ) (a : Ask) → has_more j a.wiring ≡ b → length a.sent ≡ block_of a.wiring → ask_after None (store_on b j a) ≡ store_words (8 + j + 1) (drop (j + 1) a.sent) (posting (behind post_number 0 (post_steps (style_of a.wiring))) a.wiring a.code a.sent)
+store_walks : (b : Bool) (j : ℕ) (a : Ask) → has_more j a.wiring ≡ b → length a.sent ≡ block_of a.wiring
+    → ask_after None (store_on b j a) ≡ store_words (8 + j + 1) (drop (j + 1) a.sent) (posting (behind post_number 0 (post_steps (style_of a.wiring))) a.wiring a.code a.sent)
 store_walks true j a more long = ap (λ (p : ℕ). store_words p (drop (j + 1) a.sent) (posting (behind post_number 0 (post_steps (style_of a.wiring))) a.wiring a.code a.sent)) (next_place j)
 store_walks false j a more long = let k : Run AskEnd = posting (behind post_number 0 (post_steps (style_of a.wiring))) a.wiring a.code a.sent in let last : block_of a.wiring ≤ j + 1 = ltb-false (j + 1) (block_of a.wiring) more in
     left_block (look_steps a.wiring) (style_of a.wiring) (record a { stage = after_block (style_of a.wiring) }) ∙ sym (ap (λ (l : List ℕ). store_words (8 + j + 1) l k) (none_left (j + 1) a.sent (omega arith)))
@@ -193,7 +208,8 @@ store_walks false j a more long = let k : Run AskEnd = posting (behind post_numb
 abbrev pub left_at : AskStage → Ask → Run AskEnd
 left_at st a = ask_left_by (post_steps (style_of a.wiring)) (look_steps a.wiring) st a
 
-pub walks : (st : AskStage) (a : Ask) → st ≢ AskRest → AskOk (record a { stage = st }) → Takes (left_at st a) (ask_next_at st a) (λ v. ask_after (ask_told_at st a v) (ask_fed_at st a v))
+pub walks : (st : AskStage) (a : Ask) → st ≢ AskRest → AskOk (record a { stage = st })
+    → Takes (left_at st a) (ask_next_at st a) (λ v. ask_after (ask_told_at st a v) (ask_fed_at st a v))
 walks AskRest a runs ok = absurd (runs refl)
 walks (PostBlock j) a runs ok = let k : Run AskEnd = posting (behind post_number 0 (post_steps (style_of a.wiring))) a.wiring a.code a.sent in let here : j < block_of a.wiring = ok.place in let long : length a.sent ≡ block_of a.wiring = ok.sized.sent in
     subst (λ (l : List ℕ). Takes (store_words (8 + j) l k) (ask_next_at (PostBlock j) a) (λ v. ask_after None (ask_fed_at (PostBlock j) a v))) (sym (dropped j a.sent (omega arith))) (refl, λ v. store_walks (has_more j a.wiring) j a refl long)
@@ -216,12 +232,14 @@ walks LookAckStore a runs ok = (refl, λ v. sym (over_now a))
 
 -- ---- the beginnings
 
-first_block : (s : Style) (w : Wiring) (code : ℕ) (block : List ℕ) → store_words 8 block (posting (behind post_number 0 (post_steps s)) w code block) ≡ posting (post_steps s) w code block
+first_block : (s : Style) (w : Wiring) (code : ℕ) (block : List ℕ)
+    → store_words 8 block (posting (behind post_number 0 (post_steps s)) w code block) ≡ posting (post_steps s) w code block
 first_block Headed w code block = refl
 first_block _ w code block = refl
 
 -- the count of steps is no part of a run
-stepped_at : (post : List PostStep) (look : List LookStep) (st : AskStage) (a : Ask) (n : ℕ) → ask_left_by post look st (record a { steps = n }) ≡ ask_left_by post look st a
+stepped_at : (post : List PostStep) (look : List LookStep) (st : AskStage) (a : Ask) (n : ℕ)
+    → ask_left_by post look st (record a { steps = n }) ≡ ask_left_by post look st a
 stepped_at post look AskRest a n = refl
 stepped_at post look _ a n = refl
 

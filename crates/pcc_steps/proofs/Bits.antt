@@ -43,16 +43,19 @@ pub code_seen : (w : Wiring) (code word : ℕ) → w.id < 2 ^ 8 → code < 256 �
 code_seen w code word id h is = ap code_in is ∙ code_in-header_word code w.notify 0 w.id (command code 0 w.id id h (omega arith))
 
 -- the header with its status
-pub status_seen : (w : Wiring) (code word : ℕ) (e : Bool) → w.id < 2 ^ 8 → code < 256 → word ≡ sent_header w code 0 → with_status word (status_of e) ≡ sent_header w code (status_of e)
+pub status_seen : (w : Wiring) (code word : ℕ) (e : Bool) → w.id < 2 ^ 8 → code < 256 → word ≡ sent_header w code 0
+    → with_status word (status_of e) ≡ sent_header w code (status_of e)
 status_seen w code word e id h is = ap (λ (n : ℕ). with_status n (status_of e)) is ∙ with_status-header_word code w.notify 0 (status_of e) w.id (command code 0 w.id id h (omega arith))
 
 -- ---- word 0 of each style
 
-pub closed_unset : (s : Style) (w : Wiring) (code word : ℕ) → w.id < 2 ^ 8 → CodeFits s code → Marked s w code closed word → is_complete s w.check_mask word ≡ false
+pub closed_unset : (s : Style) (w : Wiring) (code word : ℕ) → w.id < 2 ^ 8 → CodeFits s code → Marked s w code closed word
+    → is_complete s w.check_mask word ≡ false
 closed_unset Headed w code word id h m = ap (λ (n : ℕ). is_set n 48) m ∙ unset w code id h
 closed_unset _ w code word id h m = m
 
-pub finished_set : (s : Style) (w : Wiring) (code word : ℕ) (e : Bool) → w.id < 2 ^ 8 → CodeFits s code → Marked s w code (finished e) word → is_complete s w.check_mask word ≡ true
+pub finished_set : (s : Style) (w : Wiring) (code word : ℕ) (e : Bool) → w.id < 2 ^ 8 → CodeFits s code → Marked s w code (finished e) word
+    → is_complete s w.check_mask word ≡ true
 finished_set Headed w code word e id h m = ap (λ (n : ℕ). is_set n 48) m ∙ set_done w code e id h
 finished_set _ w code word e id h m = m
 
@@ -67,11 +70,13 @@ opened_set _ w code word m = m
 pub reopened : (s : Style) (w : Wiring) (code code' word : ℕ) → Marked s w code opened word → Marked s w code' opened word
 reopened s w code code' word m = set_opened s w code' word (opened_set s w code word m)
 
-pub finished_opened : (s : Style) (w : Wiring) (code word : ℕ) (e : Bool) → w.id < 2 ^ 8 → CodeFits s code → Marked s w code (finished e) word → Marked s w code opened word
+pub finished_opened : (s : Style) (w : Wiring) (code word : ℕ) (e : Bool) → w.id < 2 ^ 8 → CodeFits s code → Marked s w code (finished e) word
+    → Marked s w code opened word
 finished_opened s w code word e id h m = set_opened s w code word (finished_set s w code word e id h m)
 
 -- the error that word 0 tells, where no register tells it
-pub error_seen : (s : Style) (reports : Bool) (w : Wiring) (code word found register : ℕ) (e : Bool) → w.id < 2 ^ 8 → CodeFits s code → tells_by s reports ≡ false → found ≡ word → Marked s w code (finished e) word → ShowsBy s reports w.error_mask register e → header_error s found ≡ e
+pub error_seen : (s : Style) (reports : Bool) (w : Wiring) (code word found register : ℕ) (e : Bool) → w.id < 2 ^ 8 → CodeFits s code
+    → tells_by s reports ≡ false → found ≡ word → Marked s w code (finished e) word → ShowsBy s reports w.error_mask register e → header_error s found ≡ e
 error_seen Headed reports w code word found register e id h silent same m t = ap (λ (n : ℕ). is_set n 50) (same ∙ m) ∙ told_error w code e id h
 error_seen _ true w code word found register e id h silent same m t = cc
 error_seen _ false w code word found register e id h silent same m t = sym t
@@ -102,7 +107,9 @@ masked_off : (kept p t mask : ℕ) → bit_and (bit_or p t) mask ≡ 0 → bit_a
 masked_off kept p t mask e = same_from_bits (bit_and (bit_or (bit_and kept p) t) mask) 0 (λ i. let a = bit_at_and (bit_or (bit_and kept p) t) mask i in let b = bit_at_or (bit_and kept p) t i in let c = bit_at_and kept p i in
     let f = bit_at_and (bit_or p t) mask i in let g = bit_at_or p t i in let z = bit_at-zero i in let q = ap (λ (n : ℕ). bit_at n i) e in grind (arith, a, b, c, f, g, z, q, bit_at-lt))
 
-joined_by : (low three four j : Bool) → (if low then Headed else if three then (if j then Joined3 else Separate3) else if four then (if j then Joined4 else Separate4) else Reduced5) ≡ Joined3 → (three ≡ true) × (j ≡ true)
+joined_by : (low three four j : Bool)
+    → (if low then Headed else if three then (if j then Joined3 else Separate3) else if four then (if j then Joined4 else Separate4) else Reduced5) ≡ Joined3
+    → (three ≡ true) × (j ≡ true)
 joined_by true three four j e = (cc, cc)
 joined_by false true four true e = (refl, refl)
 joined_by false true four false e = (refl, cc)
@@ -118,7 +125,9 @@ clears_update w code kept e right = let k = style_joined w.kind w.joined e in ze
 
 -- ---- what the answering side stores
 
-headed_by : (low three four j : Bool) → (if low then Headed else if three then (if j then Joined3 else Separate3) else if four then (if j then Joined4 else Separate4) else Reduced5) ≡ Headed → low ≡ true
+headed_by : (low three four j : Bool)
+    → (if low then Headed else if three then (if j then Joined3 else Separate3) else if four then (if j then Joined4 else Separate4) else Reduced5) ≡ Headed
+    → low ≡ true
 headed_by true three four j e = refl
 headed_by false true four true e = cc
 headed_by false true four false e = cc
@@ -126,11 +135,15 @@ headed_by false false true true e = cc
 headed_by false false true false e = cc
 headed_by false false false j e = cc
 
-unheaded_by : (low three four j : Bool) → (if low then Headed else if three then (if j then Joined3 else Separate3) else if four then (if j then Joined4 else Separate4) else Reduced5) ≢ Headed → low ≡ false
+unheaded_by : (low three four j : Bool)
+    → (if low then Headed else if three then (if j then Joined3 else Separate3) else if four then (if j then Joined4 else Separate4) else Reduced5) ≢ Headed
+    → low ≡ false
 unheaded_by true three four j other = absurd (other refl)
 unheaded_by false three four j other = refl
 
-joined4_by : (low three four j : Bool) → (if low then Headed else if three then (if j then Joined3 else Separate3) else if four then (if j then Joined4 else Separate4) else Reduced5) ≡ Joined4 → (four ≡ true) × (j ≡ true)
+joined4_by : (low three four j : Bool)
+    → (if low then Headed else if three then (if j then Joined3 else Separate3) else if four then (if j then Joined4 else Separate4) else Reduced5) ≡ Joined4
+    → (four ≡ true) × (j ≡ true)
 joined4_by true three four j e = (cc, cc)
 joined4_by false true four true e = (cc, refl)
 joined4_by false true four false e = (cc, cc)
@@ -151,7 +164,8 @@ reports_headed w e right = right.reports (low_kind w e)
 all_bits : (word mask : ℕ) → mask ≢ 0 → bit_and (bit_or word mask) mask ≢ 0
 all_bits word mask some z = let e = and_or_self mask word in some (omega arith)
 
-pub sets_mark : (s : Style) (w : Wiring) (code kept : ℕ) (e : Bool) → s ≢ Headed → style_of w ≡ s → IsRight w → Marked s w code (finished e) (bit_or kept w.check_mask)
+pub sets_mark : (s : Style) (w : Wiring) (code kept : ℕ) (e : Bool) → s ≢ Headed → style_of w ≡ s → IsRight w
+    → Marked s w code (finished e) (bit_or kept w.check_mask)
 sets_mark Headed w code kept e other is right = absurd (other refl)
 sets_mark s w code kept e other is right = ap not (ne_eqb (bit_and (bit_or kept w.check_mask) w.check_mask) 0 (all_bits kept w.check_mask (right.check (high_kind w (λ headed. other (sym is ∙ headed))))))
 
@@ -172,7 +186,8 @@ error_stored : (w : Wiring) (bad : Bool) → w.error_mask ≢ 0 → meets (error
 error_stored w true some = ap not (ne_eqb (bit_and w.error_mask w.error_mask) 0 (λ z. some (sym (and_self w.error_mask) ∙ z)))
 error_stored w false some = ap (λ (n : ℕ). not (n == 0)) (none_and w.error_mask)
 
-shows_by : (s : Style) (r : Bool) (w : Wiring) (bad : Bool) → tells_by s r ≡ true → (s ≢ Headed → r ≡ true → w.error_mask ≢ 0) → ShowsBy s r w.error_mask (error_word w bad) (both r bad)
+shows_by : (s : Style) (r : Bool) (w : Wiring) (bad : Bool) → tells_by s r ≡ true → (s ≢ Headed → r ≡ true → w.error_mask ≢ 0)
+    → ShowsBy s r w.error_mask (error_word w bad) (both r bad)
 shows_by Headed r w bad is some = tt
 shows_by Joined3 true w bad is some = error_stored w bad (some (λ e. cc) refl)
 shows_by Separate3 true w bad is some = error_stored w bad (some (λ e. cc) refl)
@@ -181,7 +196,8 @@ shows_by Separate4 true w bad is some = error_stored w bad (some (λ e. cc) refl
 shows_by Reduced5 true w bad is some = error_stored w bad (some (λ e. cc) refl)
 shows_by s false w bad is some = cc
 
-pub shows_stored : (w : Wiring) (bad : Bool) → tells_by (style_of w) w.reports ≡ true → IsRight w → ShowsBy (style_of w) w.reports w.error_mask (error_word w bad) (both w.reports bad)
+pub shows_stored : (w : Wiring) (bad : Bool) → tells_by (style_of w) w.reports ≡ true → IsRight w
+    → ShowsBy (style_of w) w.reports w.error_mask (error_word w bad) (both w.reports bad)
 shows_stored w bad is right = shows_by (style_of w) w.reports w bad is (λ other told. right.error (high_kind w other) told)
 
 -- where no register tells errors, none has to show one
@@ -191,7 +207,8 @@ shows_none _ true mask word bad is = cc
 shows_none _ false mask word bad is = refl
 
 -- the code that the answering side finds
-pub code_known : (s : Style) (w : Wiring) (code header : ℕ) (sent : List ℕ) → w.id < 2 ^ 8 → CodeFits s code → HasHeader (TakeBlock 0) s w code header → Carries s code sent → code_by s header sent ≡ code
+pub code_known : (s : Style) (w : Wiring) (code header : ℕ) (sent : List ℕ) → w.id < 2 ^ 8 → CodeFits s code → HasHeader (TakeBlock 0) s w code header
+    → Carries s code sent → code_by s header sent ≡ code
 code_known Headed w code header sent id fits has carries = code_seen w code header id fits has
 code_known Joined3 w code header sent id fits has carries = carries
 code_known Separate3 w code header sent id fits has carries = carries

@@ -27,7 +27,8 @@ stored : {E : Type 0} (p : ℕ) (ws : List ℕ) (k : Run E) (m : ℕ) → Within
 stored p [] k m h = more m (0 + m) k (omega arith) h
 stored p (w ∷ ws) k m h = (omega arith, more (length ws + m) (length (w ∷ ws) + m - 1) (store_words (p + 1) ws k) (omega arith) (stored (p + 1) ws k m h))
 
-loaded : {E : Type 0} (p n : ℕ) (found : List ℕ) (k : List ℕ → Run E) (m : ℕ) → ((b : List ℕ) → length b ≡ length found + n → Within m (k b)) → Within (n + m) (load_words p n found k)
+loaded : {E : Type 0} (p n : ℕ) (found : List ℕ) (k : List ℕ → Run E) (m : ℕ) → ((b : List ℕ) → length b ≡ length found + n → Within m (k b))
+    → Within (n + m) (load_words p n found k)
 loaded p zero found k m h = more m (0 + m) (k found) (omega arith) (h found (omega arith))
 loaded p (suc n) found k m h = (omega arith, λ v. more (n + m) (suc n + m - 1) (load_words (p + 1) n (found ++ v ∷ []) k) (omega arith) (loaded (p + 1) n (found ++ v ∷ []) k m (λ b e. h b (let l = length-append found (v ∷ []) in omega (arith, l, e)))))
 
@@ -76,12 +77,15 @@ completed _ rings w g = (omega arith, λ v. (omega arith, more 3 5 _ (omega arit
 completed_headed : (rings : Bool) (w : Wiring) (g : Got) → Within 4 (answering (completing_steps Headed (closing rings)) w g)
 completed_headed rings w g = (omega arith, closed rings w g)
 
-errors : (s : Style) (m : ℕ) (tells rings : Bool) (w : Wiring) (g : Got) → Within m (answering (completing_steps s (closing rings)) w g) → Within (m + 1) (answering (replied s tells rings) w g)
+errors : (s : Style) (m : ℕ) (tells rings : Bool) (w : Wiring) (g : Got) → Within m (answering (completing_steps s (closing rings)) w g)
+    → Within (m + 1) (answering (replied s tells rings) w g)
 errors s m true rings w g h = (omega arith, more m (m + 1 - 1) _ (omega arith) h)
 errors s m false rings w g h = more m (m + 1) _ (omega arith) h
 
 -- the device leaves as many words as it found
-executed : (s : Style) (m : ℕ) (tells rings : Bool) (w : Wiring) (g : Got) → length g.block ≡ block_of w → ((g : Got) → Within m (answering (replied s tells rings) w g)) → Within (block_of w + m) (answering (executes_command ∷ replies_space ∷ replied s tells rings) w g)
+executed : (s : Style) (m : ℕ) (tells rings : Bool) (w : Wiring) (g : Got) → length g.block ≡ block_of w
+    → ((g : Got) → Within m (answering (replied s tells rings) w g))
+    → Within (block_of w + m) (answering (executes_command ∷ replies_space ∷ replied s tells rings) w g)
 executed s m tells rings w g long h = λ bad reply e. let k : ℕ = heads_of (style_of w) in let a = length-bytes_of (drop k g.block) in let d = length-drop k g.block in let q = length-words_of reply in let f : length reply ≡ length (bytes_of (drop k g.block)) = e in
     let small : length (words_of reply) ≤ block_of w = omega (arith, a, d, q, f) in
     more (length (words_of reply) + m) (block_of w + m) _ (omega arith) (stored (8 + k) (words_of reply) (answering (replied s tells rings) w (record g { bad = bad; reply = reply })) m (h (record g { bad = bad; reply = reply })))
@@ -90,11 +94,13 @@ took_block : (s : Style) (m : ℕ) (tells rings : Bool) (w : Wiring) (g : Got) �
     → Within (block_of w + (block_of w + m)) (load_words 8 (block_of w) [] (λ b. answering (executes_command ∷ replies_space ∷ replied s tells rings) w (record g { block = b })))
 took_block s m tells rings w g h = loaded 8 (block_of w) [] (λ b. answering (executes_command ∷ replies_space ∷ replied s tells rings) w (record g { block = b })) (block_of w + m) (λ b e. executed s m tells rings w (record g { block = b }) (e ∙ (let z : 0 + block_of w ≡ block_of w = omega arith in z)) h)
 
-taken : (s : Style) (tells rings : Bool) (w : Wiring) (g : Got) → Within (2 * block_of w + 8) (answering (taking_steps s (executes_command ∷ replies_space ∷ replied s tells rings)) w g)
+taken : (s : Style) (tells rings : Bool) (w : Wiring) (g : Got)
+    → Within (2 * block_of w + 8) (answering (taking_steps s (executes_command ∷ replies_space ∷ replied s tells rings)) w g)
 taken Headed tells rings w g = let n : ℕ = block_of w in (omega arith, λ v. more (n + (n + 5)) (2 * n + 8 - 1) _ (omega arith) (took_block Headed 5 tells rings w (record g { header = v }) (λ g. errors Headed 4 tells rings w g (completed_headed rings w g))))
 taken s tells rings w g = let n : ℕ = block_of w in more (n + (n + 8)) (2 * n + 8) _ (omega arith) (took_block s 8 tells rings w g (λ g. errors s 7 tells rings w g (completed s rings w g)))
 
-acked : (ack : Bool) (s : Style) (tells rings : Bool) (w : Wiring) (g : Got) → Within (2 * block_of w + 10) (answering (only ack acknowledges_bell (taking_steps s (executes_command ∷ replies_space ∷ replied s tells rings))) w g)
+acked : (ack : Bool) (s : Style) (tells rings : Bool) (w : Wiring) (g : Got)
+    → Within (2 * block_of w + 10) (answering (only ack acknowledges_bell (taking_steps s (executes_command ∷ replies_space ∷ replied s tells rings))) w g)
 acked true s tells rings w g = let n : ℕ = block_of w in (omega arith, λ v. (omega arith, more (2 * n + 8) (2 * n + 10 - 1 - 1) _ (omega arith) (taken s tells rings w g)))
 acked false s tells rings w g = let n : ℕ = block_of w in more (2 * n + 8) (2 * n + 10) _ (omega arith) (taken s tells rings w g)
 

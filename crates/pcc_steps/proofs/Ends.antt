@@ -127,7 +127,8 @@ served : (st : AnswerStage) → served_at st ≡ None → st ≢ AnswerRest
 served AnswerRest n e = cc
 served _ n e = cc
 
-goes_on' : (st : AnswerStage) (a : Answer) (v : ℕ) → (st ≢ AnswerRest) × (st ≢ RunDevice) → answer_told_at st a v ≡ None → (answer_fed_at st a v).stage ≢ AnswerRest
+goes_on' : (st : AnswerStage) (a : Answer) (v : ℕ) → (st ≢ AnswerRest) × (st ≢ RunDevice) → answer_told_at st a v ≡ None
+    → (answer_fed_at st a v).stage ≢ AnswerRest
 goes_on' AnswerRest a v runs n = absurd (runs.0 refl)
 goes_on' TakeLine a v runs n = took (eqb v 0) a n
 goes_on' TakeAckLoad a v runs n = λ e. cc

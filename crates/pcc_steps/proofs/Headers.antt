@@ -35,7 +35,8 @@ over_long space bytes room e h = let l = length-append bytes (drop (length bytes
 pub asked_short : (space bytes : List ℕ) (room : ℕ) → length space ≡ room → length (over space bytes) ≡ room → length bytes ≤ room
 asked_short space bytes room e h = let l = length-append bytes (drop (length bytes) space) in omega (arith, l)
 
-pub block_sent : (s : Style) (w : Wiring) (code asked room : ℕ) (input : List ℕ) → length input ≡ room → length (block_header s w code asked ++ words_of input) ≡ heads_of s + room / 8
+pub block_sent : (s : Style) (w : Wiring) (code asked room : ℕ) (input : List ℕ) → length input ≡ room
+    → length (block_header s w code asked ++ words_of input) ≡ heads_of s + room / 8
 block_sent s w code asked room input e = let l = length-append (block_header s w code asked) (words_of input) in let h = heads_long s w code asked in let k = words_long input in let q = ap (λ (n : ℕ). n / 8) e in omega (arith, l, h, k, q)
 
 pub behind_header : (s : Style) (w : Wiring) (code asked : ℕ) (ws : List ℕ) → drop (heads_of s) (block_header s w code asked ++ ws) ≡ ws
@@ -69,13 +70,15 @@ carried Separate4 w code asked ws id small = upper_half (4 + asked) code (omega 
 carried Reduced5 w code asked ws id small = upper_half (signature_of w.id) code (signed w.id id)
 
 -- the header words after a history that has one command more
-pub header_last : (w : Wiring) (header opening : List ℕ) (h : List Exchange) (asked : List (List ℕ)) (e : Exchange) (bytes : List ℕ) → WholeHistory opening h asked → header_after w header (h ++ e ∷ []) (asked ++ bytes ∷ []) ≡ block_header (style_of w) w e.code (length bytes)
+pub header_last : (w : Wiring) (header opening : List ℕ) (h : List Exchange) (asked : List (List ℕ)) (e : Exchange) (bytes : List ℕ)
+    → WholeHistory opening h asked → header_after w header (h ++ e ∷ []) (asked ++ bytes ∷ []) ≡ block_header (style_of w) w e.code (length bytes)
 header_last w header opening [] [] e bytes i = refl
 header_last w header opening [] (b ∷ asked) e bytes i = absurd i
 header_last w header opening (c ∷ h) [] e bytes i = absurd i
 header_last w header opening (c ∷ h) (b ∷ asked) e bytes i = header_last w (block_header (style_of w) w c.code (length b)) c.output h asked e bytes i.1
 
-pub whole_more : (opening : List ℕ) (h : List Exchange) (asked : List (List ℕ)) (e : Exchange) (bytes : List ℕ) → WholeHistory opening h asked → e.input ≡ over (space_after opening h) bytes → WholeHistory opening (h ++ e ∷ []) (asked ++ bytes ∷ [])
+pub whole_more : (opening : List ℕ) (h : List Exchange) (asked : List (List ℕ)) (e : Exchange) (bytes : List ℕ) → WholeHistory opening h asked
+    → e.input ≡ over (space_after opening h) bytes → WholeHistory opening (h ++ e ∷ []) (asked ++ bytes ∷ [])
 whole_more opening [] [] e bytes w i = (i, tt)
 whole_more opening [] (b ∷ asked) e bytes w i = absurd w
 whole_more opening (c ∷ h) [] e bytes w i = absurd w

@@ -106,7 +106,8 @@ untold' CloseBellStore a v runs = served (after_close (asks_notify a)) runs
 untold' CloseLine a v runs = absurd (runs refl)
 
 -- a device takes no word step
-pub none_less : (n : ℕ) (r : Run AnswerEnd) (x : Action) (space : List ℕ) (next : Bool → List ℕ → Run AnswerEnd) → Gives r x space next → Within n r → (bad : Bool) (reply : List ℕ) → length reply ≡ length space → Within n (next bad reply)
+pub none_less : (n : ℕ) (r : Run AnswerEnd) (x : Action) (space : List ℕ) (next : Bool → List ℕ → Run AnswerEnd) → Gives r x space next → Within n r
+    → (bad : Bool) (reply : List ℕ) → length reply ≡ length space → Within n (next bad reply)
 none_less n (ends e) x space next t w bad reply long = absurd t
 none_less n (loads p f) x space next t w bad reply long = absurd t
 none_less n (stores p u r) x space next t w bad reply long = absurd t

@@ -24,3 +24,6 @@ pub mod Wired
 pub mod Reaches
 pub mod Ends
 pub mod Refusals
+pub mod AskFeeds
+pub mod AnswerFeeds
+pub mod BlockMoves

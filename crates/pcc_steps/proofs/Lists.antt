@@ -1,5 +1,5 @@
 -- Facts on lists of words.
-use Rattle.std.proofs.Common.{◌≡◌, ℕ, zero, suc, ◌+◌, ◌<◌, List, [], ◌∷◌, ◌++◌, length, get_or, set, take, refl, sym, ap, ◌∙◌, subst, arith, add-one}
+use Rattle.std.proofs.Common.{◌≡◌, ℕ, zero, suc, ◌+◌, ◌<◌, List, [], ◌∷◌, ◌++◌, length, get_or, set, take, refl, sym, ap, ◌∙◌, subst, arith, add-one, length-append}
 use Rattle.std.proofs.lemmas.List.{take_more_set}
 use Rattle.std.proofs.Math.Seq.{take-suc}
 use Rattle.pcc_steps.specs.Agree.{mix}
@@ -42,3 +42,11 @@ set_block c o j v = ap (λ (n : ℕ). set (listed c o) n v) (eight j)
 
 pub get_block : (c : Core) (o : Others) (j : ℕ) → get_or (listed c o) (8 + j) 0 ≡ get_or c.block j 0
 get_block c o j = ap (λ (n : ℕ). get_or (listed c o) n 0) (eight j)
+
+-- ---- lengths
+
+pub eight_more : (a b c d e f g h : ℕ) (l : List ℕ) → length (a ∷ b ∷ c ∷ d ∷ e ∷ f ∷ g ∷ h ∷ l) ≡ 8 + length l
+eight_more a b c d e f g h l = omega arith
+
+pub one_more : {A : Type 0} (xs ys : List A) (y : A) → ys ≡ xs ++ y ∷ [] → length ys ≡ length xs + 1
+one_more xs ys y e = ap (λ (l : List _). length l) e ∙ length-append xs (y ∷ [])

@@ -22,7 +22,8 @@ use Rattle.pcc_steps.proofs.Agreement.{starts_agreed, ask_step_agrees, post_begi
 
 -- ---- the inputs of both histories
 
-whole_front : (opening : List ℕ) (h : List Exchange) (before more : List (List ℕ)) → WholeHistory opening h before → WholeHistory opening h (take (length h) (before ++ more))
+whole_front : (opening : List ℕ) (h : List Exchange) (before more : List (List ℕ)) → WholeHistory opening h before
+    → WholeHistory opening h (take (length h) (before ++ more))
 whole_front opening [] [] more w = tt
 whole_front opening [] (b ∷ before) more w = absurd w
 whole_front opening (c ∷ h) [] more w = absurd w
@@ -33,7 +34,8 @@ drained_by false t h = subst (λ (l : List (List ℕ)). WholeHistory t.opening t
 drained_by true t h = subst (λ (l : List (List ℕ)). WholeHistory t.opening t.done (take (length t.done) l)) (sym h.1.1) (whole_front t.opening t.done h.0 (h.1.0 ∷ []) h.1.2.inputs)
 
 -- a command that is executed and not drained is the pending one
-executed_by : (t : Trail) (e : Exchange) → e.input ≡ t.input → HasAskedBy true t → WholeHistory t.opening (t.done ++ e ∷ []) (take (length (t.done ++ e ∷ [])) t.asked)
+executed_by : (t : Trail) (e : Exchange) → e.input ≡ t.input → HasAskedBy true t
+    → WholeHistory t.opening (t.done ++ e ∷ []) (take (length (t.done ++ e ∷ [])) t.asked)
 executed_by t e i h = let d = h.1.2 in let q = h.1.3 in let all : List (List ℕ) = h.0 ++ h.1.0 ∷ [] in
     let w : WholeHistory t.opening (t.done ++ e ∷ []) all = whole_more t.opening t.done h.0 e h.1.0 d.inputs (i ∙ q.input ∙ ap (λ (s : List ℕ). over s h.1.0) d.output) in
     subst (λ (l : List (List ℕ)). WholeHistory t.opening (t.done ++ e ∷ []) (take (length (t.done ++ e ∷ [])) l)) (append-nil all ∙ sym h.1.1) (whole_front t.opening (t.done ++ e ∷ []) all [] w)

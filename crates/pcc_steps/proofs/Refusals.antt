@@ -16,7 +16,8 @@ use Rattle.pcc_steps.proofs.Headers.{asked_short, space_last}
 
 -- ---- header words
 
-first_words : (id id' flag flag' : ℕ) → id < 256 → id' < 256 → flag < 2 → flag' < 2 → signature_of id + flag * 2 ^ 32 ≡ signature_of id' + flag' * 2 ^ 32 → (id ≡ id') × (flag ≡ flag')
+first_words : (id id' flag flag' : ℕ) → id < 256 → id' < 256 → flag < 2 → flag' < 2 → signature_of id + flag * 2 ^ 32 ≡ signature_of id' + flag' * 2 ^ 32
+    → (id ≡ id') × (flag ≡ flag')
 first_words id id' flag flag' h h' f f' e = let a = signature_of-add id h in let b = signature_of-add id' h' in (omega (arith, a, b, e), omega (arith, a, b, e))
 
 only_words : (id id' code code' : ℕ) → id < 256 → id' < 256 → signature_of id + code * 2 ^ 32 ≡ signature_of id' + code' * 2 ^ 32 → id ≡ id'
@@ -35,7 +36,8 @@ flag_not false e = cc
 
 -- ---- two blocks that are the same
 
-same_identity : (s : Style) (w : Wiring) (id code code' n n' : ℕ) (r r' : List ℕ) → s ≢ Headed → w.id < 256 → id < 256 → block_header s w code n ++ r ≡ block_header s (record w { id = id }) code' n' ++ r' → id ≡ w.id
+same_identity : (s : Style) (w : Wiring) (id code code' n n' : ℕ) (r r' : List ℕ) → s ≢ Headed → w.id < 256 → id < 256
+    → block_header s w code n ++ r ≡ block_header s (record w { id = id }) code' n' ++ r' → id ≡ w.id
 same_identity Headed w id code code' n n' r r' some h h' e = absurd (some refl)
 same_identity Reduced5 w id code code' n n' r r' some h h' e = sym (only_words w.id id code code' h h' (ap (λ (l : List ℕ). get_or l 0 0) e))
 same_identity s w id code code' n n' r r' some h h' e = sym (first_words w.id id (notify_flag w.notify) (notify_flag w.notify) h h' (flagged w.notify) (flagged w.notify) (ap (λ (l : List ℕ). get_or l 0 0) e)).0
@@ -43,12 +45,14 @@ same_identity s w id code code' n n' r r' some h h' e = sym (first_words w.id id
 not_two : (n : ℕ) → n < 2 → n ≡ 2 → ⊥
 not_two n h e = omega (arith, h, e)
 
-same_flag : (s : Style) (w : Wiring) (code code' n n' : ℕ) (r r' : List ℕ) → heads_of s ≡ 2 → w.id < 256 → block_header s w code n ++ r ≡ block_header s (record w { notify = not w.notify }) code' n' ++ r' → ⊥
+same_flag : (s : Style) (w : Wiring) (code code' n n' : ℕ) (r r' : List ℕ) → heads_of s ≡ 2 → w.id < 256
+    → block_header s w code n ++ r ≡ block_header s (record w { notify = not w.notify }) code' n' ++ r' → ⊥
 same_flag Headed w code code' n n' r r' two h e = not_two 0 (omega arith) two
 same_flag Reduced5 w code code' n n' r r' two h e = not_two 1 (omega arith) two
 same_flag s w code code' n n' r r' two h e = flag_not w.notify (first_words w.id w.id (notify_flag w.notify) (notify_flag (not w.notify)) h h (flagged w.notify) (flagged (not w.notify)) (ap (λ (l : List ℕ). get_or l 0 0) e)).1
 
-same_length : (s : Style) (w : Wiring) (code code' n n' : ℕ) (r r' : List ℕ) → heads_of s ≡ 2 → n ≤ 4096 → n' ≤ 4096 → block_header s w code n ++ r ≡ block_header s w code' n' ++ r' → n ≡ n'
+same_length : (s : Style) (w : Wiring) (code code' n n' : ℕ) (r r' : List ℕ) → heads_of s ≡ 2 → n ≤ 4096 → n' ≤ 4096
+    → block_header s w code n ++ r ≡ block_header s w code' n' ++ r' → n ≡ n'
 same_length Headed w code code' n n' r r' two h h' e = absurd (not_two 0 (omega arith) two)
 same_length Reduced5 w code code' n n' r r' two h h' e = absurd (not_two 1 (omega arith) two)
 same_length s w code code' n n' r r' two h h' e = second_words n n' code code' h h' (ap (λ (l : List ℕ). get_or l 1 0) e)

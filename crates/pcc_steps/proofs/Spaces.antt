@@ -32,11 +32,13 @@ pub same_front : (k : ℕ) (sent ws : List ℕ) → k ≤ length sent → take k
 same_front k sent ws h = ap (λ (n : ℕ). take n (take k sent ++ ws)) (sym (fronts k sent h)) ∙ take-append_seam (take k sent) ws
 
 -- a block of k header words and the words of a space with this room
-pub block_long : (k room : ℕ) (sent output : List ℕ) → length sent ≡ k + room / 8 → length output ≡ room → length (take k sent ++ words_of output) ≡ k + room / 8
+pub block_long : (k room : ℕ) (sent output : List ℕ) → length sent ≡ k + room / 8 → length output ≡ room
+    → length (take k sent ++ words_of output) ≡ k + room / 8
 block_long k room sent output e f = let l = length-append (take k sent) (words_of output) in let a = fronts k sent (omega arith) in let b = words_long output in let c = ap (λ (n : ℕ). n / 8) f in omega (arith, l, a, b, c)
 
 -- the space that such a block spells
-pub space_again : (k room : ℕ) (sent output : List ℕ) → length sent ≡ k + room / 8 → length output ≡ room → room % 8 ≡ 0 → IsBytes output → bytes_of (drop k (take k sent ++ words_of output)) ≡ output
+pub space_again : (k room : ℕ) (sent output : List ℕ) → length sent ≡ k + room / 8 → length output ≡ room → room % 8 ≡ 0 → IsBytes output
+    → bytes_of (drop k (take k sent ++ words_of output)) ≡ output
 space_again k room sent output e f whole h = ap bytes_of (behind_front k sent (words_of output) (omega arith)) ∙ bytes_again output h (ap (λ (n : ℕ). n % 8) f ∙ whole)
 
 pub some_words : (k room : ℕ) → 8 ≤ room → 0 < k + room / 8

@@ -39,7 +39,9 @@ turned : (b : Answer) → b.stage ≡ AnswerRest → turn b ≡ quiet
 turned b e = ap (λ (s : AnswerStage). turn_at s b) e
 
 module _ (exec : Device) where
-  starts_at : (opening : List ℕ) (a : Ask) (b : Answer) (d : List ℕ) → a.stage ≡ AskRest → a.in_flight ≡ false → a.shown ≡ opening_header (style_of a.wiring) a.wiring ++ words_of opening → a.space ≡ opening → a.sent ≡ a.shown → a.input ≡ opening → a.code ≡ 0 → a.posts ≡ 0
+  starts_at : (opening : List ℕ) (a : Ask) (b : Answer) (d : List ℕ) → a.stage ≡ AskRest → a.in_flight ≡ false
+      → a.shown ≡ opening_header (style_of a.wiring) a.wiring ++ words_of opening → a.space ≡ opening → a.sent ≡ a.shown → a.input ≡ opening → a.code ≡ 0
+      → a.posts ≡ 0
       → b.wiring ≡ a.wiring → b.stage ≡ AnswerRest → AskOk a → AnswerOk b → IsBytes opening → Agree exec d (opening_words a.wiring (words_of opening)) (new_asker a opening) (record { m = b; device = d; done = [] })
   starts_at opening a b d rest grounded shown space sent input code posts wired quiet_now ok ok' bytes = let w = a.wiring in let s : Style = style_of w in let ws : List ℕ = words_of opening in
       let x : Asker = new_asker a opening in let y : Answerer = record { m = b; device = d; done = [] } in
@@ -69,7 +71,8 @@ module _ (exec : Device) where
       )
 
   -- two new machines over the opening content
-  pub starts : (w : Wiring) (opening : List ℕ) (a : Ask) (b : Answer) (d : List ℕ) → IsNewAsk a w opening → IsNewAnswer b w → AskOk a → AnswerOk b → IsBytes opening
+  pub starts : (w : Wiring) (opening : List ℕ) (a : Ask) (b : Answer) (d : List ℕ) → IsNewAsk a w opening → IsNewAnswer b w → AskOk a → AnswerOk b
+      → IsBytes opening
       → Agree exec d (opening_words w (words_of opening)) (new_asker a opening) (record { m = b; device = d; done = [] })
   starts w opening a b d new new' ok ok' bytes = subst (λ (w : Wiring). a.shown ≡ opening_header (style_of w) w ++ words_of opening → b.wiring ≡ w → Agree exec d (opening_words w (words_of opening)) (new_asker a opening) (record { m = b; device = d; done = [] })) new.0
       (λ shown wired. starts_at opening a b d new.1 new.2 shown new.4 new.5 new.6 new.7 new.10 wired new'.1 ok ok' bytes) new.3 new'.0
@@ -77,7 +80,8 @@ module _ (exec : Device) where
 -- ---- the two histories
 
 -- a command that was executed is drained, or it is the one in flight
-pub histories : (q : Pose) (t : Turn) (x : Asker) (y : Answerer) (c : Core) → Fits q t x y c → (y.done ≡ x.done) ⊎ ((e : Exchange) × (y.done ≡ x.done ++ e ∷ []))
+pub histories : (q : Pose) (t : Turn) (x : Asker) (y : Answerer) (c : Core) → Fits q t x y c
+    → (y.done ≡ x.done) ⊎ ((e : Exchange) × (y.done ≡ x.done ++ e ∷ []))
 histories free t x y c f = inl f.1.done
 histories (writing j) t x y c f = inl f.1.done
 histories cleared t x y c f = inl f.1.done

@@ -65,7 +65,8 @@ pub post_asks : (t : Trail) (code : ℕ) (bytes : List ℕ) → HasAskedBy false
 post_asks t code bytes h = (t.asked, (bytes, refl, record { inputs = h.inputs; output = h.output; block = h.block }, record { input = refl; block = refl }))
 
 -- the pending command is drained
-pub drain_asks : (t : Trail) (error : Bool) (output loaded : List ℕ) → loaded ≡ take (heads_of (style_of t.wiring)) t.sent ++ words_of output → HasAskedBy true t
+pub drain_asks : (t : Trail) (error : Bool) (output loaded : List ℕ) → loaded ≡ take (heads_of (style_of t.wiring)) t.sent ++ words_of output
+    → HasAskedBy true t
     → HasAskedBy false (record t { done = t.done ++ record { code = t.code; input = t.input; error = error; output = output } ∷ []; space = output; shown = loaded })
 drain_asks t error output loaded e h = let w = t.wiring in let s : Style = style_of w in let before : List (List ℕ) = h.0 in let bytes : List ℕ = h.1.0 in let d = h.1.2 in let q = h.1.3 in
     let x : Exchange = record { code = t.code; input = t.input; error = error; output = output } in

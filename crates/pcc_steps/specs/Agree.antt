@@ -166,7 +166,7 @@ abbrev pub resting : Bool → Pose
 resting true = waiting
 resting false = free
 
--- the doorbell of type 5 comes before completion is cleared
+-- the doorbell of type 5 is rung before completion is cleared
 abbrev pub bell_pose : Style → ℕ → Pose
 bell_pose Reduced5 n = writing n
 bell_pose _ n = cleared
@@ -322,12 +322,12 @@ pub record IsReading (x : Asker) (hp : List Exchange) (c : Core) (j : ℕ) : Typ
   pub loaded : take j x.m.loaded ≡ take j (reply_block (flight x) output)
   pub knows : Knows x.m.stage error x.m.error
 
--- The phases. Behind "done" stands a look that saw completion and reads the reply. Where the answering end is quiet it is at rest, about to
--- begin, or closing a run.
+-- The phases. In "done" a look that saw completion may be reading the reply. A quiet answering end is at rest, about to begin, or closing a
+-- run.
 --
 --   phase       word 0  line  block                          asking end                     answering end                 histories
---   free        set     0     as it stood                    at rest, nothing in flight     quiet                         equal
---   writing j   set     0     j words sent, then as it stood posts, past j words            quiet                         equal
+--   free        set     0     as before                      at rest, nothing in flight     quiet                         equal
+--   writing j   set     0     j words sent, then as before   posts, past j words            quiet                         equal
 --   cleared     clear   0     sent                           posts, line not yet raised     quiet                         equal
 --   rung        clear   1     sent                           in flight                      quiet                         equal
 --   taken j     clear   0     sent                           in flight                      has loaded j words            equal
@@ -407,7 +407,7 @@ HasAsked x = HasAskedBy (is_pending x.m) (trail x)
 
 -- ---- what holds in every phase
 
--- the words of a block behind its header words spell the bytes of a space
+-- the words of a block after its header words spell the bytes of a space
 pub record Spells (w : Wiring) (block bytes : List ℕ) : Type 0 where
   pub words : drop (heads_of (style_of w)) block ≡ words_of bytes
   pub fits : IsBytes bytes

@@ -85,7 +85,7 @@ after_error Joined4 = ReplyUpdateLoad
 after_error Separate4 = ReplyUpdateLoad
 after_error _ = ReplyMarkLoad
 
--- are errors told by a register?
+-- does a register report errors?
 abbrev pub after_reply : Bool → Style → AnswerStage
 after_reply true s = ReplyError
 after_reply false s = after_error s
@@ -157,7 +157,7 @@ answer_stepped a = record a { steps = rose a.steps }
 abbrev pub answer_fed : Answer → ℕ → Answer
 answer_fed a v = answer_stepped (answer_fed_at a.stage a v)
 
--- ---- what a step tells
+-- ---- the outcome of a step
 
 abbrev pub take_told : Bool → Option AnswerOutcome
 take_told true = Some Idle

@@ -23,11 +23,11 @@ pub record Ask : Type 0 where
   pub code : ℕ
   -- the error that the look has found
   pub error : Bool
-  -- the words of the block: those that are sent, those that stood there when nothing was in flight, those that the look has loaded
+  -- the words of the block: those that are sent, those that were there when nothing was in flight, those that the look has loaded
   pub sent : List ℕ
   pub shown : List ℕ
   pub loaded : List ℕ
-  -- the bytes of the space that is sent, and of the space that came back last
+  -- the bytes of the space that is sent, and of the last reply
   pub input : List ℕ
   pub space : List ℕ
   pub in_flight : Bool
@@ -36,7 +36,7 @@ pub record Ask : Type 0 where
   pub posts : ℕ
   pub steps : ℕ
 
--- the block has more words behind this one
+-- the block has more words after this one
 abbrev pub has_more : ℕ → Wiring → Bool
 has_more j w = ltb (j + 1) (block_of w)
 
@@ -94,7 +94,7 @@ abbrev pub after_bell : Style → AskStage
 after_bell Reduced5 = PostMarkLoad
 after_bell _ = PostLine
 
--- are errors told by a register?
+-- does a register report errors?
 abbrev pub after_look : Bool → AskStage
 after_look true = LookError
 after_look false = LookBlock 0
@@ -154,7 +154,7 @@ ask_fed_at LookLineStore a v = lowered_on (acknowledges a.wiring) a
 ask_fed_at LookAckLoad a v = record a { stage = LookAckStore; kept = v }
 ask_fed_at LookAckStore a v = drained a
 
--- the count of steps stands still at its end
+-- the count of steps stays at its greatest value
 abbrev pub rose : ℕ → ℕ
 rose n = cond (ltb n (2 ^ 64 - 1)) (n + 1) n
 
@@ -164,7 +164,7 @@ ask_stepped a = record a { steps = rose a.steps }
 abbrev pub ask_fed : Ask → ℕ → Ask
 ask_fed a v = ask_stepped (ask_fed_at a.stage a v)
 
--- ---- what a step tells
+-- ---- the outcome of a step
 
 abbrev pub look_told : Bool → Option AskOutcome
 look_told true = None
@@ -254,7 +254,7 @@ AskPlace LookAckLoad w = (w.notify ≡ true) × (acknowledges w ≡ true)
 AskPlace LookAckStore w = (w.notify ≡ true) × (acknowledges w ≡ true)
 AskPlace _ w = Unit {0}
 
--- a run that looks is for a command in flight, a run that posts comes where there is none
+-- a run that looks is for a command in flight, a run that posts begins when there is none
 abbrev pub Flies : AskStage → Bool → Type 0
 Flies AskRest f = Unit {0}
 Flies LookWord f = f ≡ true
@@ -266,7 +266,7 @@ Flies LookAckLoad f = f ≡ true
 Flies LookAckStore f = f ≡ true
 Flies _ f = f ≡ false
 
--- a look comes only within the budget
+-- a look is made only within the budget
 abbrev pub LooksLeft : AskStage → ℕ → ℕ → Type 0
 LooksLeft LookWord looks budget = looks < budget
 LooksLeft _ looks budget = looks ≤ budget

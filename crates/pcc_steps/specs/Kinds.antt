@@ -1,7 +1,7 @@
 -- The types of subspaces, by what sets them apart (ACPI 6.5, 14.1 to 14.4).
 use Rattle.std.specs.Prelude.{◌≡◌, ℕ, ◌≤◌, ◌==◌, ◌||◌, ltb, Bool, true, if◌then◌else◌}
 
--- types 0 to 2: the status of a command stands in its header, and its code has one byte
+-- types 0 to 2: the header holds the status of a command, and its code has one byte
 abbrev pub is_headed : ℕ → Bool
 is_headed kind = ltb kind 3
 

@@ -130,7 +130,7 @@ PostsByTable = (a : Ask) (code : ℕ) (bytes : List ℕ) → ask_left (ask_begun
 abbrev pub LooksByTable : Type 0
 LooksByTable = (a : Ask) → ask_left (ask_looking a) ≡ look_run a.wiring
 
--- each step of the asking machine is the next one of its run; a run ends exactly where an outcome is told
+-- each step of the asking machine is the next one of its run; a run ends exactly when a step has an outcome
 abbrev pub AsksByTable : Type 0
 AsksByTable = (a : Ask) → AskOk a → IsAskRunning a → Takes (ask_left a) (ask_next a) (λ v. ask_after (ask_told a v) (ask_fed a v))
 
@@ -150,7 +150,7 @@ ExecutesByTable = (a : Answer) → AnswerOk a → a.stage ≡ RunDevice → Give
 
 -- ---- where runs end
 
--- a step of a run tells an outcome exactly where it leaves the machine at rest
+-- a step of a run has an outcome exactly when it leaves the machine at rest
 abbrev pub AskTellsEnds : Type 0
 AskTellsEnds = (a : Ask) (v : ℕ) → AskOk a → IsAskRunning a → (ask_told a v ≡ None) ↔ IsAskRunning (ask_fed a v)
 
@@ -159,14 +159,14 @@ AnswerTellsEnds = (a : Answer) (v : ℕ) → AnswerOk a → IsAnswerStepping a �
 
 -- ---- how long runs are
 
--- each step is counted, until the count stands at its end
+-- each step is counted, until the count has its greatest value
 abbrev pub AskStepsCount : Type 0
 AskStepsCount = (a : Ask) (v : ℕ) → (ask_fed a v).steps ≡ rose a.steps
 
 abbrev pub AnswerStepsCount : Type 0
 AnswerStepsCount = (a : Answer) (v : ℕ) → (answer_fed a v).steps ≡ rose a.steps
 
--- below 2^64 - 1 the count rises by one, and there it stands still
+-- below 2^64 - 1 the count rises by one, then it stays
 abbrev pub CountRises : Type 0
 CountRises = (n : ℕ) → (n < 2 ^ 64 - 1 → rose n ≡ n + 1) × (2 ^ 64 - 1 ≤ n → rose n ≡ n)
 

@@ -9,3 +9,5 @@ pub mod Laws
 pub mod Reached
 pub mod WorkedRuns
 pub mod Walk
+pub mod Carrying
+pub mod Moves

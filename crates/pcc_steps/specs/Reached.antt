@@ -1,4 +1,4 @@
--- Every state that a channel comes to: from new machines over the opening content, by calls that are begun and single word steps of either end,
+-- Every state that a channel reaches: from new machines over the opening content, by calls that are begun and single word steps of either end,
 -- in any order.
 use Rattle.std.specs.Prelude.{◌≡◌, ◌⊎◌, ℕ, ◌^◌, ◌<◌, ◌≤◌, true, false, List, [], ◌∷◌, ◌++◌, length, take}
 use Rattle.pcc_bytes.specs.Bytes.{IsBytes}

@@ -96,7 +96,7 @@ pub data LookStep : Type 0 where
   looks_at_block : LookStep
   lowers_interrupt : LookStep
 
--- by whether errors are told by a register, and whether commands ask for a notification
+-- by whether a register reports errors, and whether commands ask for a notification
 abbrev pub look_table : Bool → Bool → List LookStep
 look_table tells notify = looks_at_completion ∷ only tells looks_at_error (looks_at_block ∷ only notify lowers_interrupt [])
 
@@ -150,7 +150,7 @@ completing_steps Joined4 after = replies_update ∷ after
 completing_steps Separate4 after = replies_update ∷ replies_completion ∷ after
 completing_steps _ after = replies_completion ∷ after
 
--- by whether the doorbell is acknowledged, whether errors are told by a register, and whether a doorbell is rung
+-- by whether the doorbell is acknowledged, whether a register reports errors, and whether a doorbell is rung
 abbrev pub answer_table : Style → Bool → Bool → Bool → List AnswerStep
 answer_table s acknowledges tells rings =
     takes_bell ∷ only acknowledges acknowledges_bell (taking_steps s (executes_command ∷ replies_space ∷ only tells replies_error

@@ -45,7 +45,7 @@ answer_number replies_completion = 9
 answer_number rings_bell = 10
 answer_number raises_interrupt = 11
 
--- the steps of a table from the one of this number on, and those behind it
+-- the steps of a table from the one of this number on, and those after it
 abbrev pub from : {S : Type 0} → (S → ℕ) → ℕ → List S → List S
 from number n [] = []
 from number n (s ∷ ss) = if number s == n then s ∷ ss else from number n ss
@@ -83,7 +83,7 @@ module _ (post : List PostStep) (look : List LookStep) where
 abbrev pub ask_left : Ask → Run AskEnd
 ask_left a = ask_left_by (post_steps (style_of a.wiring)) (look_steps a.wiring) a.stage a
 
--- what is left after a step, by what it told
+-- what is left after a step, by its outcome
 abbrev pub ask_after : Option AskOutcome → Ask → Run AskEnd
 ask_after None a = ask_left a
 ask_after (Some Posted) a = ends posts

@@ -88,7 +88,7 @@ is_complete _ mask word = meets word mask
 abbrev pub sees_done : Wiring → ℕ → Bool
 sees_done w word = is_complete (style_of w) w.check_mask word
 
--- errors are told by a register of their own
+-- a register of its own reports errors
 abbrev pub tells_by : Style → Bool → Bool
 tells_by Headed reports = false
 tells_by _ reports = reports
@@ -96,7 +96,7 @@ tells_by _ reports = reports
 abbrev pub tells_error : Wiring → Bool
 tells_error w = tells_by (style_of w) w.reports
 
--- the error that word 0 itself tells
+-- the error that word 0 itself reports
 abbrev pub header_error : Style → ℕ → Bool
 header_error Headed word = is_set word 50
 header_error _ word = false

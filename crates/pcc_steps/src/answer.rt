@@ -3,24 +3,26 @@
 ghost use Rattle.std.specs.Prelude.{ℕ, ◌≡◌, ◌↔◌, ◌<◌, ◌+◌, ◌/◌, ◌%◌, ◌^◌, ◌++◌, length, take, IfOk, Some};
 ghost use Rattle.std.specs.Borrow.{sem};
 ghost use Rattle.shmem_header.specs.Spelling.{words_of};
-ghost use Rattle.pcc_steps.specs.declared.answer.AnswerStage.TheVariants.{AnswerRest, RunDevice, TakeLine};
+ghost use Rattle.pcc_steps.specs.declared.answer.AnswerStage.TheVariants.{AnswerRest, TakeLine, TakeBlock, RunDevice, ReplyBlock};
 ghost use Rattle.pcc_steps.specs.declared.answer.AnswerOutcome.TheVariants.{Idle};
 ghost use Rattle.pcc_steps.specs.declared.wiring.Action.TheVariants.{Rest};
 ghost use Rattle.pcc_steps.specs.Asking.{IsWithin};
 ghost use Rattle.pcc_steps.specs.Wires.{IsRight, style_of, block_of, status_of, code_by, asks_by, four_by};
+ghost use Rattle.pcc_steps.specs.Moves.{AnswerMoves, answer_moves, before_last};
 ghost use Rattle.pcc_steps.specs.Runs.{error_word};
 ghost use Rattle.pcc_steps.specs.Answering.{Answer, AnswerOk, IsNewAnswer, IsAnswerStepping, IsTaking, IsReplying, IsCompleting, answer_fed_at, answer_told_at, IsExecute, answer_next, answer_fed, answer_told, answer_begun, answer_ran, ran_with, answer_code, served_at, after_ack, after_take, after_error, after_reply, after_close, after_done, done_stage, asks_notify, update_stage, AnswerPlace};
 ghost use Rattle.pcc_exec.specs.Execution.{is_bad};
 ghost use Rattle.pcc_steps.specs.Lending.{LendsSpace};
 
-use crate::ask::{rose, tells_error, update_place};
+use crate::block::{fill, load_words, store_words};
+use crate::counts::{rose, rose_by};
+use crate::registers::{tells_error, update_place};
 use crate::wiring::{Action, Style, Wiring, place};
 use pcc_exec::{ExecStatus, Executor};
 use pcc_gas::masked;
 use pcc_io::NoMemory;
 use shmem_header::{
     EXTENDED_NOTIFY_BIT, NOTIFY_BIT, bytes_into, code_in, command_in, is_set, with_status,
-    words_into,
 };
 use std::alloc::Global;
 use std::marker::Model;
@@ -158,7 +160,7 @@ pub fn answer_start(answer: &mut AnswerState)
     answer.stage = AnswerStage::TakeLine;
 }
 
-/// The next word step, `Execute` where the device is to run, `Rest` exactly where no run is under way.
+/// The next word step, `Execute` where the device is to run, `Rest` exactly when no run is under way.
 #[tactic(auto, using(crate::proofs::Nexts::answer_rests, crate::proofs::Nexts::answer_executes, crate::proofs::Nexts::answer_within))]
 #[inline(always)]
 pub fn answer_next(answer: &AnswerState) -> Action
@@ -207,8 +209,8 @@ pub fn answer_next(answer: &AnswerState) -> Action
     }
 }
 
-/// Takes what the step found: the value of a load or a swap, any number for a store. Answers how the run ended, exactly
-/// where it ended with this step.
+/// Takes what the step found: the value of a load or a swap, any number for a store. Returns the outcome of the run, exactly
+/// when this step ended it.
 #[tactic(auto, using(crate::proofs::Nexts::idle_told))]
 #[inline(always)]
 pub fn answer_feed(answer: &mut AnswerState, value: u64) -> Option<AnswerOutcome>
@@ -220,6 +222,44 @@ pub fn answer_feed(answer: &mut AnswerState, value: u64) -> Option<AnswerOutcome
     let told = feed(answer, value);
     answer.steps = rose(answer.steps);
     told
+}
+
+/// Moves the words of the block before its last one at once, where the run loads a command or stores its reply: as many word
+/// steps, of which none ends the run or calls for the device. At another stage it does nothing.
+#[inline(always)]
+pub fn answer_block(words: &mut [u64], answer: &mut AnswerState)
+    requires { length words.old ≡ 8 + block_of answer.old.wiring }
+    ensures { AnswerMoves (answer_moves answer.old.stage answer.old.wiring) words.old answer.old words.new answer.new }
+{
+    match answer.stage {
+        AnswerStage::TakeBlock(from) => take_block(words, answer, from),
+        AnswerStage::ReplyBlock(from) => reply_block(words, answer, from),
+        _ => {}
+    }
+}
+
+// Loads the words of the block before its last one.
+fn take_block(words: &[u64], answer: &mut AnswerState, from: u32)
+    requires stage { answer.old.stage ≡ TakeBlock from }
+    requires long { length words.now ≡ 8 + block_of answer.old.wiring }
+    ensures { AnswerMoves (before_last from answer.old.wiring) words.now answer.old words.now answer.new }
+{
+    let last = answer.wiring.block() - 1;
+    load_words(words, from as usize, last as usize, &mut answer.loaded);
+    answer.stage = AnswerStage::TakeBlock(last);
+    answer.steps = rose_by(answer.steps, last - from);
+}
+
+// Stores the words of the block before its last one.
+fn reply_block(words: &mut [u64], answer: &mut AnswerState, from: u32)
+    requires stage { answer.old.stage ≡ ReplyBlock from }
+    requires long { length words.old ≡ 8 + block_of answer.old.wiring }
+    ensures { AnswerMoves (before_last from answer.old.wiring) words.old answer.old words.new answer.new }
+{
+    let last = answer.wiring.block() - 1;
+    store_words(&answer.out, from as usize, last as usize, words);
+    answer.stage = AnswerStage::ReplyBlock(last);
+    answer.steps = rose_by(answer.steps, last - from);
 }
 
 #[inline(always)]
@@ -382,8 +422,7 @@ fn reply_words(loaded: &[u64], heads: usize, space: &[u8], out: &mut [u64])
     requires whole { length space.now % 8 ≡ 0 }
     ensures { out.new ≡ take heads loaded.now ++ words_of space.now }
 {
-    out.copy_from_slice(loaded);
-    words_into(space, &mut out[heads..]);
+    fill(&loaded[..heads], space, out);
 }
 
 fn is_bad(status: ExecStatus) -> bool

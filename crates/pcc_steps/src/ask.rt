@@ -2,19 +2,21 @@
 
 ghost use Rattle.std.specs.Prelude.{◌≡◌, ◌↔◌, ◌<◌, ◌≤◌, ◌+◌, ◌/◌, ◌^◌, length, true, false, IfOk, Some};
 ghost use Rattle.pcc_history.specs.Channel.{over};
-ghost use Rattle.pcc_steps.specs.declared.ask.AskStage.TheVariants.{AskRest, LookWord};
+ghost use Rattle.pcc_steps.specs.declared.ask.AskStage.TheVariants.{AskRest, PostBlock, LookWord, LookBlock};
 ghost use Rattle.pcc_steps.specs.declared.wiring.Action.TheVariants.{Rest};
 ghost use Rattle.pcc_steps.specs.declared.ask.AskOutcome.TheVariants.{Clear, Drained};
 ghost use Rattle.pcc_steps.specs.Kinds.{IsHeaded};
-ghost use Rattle.pcc_steps.specs.Wires.{IsRight, block_of, sees_done, meets, update_place, acknowledges, tells_error, header_error, sent_header};
-ghost use Rattle.pcc_steps.specs.Asking.{Ask, AskOk, IsNewAsk, IsAskRunning, IsPosting, IsReading, IsWithin, ask_fed_at, ask_told_at, ask_next, ask_fed, ask_told, ask_begun, ask_looking, ask_budgeted, drained, rose, after_block, after_update, after_mark, after_bell, after_look};
+ghost use Rattle.pcc_steps.specs.Wires.{IsRight, block_of, sees_done, sent_header};
+ghost use Rattle.pcc_steps.specs.Moves.{AskMoves, ask_moves, before_last};
+ghost use Rattle.pcc_steps.specs.Asking.{Ask, AskOk, IsNewAsk, IsAskRunning, IsPosting, IsReading, IsWithin, ask_fed_at, ask_told_at, ask_next, ask_fed, ask_told, ask_begun, ask_looking, ask_budgeted, drained, after_block, after_update, after_mark, after_bell, after_look};
 
-use crate::block::{fill_block, fill_opening, lay};
-use crate::kind::may_acknowledge;
+use crate::block::{fill_block, fill_opening, lay, load_words, store_words};
+use crate::counts::{rose, rose_by};
+use crate::registers::{acknowledges, header_error, meets, sees_done, tells_error, update_place};
 use crate::wiring::{Action, Style, Wiring, place};
 use pcc_gas::masked;
 use pcc_io::NoMemory;
-use shmem_header::{COMPLETE_BIT, ERROR_BIT, bytes_into, header_word, is_set};
+use shmem_header::{bytes_into, header_word};
 use std::alloc::Global;
 use std::marker::Model;
 use std::mem;
@@ -168,7 +170,7 @@ impl AskState {
         })
     }
 
-    /// The space that came back last, at first the opening space.
+    /// The space of the last reply, at first the opening space.
     pub fn space(&self) -> &[u8]
         ensures { result.now ≡ self.now.space }
     {
@@ -218,7 +220,7 @@ impl AskState {
     }
 }
 
-/// The next word step: `Rest` exactly where no run is under way.
+/// The next word step: `Rest` exactly when no run is under way.
 #[tactic(auto, using(crate::proofs::Nexts::ask_rests, crate::proofs::Nexts::ask_within))]
 #[inline(always)]
 pub fn ask_next(ask: &AskState) -> Action
@@ -300,8 +302,8 @@ pub fn ask_look(ask: &mut AskState)
     ask.stage = AskStage::LookWord;
 }
 
-/// Takes what the step found: the value of a load or a swap, any number for a store. Answers how the run ended, exactly
-/// where it ended with this step.
+/// Takes what the step found: the value of a load or a swap, any number for a store. Returns the outcome of the run, exactly
+/// when this step ended it.
 #[tactic(auto, using(crate::proofs::Nexts::clear_told))]
 #[inline(always)]
 pub fn ask_feed(ask: &mut AskState, value: u64) -> Option<AskOutcome>
@@ -313,6 +315,44 @@ pub fn ask_feed(ask: &mut AskState, value: u64) -> Option<AskOutcome>
     let told = feed(ask, value);
     ask.steps = rose(ask.steps);
     told
+}
+
+/// Moves the words of the block before its last one at once, where the run stores or loads the block: as many word steps, of
+/// which none ends the run. At another stage it does nothing.
+#[inline(always)]
+pub fn ask_block(words: &mut [u64], ask: &mut AskState)
+    requires { length words.old ≡ 8 + block_of ask.old.wiring }
+    ensures { AskMoves (ask_moves ask.old.stage ask.old.wiring) words.old ask.old words.new ask.new }
+{
+    match ask.stage {
+        AskStage::PostBlock(from) => post_block(words, ask, from),
+        AskStage::LookBlock(from) => look_block(words, ask, from),
+        _ => {}
+    }
+}
+
+// Stores the words of the block before its last one.
+fn post_block(words: &mut [u64], ask: &mut AskState, from: u32)
+    requires stage { ask.old.stage ≡ PostBlock from }
+    requires long { length words.old ≡ 8 + block_of ask.old.wiring }
+    ensures { AskMoves (before_last from ask.old.wiring) words.old ask.old words.new ask.new }
+{
+    let last = ask.wiring.block() - 1;
+    store_words(&ask.sent, from as usize, last as usize, words);
+    ask.stage = AskStage::PostBlock(last);
+    ask.steps = rose_by(ask.steps, last - from);
+}
+
+// Loads the words of the block before its last one.
+fn look_block(words: &[u64], ask: &mut AskState, from: u32)
+    requires stage { ask.old.stage ≡ LookBlock from }
+    requires long { length words.now ≡ 8 + block_of ask.old.wiring }
+    ensures { AskMoves (before_last from ask.old.wiring) words.now ask.old words.now ask.new }
+{
+    let last = ask.wiring.block() - 1;
+    load_words(words, from as usize, last as usize, &mut ask.loaded);
+    ask.stage = AskStage::LookBlock(last);
+    ask.steps = rose_by(ask.steps, last - from);
 }
 
 #[inline(always)]
@@ -437,7 +477,7 @@ fn feed_reply(ask: &mut AskState, value: u64) -> Option<AskOutcome>
     None
 }
 
-// The reply becomes the space that came back last.
+// The reply becomes the space that is shown.
 fn drain(ask: &mut AskState) -> AskOutcome
     requires looks { ask.old.looks ≤ ask.old.budget }
     requires posts { ask.old.posts ≤ 4096 }
@@ -457,61 +497,6 @@ fn header_of(wiring: &Wiring, code: u32) -> u64
     ensures { result ≡ sent_header wiring.now code 0 }
 {
     header_word(code as u8, wiring.notify, 0, wiring.id)
-}
-
-pub(crate) fn update_place(style: Style) -> u32
-    ensures { result ≡ update_place style }
-{
-    match style {
-        Style::Joined3 | Style::Joined4 => place::COMPLETION,
-        _ => place::UPDATE,
-    }
-}
-
-pub(crate) fn rose(steps: u64) -> u64
-    ensures { result ≡ rose steps }
-{
-    if steps < u64::MAX { steps + 1 } else { steps }
-}
-
-// Whether a bit of the mask is set.
-fn meets(word: u64, mask: u64) -> bool
-    ensures { result ≡ meets word mask }
-{
-    word & mask != 0
-}
-
-fn sees_done(wiring: &Wiring, word: u64) -> bool
-    ensures { result ≡ sees_done wiring.now word }
-{
-    match wiring.style() {
-        Style::Headed => is_set(word, COMPLETE_BIT),
-        _ => meets(word, wiring.check_mask),
-    }
-}
-
-pub(crate) fn tells_error(wiring: &Wiring) -> bool
-    ensures { result ≡ tells_error wiring.now }
-{
-    match wiring.style() {
-        Style::Headed => false,
-        _ => wiring.reports,
-    }
-}
-
-fn header_error(style: Style, word: u64) -> bool
-    ensures { result ≡ header_error style word }
-{
-    match style {
-        Style::Headed => is_set(word, ERROR_BIT),
-        _ => false,
-    }
-}
-
-fn acknowledges(wiring: &Wiring) -> bool
-    ensures { result ≡ acknowledges wiring.now }
-{
-    wiring.has_ack && may_acknowledge(wiring.kind)
 }
 
 fn after_block(style: Style) -> AskStage

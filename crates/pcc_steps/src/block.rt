@@ -1,10 +1,11 @@
 //! The words of a block: its header words, and those of a space.
-ghost use Rattle.std.specs.Prelude.{◌≡◌, ◌≤◌, ◌+◌, ◌/◌, ◌%◌, ◌++◌, length};
+ghost use Rattle.std.specs.Prelude.{◌≡◌, ◌≤◌, ◌+◌, ◌-◌, ◌/◌, ◌%◌, ◌++◌, length};
 ghost use Rattle.pcc_history.specs.Channel.{over};
 ghost use Rattle.shmem_header.specs.Spelling.{words_of};
+ghost use Rattle.pcc_steps.specs.Moves.{with_loaded, with_stored};
 ghost use Rattle.pcc_steps.specs.Wires.{block_header, block_of, opening_header, style_of};
 
-use crate::wiring::{Style, Wiring};
+use crate::wiring::{Style, Wiring, place};
 use shmem_header::{Extended, Reduced, extended_to, reduced_to, signature_of, words_into};
 
 // The bytes over the front of the space.
@@ -13,12 +14,20 @@ pub(crate) fn lay(space: &[u8], bytes: &[u8], input: &mut [u8])
     requires fits { length bytes.now ≤ length space.now }
     ensures { input.new ≡ over space.now bytes.now }
 {
-    input.copy_from_slice(space);
-    input[..bytes.len()].copy_from_slice(bytes);
+    join(bytes, space.split_at(bytes.len()).1, input);
+}
+
+// One after the other.
+fn join(front: &[u8], back: &[u8], whole: &mut [u8])
+    requires { length whole.old ≡ length front.now + length back.now }
+    ensures { whole.new ≡ front.now ++ back.now }
+{
+    whole[..front.len()].copy_from_slice(front);
+    whole[front.len()..].copy_from_slice(back);
 }
 
 // A block begins with its header words.
-fn fill(header: &[u64], space: &[u8], block: &mut [u64])
+pub(crate) fn fill(header: &[u64], space: &[u8], block: &mut [u64])
     requires long { length block.old ≡ length header.now + length space.now / 8 }
     requires whole { length space.now % 8 ≡ 0 }
     ensures { block.new ≡ header.now ++ words_of space.now }
@@ -72,5 +81,34 @@ pub(crate) fn fill_opening(wiring: &Wiring, space: &[u8], block: &mut [u64])
         Style::Headed => fill(&[], space, block),
         Style::Reduced5 => fill(&[signature], space, block),
         _ => fill(&[signature, 0], space, block),
+    }
+}
+
+/// The place of the block's first word.
+const FIRST: usize = place::BLOCK as usize;
+
+// Words of the block are stored at their places, from the word `from` on and before the word `to`.
+#[tactic(auto, using(crate::proofs::BlockMoves::stored_more, crate::proofs::BlockMoves::stored_done))]
+pub(crate) fn store_words(block: &[u64], from: usize, to: usize, words: &mut [u64])
+    requires order { from ≤ to }
+    requires most { to ≤ length block.now }
+    requires long { length words.old ≡ 8 + length block.now }
+    ensures { words.new ≡ with_stored (to - from) from block.now words.old }
+{
+    for at in from..to {
+        words[FIRST + at] = block[at];
+    }
+}
+
+// Words of the block are loaded from their places, from the word `from` on and before the word `to`.
+#[tactic(auto, using(crate::proofs::BlockMoves::loaded_more, crate::proofs::BlockMoves::loaded_done))]
+pub(crate) fn load_words(words: &[u64], from: usize, to: usize, block: &mut [u64])
+    requires order { from ≤ to }
+    requires most { to ≤ length block.old }
+    requires long { length words.now ≡ 8 + length block.old }
+    ensures { block.new ≡ with_loaded (to - from) from words.now block.old }
+{
+    for at in from..to {
+        block[at] = words[FIRST + at];
     }
 }

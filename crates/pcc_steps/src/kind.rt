@@ -1,8 +1,8 @@
-//! The types of subspaces, by what sets them apart (ACPI 6.5, 14.1 to 14.4). Each type number stands here once.
+//! The types of subspaces, by what sets them apart (ACPI 6.5, 14.1 to 14.4). Each type number is written here once.
 ghost use Rattle.std.specs.Prelude.{◌≡◌};
 ghost use Rattle.pcc_steps.specs.Kinds.{is_extended, is_headed, is_initiator, is_reduced, is_responder, may_acknowledge};
 
-/// Types 0 to 2: the status of a command stands in its header, and its code has one byte.
+/// Types 0 to 2: the header holds the status of a command, and its code has one byte.
 #[inline(always)]
 pub fn is_headed(kind: u8) -> bool
     ensures { result ≡ is_headed kind }

@@ -1,5 +1,5 @@
-//! What holds of the words and both ends between any two word steps, as laws. Each step goes from any state that has the
-//! relation, from the stepping end's own state and its one word, so the laws serve one owner of the words, and two
+//! What holds of the words and both ends between any two word steps, as laws. A step starts in any state that has the
+//! relation and reads the stepping end's own state and one word, so the laws hold for one owner of the words and for two
 //! threads that share them.
 ghost use Rattle.pcc_steps.specs.Laws.{StartsAgreed, AskStepAgrees, PostBeginAgrees, LookBeginAgrees, BudgetAgrees, AnswerBeginAgrees, AnswerStepAgrees, DeviceStays, DeviceTurns, DeviceRests, HistoriesAgree, PostsByTable, LooksByTable, AsksByTable, PostsWithin, LooksWithin, AskRunsWithin, AnswersByTable, AnswerStepsByTable, ExecutesByTable, AnswersWithin, AnswerRunsWithin, AskTellsEnds, AnswerTellsEnds, AskStepsCount, AnswerStepsCount, CountRises, AskCountWithin, AnswerCountWithin, AskStepWithin, RefusesIdentity, RefusesFlag, RefusesLength, RefusesInput, RefusesSpace, RefusesOpening};
 ghost use Rattle.pcc_steps.specs.Reached.{ReachedIsSound};
@@ -36,13 +36,13 @@ pub fn asking_tables()
     ensures runs { AskRunsWithin }
 {}
 
-/// A run of either machine ends exactly with the step that tells its outcome. It does nothing.
+/// A run of either machine ends exactly with the step that reports its outcome. It does nothing.
 pub fn ending_laws()
     ensures asks { AskTellsEnds }
     ensures answers { AnswerTellsEnds }
 {}
 
-/// The count of word steps of either machine: each step raises it by one until it stands at 2^64 - 1, and a run raises
+/// The count of word steps of either machine: each step raises it by one until it is 2^64 - 1, and a run raises
 /// it by no more than its table has steps. It does nothing.
 pub fn counting_laws()
     ensures rises { CountRises }

@@ -4,18 +4,20 @@
 mod answer;
 mod ask;
 mod block;
+mod counts;
 mod kind;
 mod laws;
+mod registers;
 mod wiring;
 mod words;
 mod worked;
 
 pub use answer::{
-    AnswerOutcome, AnswerStage, AnswerState, answer_execute, answer_feed, answer_next, answer_ran,
+    AnswerOutcome, AnswerStage, AnswerState, answer_block, answer_execute, answer_feed, answer_next, answer_ran,
     answer_space, answer_start,
 };
 pub use ask::{
-    AskOutcome, AskStage, AskState, ask_begin, ask_budget, ask_feed, ask_look, ask_next,
+    AskOutcome, AskStage, AskState, ask_begin, ask_block, ask_budget, ask_feed, ask_look, ask_next,
 };
 pub use kind::{is_extended, is_headed, is_initiator, is_reduced, is_responder};
 pub use laws::{

@@ -43,7 +43,7 @@ fn headed(kind: u8, notify: bool, has_ack: bool) -> Wiring
     }
 }
 
-// Takes these steps, as long as they are the machine's next ones, and tells how the last one ended.
+// Takes these steps, as long as they are the machine's next ones, and returns the outcome of the last one.
 fn ask_along(ask: &mut AskState, steps: &[(Action, u64)]) -> Option<AskOutcome> {
     let mut told = None;
     for &(action, value) in steps {

@@ -36,7 +36,7 @@ pub struct Wiring {
     pub error_mask: u64,
 }
 
-/// How the two ends of a subspace tell one another that a command is complete.
+/// How the ends of a subspace signal that a command is complete.
 #[derive(Clone, Copy, Debug, PartialEq, Eq)]
 pub enum Style {
     /// Types 0 to 2: by the status in the generic header.
@@ -68,7 +68,7 @@ pub enum Action {
     Rest,
 }
 
-/// The places of a subspace's words. The words of the block stand from `BLOCK` on.
+/// The places of a subspace's words. The words of the block begin at `BLOCK`.
 pub mod place {
     /// The generic header (types 0 to 2) or the check register (types 3 to 5).
     pub const COMPLETION: u32 = 0;

@@ -1,5 +1,5 @@
 -- What a step of the answering machine leads to, and what the device's turn adds to a history.
-use Rattle.std.proofs.Common.{◌≡◌, ℕ, Bool, true, false, eqb, List, [], ◌++◌, refl, sym, ap}
+use Rattle.std.proofs.Common.{◌≡◌, ◌≢◌, ℕ, Bool, true, false, eqb, List, [], ◌++◌, refl, sym, ap}
 use Rattle.std.specs.Prelude.{Option, Some, None}
 use Rattle.std.proofs.lemmas.List.{append-nil}
 use Rattle.pcc_history.specs.Devices.{Device}
@@ -45,6 +45,46 @@ pub run_is : (st : AnswerStage) → is_run st ≡ true → st ≡ RunDevice
 run_is RunDevice e = refl
 run_is _ e = absurd (cc e)
 
+-- ---- stages
+
+pub not_rest : (st : AnswerStage) → st ≢ AnswerRest → is_rest st ≡ false
+not_rest AnswerRest n = absurd (n refl)
+not_rest TakeLine n = refl
+not_rest TakeAckLoad n = refl
+not_rest TakeAckStore n = refl
+not_rest TakeHeader n = refl
+not_rest (TakeBlock j) n = refl
+not_rest RunDevice n = refl
+not_rest (ReplyBlock j) n = refl
+not_rest ReplyError n = refl
+not_rest ReplyHeader n = refl
+not_rest ReplyUpdateLoad n = refl
+not_rest ReplyUpdateStore n = refl
+not_rest ReplyMarkLoad n = refl
+not_rest ReplyMarkStore n = refl
+not_rest CloseBellLoad n = refl
+not_rest CloseBellStore n = refl
+not_rest CloseLine n = refl
+
+pub not_run : (st : AnswerStage) → st ≢ RunDevice → is_run st ≡ false
+not_run RunDevice n = absurd (n refl)
+not_run AnswerRest n = refl
+not_run TakeLine n = refl
+not_run TakeAckLoad n = refl
+not_run TakeAckStore n = refl
+not_run TakeHeader n = refl
+not_run (TakeBlock j) n = refl
+not_run (ReplyBlock j) n = refl
+not_run ReplyError n = refl
+not_run ReplyHeader n = refl
+not_run ReplyUpdateLoad n = refl
+not_run ReplyUpdateStore n = refl
+not_run ReplyMarkLoad n = refl
+not_run ReplyMarkStore n = refl
+not_run CloseBellLoad n = refl
+not_run CloseBellStore n = refl
+not_run CloseLine n = refl
+
 abbrev pub ends_run : Option AnswerOutcome → Bool
 ends_run None = false
 ends_run (Some o) = true
@@ -85,7 +125,8 @@ reply_rests : (b : Bool) (j : ℕ) (a : Answer) → is_rest (reply_on b j a).sta
 reply_rests true j a = refl
 reply_rests false j a = reply_goes (tells_error a.wiring) (style_of a.wiring)
 
-pub fed_rests : (st : AnswerStage) (a : Answer) (v : ℕ) → is_rest st ≡ false → is_run st ≡ false → is_rest (answer_fed_at st a v).stage ≡ ends_run (answer_told_at st a v)
+pub fed_rests : (st : AnswerStage) (a : Answer) (v : ℕ) → is_rest st ≡ false → is_run st ≡ false
+    → is_rest (answer_fed_at st a v).stage ≡ ends_run (answer_told_at st a v)
 fed_rests AnswerRest a v e f = absurd (cc e)
 fed_rests TakeLine a v e f = takes_rests (eqb v 0) a
 fed_rests TakeAckLoad a v e f = refl
@@ -108,7 +149,8 @@ fed_rests CloseLine a v e f = refl
 
 module _ (exec : Device) where
   -- what was executed before stays
-  pub framed : (st : AnswerStage) (m : Answer) (d : List ℕ) (done : List Exchange) → settle_at exec st (record { m = m; device = d; done = done }) ≡ (let y = settle_at exec st (record { m = m; device = d; done = [] }) in record y { done = done ++ y.done })
+  pub framed : (st : AnswerStage) (m : Answer) (d : List ℕ) (done : List Exchange)
+      → settle_at exec st (record { m = m; device = d; done = done }) ≡ (let y = settle_at exec st (record { m = m; device = d; done = [] }) in record y { done = done ++ y.done })
   framed RunDevice m d done = refl
   framed AnswerRest m d done = ap (λ (l : List Exchange). record { m = m; device = d; done = l }) (sym (append-nil done))
   framed TakeLine m d done = ap (λ (l : List Exchange). record { m = m; device = d; done = l }) (sym (append-nil done))
@@ -131,3 +173,26 @@ module _ (exec : Device) where
   pub counted : (st : AnswerStage) (y : Answerer) → settle_at exec st (answerer_stepped y) ≡ answerer_stepped (settle_at exec st y)
   counted RunDevice y = refl
   counted _ y = refl
+
+  pub unsettled : (st : AnswerStage) (y : Answerer) → is_run st ≡ false → settle_at exec st y ≡ y
+  unsettled RunDevice y e = absurd (cc e)
+  unsettled AnswerRest y e = refl
+  unsettled TakeLine y e = refl
+  unsettled TakeAckLoad y e = refl
+  unsettled TakeAckStore y e = refl
+  unsettled TakeHeader y e = refl
+  unsettled (TakeBlock j) y e = refl
+  unsettled (ReplyBlock j) y e = refl
+  unsettled ReplyError y e = refl
+  unsettled ReplyHeader y e = refl
+  unsettled ReplyUpdateLoad y e = refl
+  unsettled ReplyUpdateStore y e = refl
+  unsettled ReplyMarkLoad y e = refl
+  unsettled ReplyMarkStore y e = refl
+  unsettled CloseBellLoad y e = refl
+  unsettled CloseBellStore y e = refl
+  unsettled CloseLine y e = refl
+
+  pub settled_wired : (st : AnswerStage) (y : Answerer) → (settle_at exec st y).m.wiring ≡ y.m.wiring
+  settled_wired RunDevice y = refl
+  settled_wired _ y = refl

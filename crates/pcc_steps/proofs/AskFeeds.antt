@@ -1,4 +1,4 @@
--- What a step of the asking machine keeps, and where it leads, by its stage.
+-- What a step of the asking machine keeps, and to which stage it leads.
 use Rattle.std.proofs.Common.{◌≡◌, ◌≢◌, ℕ, ◌+◌, Bool, true, false, eqb, List, drop, refl}
 use Rattle.std.specs.Prelude.{Option, Some, None}
 use Rattle.pcc_steps.specs.declared.wiring.Style.{Style}
@@ -8,51 +8,11 @@ use Rattle.pcc_steps.specs.declared.ask.AskStage.TheVariants.{AskRest, PostBlock
 use Rattle.pcc_steps.specs.declared.ask.AskOutcome.{AskOutcome}
 use Rattle.pcc_steps.specs.declared.ask.AskOutcome.TheVariants.{Posted, Clear, Drained}
 use Rattle.shmem_header.specs.Spelling.{bytes_of}
+use Rattle.pcc_history.specs.Channel.{Exchange}
+use Rattle.pcc_steps.specs.Agree.{done_after}
 use Rattle.pcc_steps.specs.Wires.{style_of, heads_of, sees_done, tells_error, acknowledges}
+use Rattle.pcc_steps.specs.Carrying.{is_rest, carried_at, carried, ends_run, looks_after, flies_after}
 use Rattle.pcc_steps.specs.Asking.{Ask, Flies, has_more, ask_fed_at, ask_told_at, after_block, after_update, after_mark, after_bell, after_look, store_on, look_on, read_on, block_on, line_on, lowered_on, drained, look_told, read_told, end_told, line_told}
-
--- no run is under way
-abbrev pub is_rest : AskStage → Bool
-is_rest AskRest = true
-is_rest (PostBlock j) = false
-is_rest PostHeader = false
-is_rest PostUpdateLoad = false
-is_rest PostUpdateStore = false
-is_rest PostMarkLoad = false
-is_rest PostMarkStore = false
-is_rest PostBellLoad = false
-is_rest PostBellStore = false
-is_rest PostLine = false
-is_rest LookWord = false
-is_rest LookError = false
-is_rest (LookBlock j) = false
-is_rest LookLine = false
-is_rest LookLineStore = false
-is_rest LookAckLoad = false
-is_rest LookAckStore = false
-
--- a command is in flight, or is being posted
-abbrev pub carried_at : AskStage → Bool → Bool
-carried_at AskRest flies = flies
-carried_at (PostBlock j) flies = true
-carried_at PostHeader flies = true
-carried_at PostUpdateLoad flies = true
-carried_at PostUpdateStore flies = true
-carried_at PostMarkLoad flies = true
-carried_at PostMarkStore flies = true
-carried_at PostBellLoad flies = true
-carried_at PostBellStore flies = true
-carried_at PostLine flies = true
-carried_at LookWord flies = flies
-carried_at LookError flies = flies
-carried_at (LookBlock j) flies = flies
-carried_at LookLine flies = flies
-carried_at LookLineStore flies = flies
-carried_at LookAckLoad flies = flies
-carried_at LookAckStore flies = flies
-
-abbrev pub carried : Ask → Bool
-carried a = carried_at a.stage a.in_flight
 
 pub rest_is : (st : AskStage) → is_rest st ≡ true → st ≡ AskRest
 rest_is AskRest e = refl
@@ -92,29 +52,14 @@ not_rest LookLineStore n = refl
 not_rest LookAckLoad n = refl
 not_rest LookAckStore n = refl
 
--- ---- what a step tells of a run
+-- ---- what a step leaves
 
-abbrev pub ends_run : Option AskOutcome → Bool
-ends_run None = false
-ends_run (Some o) = true
-
+-- a command is carried after a step of this outcome
 abbrev pub carried_after : Option AskOutcome → Bool → Bool
 carried_after None c = c
 carried_after (Some Posted) c = true
 carried_after (Some Clear) c = c
 carried_after (Some (Drained e)) c = false
-
-abbrev pub flies_after : Option AskOutcome → Bool → Bool
-flies_after None f = f
-flies_after (Some Posted) f = true
-flies_after (Some Clear) f = f
-flies_after (Some (Drained e)) f = false
-
-abbrev pub looks_after : Option AskOutcome → ℕ → ℕ
-looks_after None n = n
-looks_after (Some Posted) n = 0
-looks_after (Some Clear) n = n + 1
-looks_after (Some (Drained e)) n = n
 
 -- a run that ends was for a command, and one that looked for a command in flight
 abbrev pub Sure : Option AskOutcome → Bool → Bool → Type 0
@@ -224,10 +169,12 @@ looked : (b : Bool) (a : Ask) (v : ℕ) → a.in_flight ≡ true → Fed LookWor
 looked true a v f = record { wiring = refl; code = refl; input = refl; budget = refl; looks = refl; flies = refl; carried = carried_look (tells_error a.wiring) a.in_flight; rests = goes_look (tells_error a.wiring); sure = tt; space = refl }
 looked false a v f = record { wiring = refl; code = refl; input = refl; budget = refl; looks = refl; flies = refl; carried = refl; rests = refl; sure = (f, f); space = refl }
 
-drain : (st : AskStage) (a b : Ask) → carried_at st a.in_flight ≡ true → a.in_flight ≡ true → b.wiring ≡ a.wiring → b.code ≡ a.code → b.input ≡ a.input → b.budget ≡ a.budget → b.looks ≡ a.looks → b.error ≡ a.error → Fed st a (drained b) (Some (Drained a.error))
+drain : (st : AskStage) (a b : Ask) → carried_at st a.in_flight ≡ true → a.in_flight ≡ true → b.wiring ≡ a.wiring → b.code ≡ a.code → b.input ≡ a.input
+    → b.budget ≡ a.budget → b.looks ≡ a.looks → b.error ≡ a.error → Fed st a (drained b) (Some (Drained a.error))
 drain st a b c f w k i u l e = record { wiring = w; code = k; input = i; budget = u; looks = l; flies = refl; carried = refl; rests = refl; sure = (c, f); space = refl }
 
-read_end : (n : Bool) (j : ℕ) (a b : Ask) → a.in_flight ≡ true → b.in_flight ≡ a.in_flight → b.wiring ≡ a.wiring → b.code ≡ a.code → b.input ≡ a.input → b.budget ≡ a.budget → b.looks ≡ a.looks → b.error ≡ a.error → b.space ≡ a.space → Fed (LookBlock j) a (block_on n b) (end_told n a.error)
+read_end : (n : Bool) (j : ℕ) (a b : Ask) → a.in_flight ≡ true → b.in_flight ≡ a.in_flight → b.wiring ≡ a.wiring → b.code ≡ a.code → b.input ≡ a.input
+    → b.budget ≡ a.budget → b.looks ≡ a.looks → b.error ≡ a.error → b.space ≡ a.space → Fed (LookBlock j) a (block_on n b) (end_told n a.error)
 read_end true j a b f g w k i u l e o = record { wiring = w; code = k; input = i; budget = u; looks = l; flies = g; carried = g; rests = refl; sure = tt; space = o }
 read_end false j a b f g w k i u l e o = drain (LookBlock j) a b f f w k i u l e
 
@@ -270,3 +217,10 @@ spaced (Some (Drained e)) a b n h = h
 
 pub stepped : (st : AskStage) (a b : Ask) (told : Option AskOutcome) (n : ℕ) → Fed st a b told → Fed st a (record b { steps = n }) told
 stepped st a b told n f = record { wiring = f.wiring; code = f.code; input = f.input; budget = f.budget; looks = f.looks; flies = f.flies; carried = f.carried; rests = f.rests; sure = f.sure; space = spaced told a b n f.space }
+
+-- a history doesn't depend on the count of steps
+pub done_same : (told : Option AskOutcome) (done : List Exchange) (a : Ask) (n : ℕ) → done_after told done (record a { steps = n }) ≡ done_after told done a
+done_same None done a n = refl
+done_same (Some Posted) done a n = refl
+done_same (Some Clear) done a n = refl
+done_same (Some (Drained e)) done a n = refl
