@@ -12,7 +12,7 @@ use Rattle.channel_core.specs.declared.answers.CallRefusal.TheVariants as refusa
 abbrev pub has_byte_codes : ℕ → Bool
 has_byte_codes kind = nat_le kind 2
 
--- a command of this code and so many bytes, on a subspace of this type and room, after so many posts
+-- a command of this code with N bytes, on a subspace of this type and room, after M posts
 abbrev pub refusal_of : ℕ → ℕ → ℕ → ℕ → ℕ → Option CallRefusal
 refusal_of kind room code len posts =
     if has_byte_codes kind && nat_lt GREATEST_CODE code then Some (refusal.BadCode code)

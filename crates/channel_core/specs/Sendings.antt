@@ -1,10 +1,19 @@
 -- A command that is posted or in flight, and what becomes of it.
 use Rattle.std.specs.Prelude.{◌≡◌, ◌<◌, ℕ, nat_lt, Bool, true, false, if◌then◌else◌, List, length, Option, Some, None}
+use Rattle.pcc_history.specs.Channel.{over}
 use Rattle.pcc_journal.specs.declared.note.Note.{Note}
 use Rattle.pcc_journal.specs.declared.record.Record.{Record}
 use Rattle.pcc_journal.specs.declared.record.Pending.{Pending}
+use Rattle.channel_core.specs.declared.caller.Reading.{Reading}
 use Rattle.channel_core.specs.declared.sent.Sent.{Sent}
 use Rattle.channel_core.specs.declared.sent.Flight.{Flight}
+
+-- a command of this code, with bytes that are laid over the front of a space, is posted by a caller at a reading
+abbrev pub sent_at : ℕ → ℕ → List ℕ → Reading → List ℕ → Sent
+sent_at caller code bytes post space = record {
+  command = record { caller = caller; code = code; input = over space bytes; post = post.at };
+  note = record { post_at = post.number; done_at = 0; looks = 0 };
+}
 
 abbrev pub is_flying : Option Sent → Bool
 is_flying None = false
@@ -65,7 +74,7 @@ abbrev pub HasMemory : Option Flight → ℕ → Type 0
 HasMemory None spare = Unit {0}
 HasMemory (Some f) spare = (length f.reply.items ≡ length f.sent.command.input) × (0 < spare)
 
--- a command is in flight, whose space has so many bytes
+-- a command is in flight, whose space has this room
 abbrev pub FliesWith : Option Sent → ℕ → Type 0
 FliesWith None room = ⊥
 FliesWith (Some c) room = length c.command.input ≡ room

@@ -11,20 +11,20 @@ pub enum CallRefusal {
     JournalFull,
     /// Memory ran out.
     NoMemory,
-    /// An earlier command was not complete at any of so many looks.
+    /// An earlier command was not complete at any of these looks.
     StillPending { looks: u32 },
     /// The reading of its post is below the earliest that the limits allow, both in microseconds.
     TooSoon { now: u64, earliest: u128 },
-    /// Posted, and not complete at any of so many looks.
+    /// Posted, and not complete at any of these looks.
     TimedOut { looks: u32 },
 }
 
 /// What a look of the asking end saw.
 #[derive(Clone, Copy, Debug, PartialEq, Eq)]
 pub enum Look {
-    /// The command isn't complete, after so many looks of the budget.
+    /// The command isn't complete, after this many looks of the budget.
     Clear { looks: u32 },
-    /// The reply was taken. Its record stands at this place of the journal, from 0; `late` where the command had been given up.
+    /// The reply was taken. Its record is at this place of the journal, from 0; `late` where the command had been given up.
     Drained { place: u32, late: bool },
 }
 
@@ -35,7 +35,7 @@ pub enum Turn {
     Served,
     /// The doorbell line was down.
     Idle,
-    /// It touched no word: the next command is held for so many turns more.
+    /// It touched no word: the next command is held for this many turns more.
     Held { left: u32 },
     /// It has executed as many commands as a journal has places.
     JournalFull,

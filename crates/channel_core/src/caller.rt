@@ -12,7 +12,7 @@ pub struct Reading {
     pub number: u64,
 }
 
-/// The limits on posts, a clock, and the number of readings taken from it, which stands still at the greatest u64.
+/// The limits on posts, a clock, and the number of readings taken from it, which stays at the greatest u64.
 #[derive(Debug, Drop)]
 pub struct Caller<K: Clock> {
     pub limits: Limits,

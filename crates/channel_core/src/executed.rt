@@ -1,8 +1,8 @@
 //! The commands that the answering end has executed.
-ghost use Rattle.std.specs.Prelude.{◌≡◌, ◌++◌, ◌∷◌, [], true, false, length, replicate, IfOk, OnOk, OnErr};
+ghost use Rattle.std.specs.Prelude.{◌≡◌, [], true, false, length, replicate, IfOk, OnOk, OnErr};
 ghost use Rattle.pcc_history.specs.Channel.{exchange_of};
 ghost use Rattle.pcc_exec.specs.Execution.{Executes};
-ghost use Rattle.channel_core.specs.Executions.{command_by};
+ghost use Rattle.channel_core.specs.Executions.{executed_by};
 
 use pcc_exec::{ExecStatus, Executor};
 use pcc_io::{Bytes, NoMemory};
@@ -82,7 +82,7 @@ impl Executed {
         requires long { length space.old ≡ self.old.room }
         requires room { E.room_of (E.state device.old) ≡ self.old.room }
         ensures executes { Executes E.exec_of (E.state device.old) code space.old result (E.state device.new) space.new }
-        ensures commands { self.new ≡ record self.old { commands = self.old.commands ++ command_by (exchange_of E.exec_of reports (E.state device.old) code space.old) ∷ []; ready = false } }
+        ensures commands { self.new ≡ executed_by (exchange_of E.exec_of reports (E.state device.old) code space.old) self.old }
     {
         match self.ahead.take() {
             Some(mut ahead) => {
@@ -102,7 +102,7 @@ impl Executed {
     }
 }
 
-/// So many zero bytes.
+/// A space of this room, all zeros.
 pub fn zeros(alloc: Global, room: u32) -> Result<Vec<u8>, NoMemory>
     ensures { IfOk result (λ v. v.items ≡ replicate room 0) }
 {

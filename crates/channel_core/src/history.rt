@@ -49,6 +49,7 @@ impl History {
         ensures spare { result.now.spare ≡ self.now.spare }
         ensures most { length result.now.items + result.now.spare ≤ MAX_ITEMS }
     {
+        // Its clause says that there are at most 4,096 records with the spare ones.
         self.journal.len();
         &self.journal
     }
@@ -122,7 +123,7 @@ impl History {
         self.flight = Some(flight);
     }
 
-    /// The caller of the command in flight gives it up after so many looks. The looks of the first time are kept.
+    /// The caller of the command in flight gives it up after N looks. The looks of the first time are kept.
     pub fn mark_late(&mut self, looks: u32)
         ensures { self.new ≡ marked_late looks self.old }
     {

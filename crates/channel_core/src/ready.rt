@@ -8,6 +8,7 @@ ghost use Rattle.channel_core.specs.Lending.{LendsBytes};
 
 use crate::refusals::refusal;
 use crate::{CallRefusal, Flight, History, Reading, Sent};
+use pcc_bytes::are_bytes;
 use pcc_io::{Bytes, NoMemory};
 use pcc_journal::{Note, Pending};
 use std::alloc::Global;
@@ -77,7 +78,8 @@ impl Ready {
         ensures value { result.now ≡ self.now.bytes }
         ensures bytes { IsBytes result.now }
     {
-        as_bytes(&self.bytes)
+        are_bytes(&self.bytes);
+        &self.bytes
     }
 
     /// Lends its bytes.
@@ -130,14 +132,6 @@ impl Ready {
             reply: self.reply,
         }
     }
-}
-
-// A slice of bytes has bytes.
-fn as_bytes(bytes: &[u8]) -> &[u8]
-    ensures value { result.now ≡ bytes.now }
-    ensures bytes { IsBytes result.now }
-{
-    bytes
 }
 
 /// Makes a command ready, with the memory of its record beside that of a command in flight. A code above 255 on types 0 to 2, more bytes than the

@@ -12,7 +12,7 @@ pub const GREATEST_CODE: u32 = 255;
 /// The last of the types whose codes stand in the generic header.
 const LAST_GENERIC: u8 = 2;
 
-/// What refuses a command of this code and so many bytes after so many posts: a code above 255 on types 0 to 2, more bytes than the space has, and
+/// What refuses a command of this code with this many bytes after this many posts: a code above 255 on types 0 to 2, more bytes than the space has, and
 /// then 4,096 posts.
 pub fn refusal(kind: u8, room: u32, code: u32, len: usize, posts: usize) -> Option<CallRefusal>
     ensures { result ≡ refusal_of kind room code len posts }

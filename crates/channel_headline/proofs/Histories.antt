@@ -32,17 +32,17 @@ state_after-more : (exec : Device) (state : List ℕ) (xs : List Exchange) (c : 
 state_after-more exec state [] c = refl
 state_after-more exec state (x ∷ xs) c = state_after-more exec (exec state x.code x.input).state xs c
 
-space_after-more : (space : List ℕ) (xs : List Exchange) (c : Exchange) → space_after space (xs ++ c ∷ []) ≡ c.output
+pub space_after-more : (space : List ℕ) (xs : List Exchange) (c : Exchange) → space_after space (xs ++ c ∷ []) ≡ c.output
 space_after-more space [] c = refl
 space_after-more space (x ∷ xs) c = space_after-more x.output xs c
 
-WholeHistory-more : (space : List ℕ) (xs : List Exchange) (asked : List (List ℕ)) (c : Exchange) (bytes : List ℕ) → WholeHistory space xs asked → c.input ≡ over (space_after space xs) bytes → WholeHistory space (xs ++ c ∷ []) (asked ++ bytes ∷ [])
+pub WholeHistory-more : (space : List ℕ) (xs : List Exchange) (asked : List (List ℕ)) (c : Exchange) (bytes : List ℕ) → WholeHistory space xs asked → c.input ≡ over (space_after space xs) bytes → WholeHistory space (xs ++ c ∷ []) (asked ++ bytes ∷ [])
 WholeHistory-more space [] [] c bytes h e = (e, tt)
 WholeHistory-more space [] (a ∷ asked) c bytes h e = absurd h
 WholeHistory-more space (x ∷ xs) [] c bytes h e = absurd h
 WholeHistory-more space (x ∷ xs) (a ∷ asked) c bytes h e = (h.0, WholeHistory-more x.output xs asked c bytes h.1 e)
 
-WholeHistory-length : (space : List ℕ) (xs : List Exchange) (asked : List (List ℕ)) → WholeHistory space xs asked → length asked ≡ length xs
+pub WholeHistory-length : (space : List ℕ) (xs : List Exchange) (asked : List (List ℕ)) → WholeHistory space xs asked → length asked ≡ length xs
 WholeHistory-length space [] [] h = refl
 WholeHistory-length space [] (a ∷ asked) h = absurd h
 WholeHistory-length space (x ∷ xs) [] h = absurd h

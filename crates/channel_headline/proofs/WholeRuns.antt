@@ -31,7 +31,7 @@ one_asked : (b : Bool) (l : CallLine) → map (λ (x : CallLine). x.bytes) (cond
 one_asked true l = refl
 one_asked false l = refl
 
-asked_more : (lines : List CallLine) (l : CallLine) → asked_by (lines ++ l ∷ []) ≡ asked_by lines ++ cond (was_posted l.reply) (l.bytes ∷ []) []
+pub asked_more : (lines : List CallLine) (l : CallLine) → asked_by (lines ++ l ∷ []) ≡ asked_by lines ++ cond (was_posted l.reply) (l.bytes ∷ []) []
 asked_more lines l =
     let posted : CallLine → Bool = λ x. was_posted x.reply in
     ap (λ (v : List CallLine). map (λ (x : CallLine). x.bytes) v) (filter-append posted lines (l ∷ []))
@@ -92,10 +92,10 @@ kept_count None f = refl
 kept_count (Some p) None = refl
 kept_count (Some p) (Some n) = refl
 
-kept_length : (rs : List Record) (ns : List Note) → length (noted rs ns) ≡ length rs
+pub kept_length : (rs : List Record) (ns : List Note) → length (noted rs ns) ≡ length rs
 kept_length rs ns = sym (length-map (noted rs ns) (λ (n : Noted). n.entry)) ∙ ap (λ (v : List Record). length v) (noted_records rs ns)
 
-all_ended : (ls : List CallLine) → AllByRecursion (λ l. HasReply l.reply) ls → AreEnded ls
+pub all_ended : (ls : List CallLine) → AllByRecursion (λ l. HasReply l.reply) ls → AreEnded ls
 all_ended [] h = tt
 all_ended (l ∷ []) h = tt
 all_ended (l ∷ m ∷ ls) h = (h.0, all_ended (m ∷ ls) h.1)

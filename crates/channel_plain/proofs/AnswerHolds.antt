@@ -1,11 +1,11 @@
 -- What a pick of the answering side keeps.
 use Rattle.std.proofs.Common.{◌≡◌, ◌⊎◌, inl, inr, ℕ, suc, ◌+◌, ◌^◌, ◌<◌, ◌≤◌, Bool, true, false, List, [], ◌∷◌, ◌++◌, length, map, refl, sym, ap, ◌∙◌, subst, arith, length-append}
-use Rattle.std.proofs.lemmas.List.{map-append, append-nil}
+use Rattle.std.proofs.lemmas.List.{length-map, map-append}
 use Rattle.pcc_history.specs.Devices.{Device}
 use Rattle.pcc_history.specs.Channel.{Exchange}
 use Rattle.pcc_journal.specs.declared.command.Command.{Command}
 use Rattle.pcc_journal.specs.declared.record.Record.{Record}
-use Rattle.pcc_journal.specs.Records.{exchanges_of, exchanges_of_commands, exchange_of_command}
+use Rattle.pcc_journal.specs.Records.{exchanges_of, exchanges_of_commands, exchange_of_command, exchange_of_record}
 use Rattle.pcc_steps.specs.declared.wiring.Action.{Action}
 use Rattle.pcc_steps.specs.declared.ask.AskStage.{AskStage}
 use Rattle.pcc_steps.specs.declared.ask.AskStage.TheVariants.{AskRest, PostBlock, PostHeader, PostUpdateLoad, PostUpdateStore, PostMarkLoad, PostMarkStore, PostBellLoad, PostBellStore, PostLine, LookWord, LookError, LookBlock, LookLine, LookLineStore, LookAckLoad, LookAckStore}
@@ -17,8 +17,10 @@ use Rattle.pcc_steps.specs.Agree.{act, Finds, Core, Asker, Answerer, Agree, Turn
 use Rattle.pcc_steps.specs.Laws.{AnswerBeginAgrees, AnswerStepAgrees, DeviceStays, HistoriesAgree}
 use Rattle.channel_core.specs.Executions.{Executions, command_by}
 use Rattle.channel_plain.specs.Picks.{PlainState, started_at}
-use Rattle.channel_plain.specs.Standing.{Unkept, asker_of, answerer_of, carried, carried_at, Stands, Holds}
+use Rattle.pcc_steps.specs.Carrying.{carried, carried_at}
+use Rattle.channel_plain.specs.Standing.{Unkept, asker_of, answerer_of, Stands, Holds}
 use Rattle.channel_plain.specs.Steps.{IsSettled, SettlesIf, ready_after}
+use Rattle.pcc_steps.proofs.AnswerFeeds.{counted, framed, settled_wired}
 use Rattle.pcc_steps.proofs.WordSteps.{long_act, finds_found}
 
 -- ---- lists
@@ -30,17 +32,14 @@ again (x ∷ xs) = ap (λ (l : List Exchange). x ∷ l) (again xs)
 pub grown : (cs : List Command) (xs : List Exchange) → exchanges_of_commands (cs ++ map command_by xs) ≡ exchanges_of_commands cs ++ xs
 grown cs xs = map-append exchange_of_command cs (map command_by xs) ∙ ap (λ (l : List Exchange). exchanges_of_commands cs ++ l) (again xs)
 
-length-map : {A B : Type 0} (f : A → B) (xs : List A) → length (map f xs) ≡ length xs
-length-map f [] = refl
-length-map f (x ∷ xs) = ap suc (length-map f xs)
-
 -- ---- the command in flight
 
 resting_flies : (b : Bool) (t : Turn) (x : Asker) (y : Answerer) (c : Core) → Fits (resting b) t x y c → (length y.done ≡ length x.done → ⊥) → b ≡ true
 resting_flies true t x y c f n = refl
 resting_flies false t x y c f n = absurd (n (ap (λ (l : List Exchange). length l) f.1.done))
 
-carried_if : (st : AskStage) (a : Ask) (t : Turn) (x : Asker) (y : Answerer) (c : Core) → Flies st a.in_flight → Fits (pose_at st a) t x y c → (length y.done ≡ length x.done → ⊥) → carried_at st a.in_flight ≡ true
+carried_if : (st : AskStage) (a : Ask) (t : Turn) (x : Asker) (y : Answerer) (c : Core) → Flies st a.in_flight → Fits (pose_at st a) t x y c
+    → (length y.done ≡ length x.done → ⊥) → carried_at st a.in_flight ≡ true
 carried_if AskRest a t x y c l f n = resting_flies a.in_flight t x y c f n
 carried_if (PostBlock j) a t x y c l f n = refl
 carried_if PostHeader a t x y c l f n = refl
@@ -67,41 +66,8 @@ most : (xs ys : List Exchange) → (ys ≡ xs) ⊎ ((e : Exchange) × (ys ≡ xs
 most xs ys (inl e) = let l = ap (λ (l : List Exchange). length l) e in omega (arith, l)
 most xs ys (inr p) = let l = ap (λ (l : List Exchange). length l) p.1 in let k = length-append xs (p.0 ∷ []) in omega (arith, l, k)
 
-lengths : (rs : List Record) → length (exchanges_of rs) ≡ length rs
-lengths [] = refl
-lengths (r ∷ rs) = ap suc (lengths rs)
-
 module _ (exec : Device) where
   -- ---- the device's turn
-
-  -- what was executed before stays
-  pub framed : (st : AnswerStage) (m : Answer) (d : List ℕ) (done : List Exchange) → settle_at exec st (record { m = m; device = d; done = done }) ≡ (let y = settle_at exec st (record { m = m; device = d; done = [] }) in record y { done = done ++ y.done })
-  framed RunDevice m d done = refl
-  framed AnswerRest m d done = ap (λ (l : List Exchange). record { m = m; device = d; done = l }) (sym (append-nil done))
-  framed TakeLine m d done = ap (λ (l : List Exchange). record { m = m; device = d; done = l }) (sym (append-nil done))
-  framed TakeAckLoad m d done = ap (λ (l : List Exchange). record { m = m; device = d; done = l }) (sym (append-nil done))
-  framed TakeAckStore m d done = ap (λ (l : List Exchange). record { m = m; device = d; done = l }) (sym (append-nil done))
-  framed TakeHeader m d done = ap (λ (l : List Exchange). record { m = m; device = d; done = l }) (sym (append-nil done))
-  framed (TakeBlock j) m d done = ap (λ (l : List Exchange). record { m = m; device = d; done = l }) (sym (append-nil done))
-  framed (ReplyBlock j) m d done = ap (λ (l : List Exchange). record { m = m; device = d; done = l }) (sym (append-nil done))
-  framed ReplyError m d done = ap (λ (l : List Exchange). record { m = m; device = d; done = l }) (sym (append-nil done))
-  framed ReplyHeader m d done = ap (λ (l : List Exchange). record { m = m; device = d; done = l }) (sym (append-nil done))
-  framed ReplyUpdateLoad m d done = ap (λ (l : List Exchange). record { m = m; device = d; done = l }) (sym (append-nil done))
-  framed ReplyUpdateStore m d done = ap (λ (l : List Exchange). record { m = m; device = d; done = l }) (sym (append-nil done))
-  framed ReplyMarkLoad m d done = ap (λ (l : List Exchange). record { m = m; device = d; done = l }) (sym (append-nil done))
-  framed ReplyMarkStore m d done = ap (λ (l : List Exchange). record { m = m; device = d; done = l }) (sym (append-nil done))
-  framed CloseBellLoad m d done = ap (λ (l : List Exchange). record { m = m; device = d; done = l }) (sym (append-nil done))
-  framed CloseBellStore m d done = ap (λ (l : List Exchange). record { m = m; device = d; done = l }) (sym (append-nil done))
-  framed CloseLine m d done = ap (λ (l : List Exchange). record { m = m; device = d; done = l }) (sym (append-nil done))
-
-  -- the number of steps is counted before or after
-  pub counted : (st : AnswerStage) (y : Answerer) → settle_at exec st (answerer_stepped y) ≡ answerer_stepped (settle_at exec st y)
-  counted RunDevice y = refl
-  counted _ y = refl
-
-  settled_wiring : (st : AnswerStage) (y : Answerer) → (settle_at exec st y).m.wiring ≡ y.m.wiring
-  settled_wiring RunDevice y = refl
-  settled_wiring _ y = refl
 
   settled_more : (st : AnswerStage) (m : Answer) (d : List ℕ) → (st ≡ RunDevice) → length (settle_at exec st (record { m = m; device = d; done = [] })).done ≡ 1
   settled_more st m d e = subst (λ (t : AnswerStage). length (settle_at exec t (record { m = m; device = d; done = [] })).done ≡ 1) (sym e) refl
@@ -118,7 +84,7 @@ module _ (exec : Device) where
 
   same_answerer : (v : ℕ) (s : PlainState) → answerer_fed exec (record (answerer_of s) { m = stepping s }) v ≡ answerer_of (answered_with v s)
   same_answerer v s = let m : Answer = answer_fed_at (stepping s).stage (stepping s) v in
-      ap answerer_stepped (framed m.stage m s.device (exchanges_of_commands s.executed)) ∙ ap (λ (l : List Exchange). record { m = (after_step v s).m; device = (after_step v s).device; done = l }) (sym (grown s.executed (after_step v s).done))
+      ap answerer_stepped (framed exec m.stage m s.device (exchanges_of_commands s.executed)) ∙ ap (λ (l : List Exchange). record { m = (after_step v s).m; device = (after_step v s).device; done = l }) (sym (grown s.executed (after_step v s).done))
 
   begins_by : AnswerBeginAgrees → (st : AnswerStage) (s : PlainState) (u : Unkept) → s.answer.stage ≡ st → Agree exec s.start s.words (asker_of s u) (answerer_of s) → Agree exec s.start s.words (asker_of s u) (record (answerer_of s) { m = started_at st s.answer })
   begins_by law AnswerRest s u e g = law exec s.start s.words (asker_of s u) (answerer_of s) e g
@@ -140,26 +106,30 @@ module _ (exec : Device) where
   begins_by law CloseLine s u e g = g
 
   module _ (is_state : List ℕ → Type 0) (room_of : List ℕ → ℕ) where
-    pub answered : AnswerBeginAgrees → AnswerStepAgrees exec is_state room_of → (s : PlainState) (v : ℕ) → v ≡ found (answer_next (stepping s)) s.words → v < 2 ^ 64 → (k : Stands exec is_state room_of s) → Agree exec s.start (act (answer_next (stepping s)) s.words) (asker_of s k.unkept) (answerer_of (answered_with v s))
+    pub answered : AnswerBeginAgrees → AnswerStepAgrees exec is_state room_of → (s : PlainState) (v : ℕ) → v ≡ found (answer_next (stepping s)) s.words
+        → v < 2 ^ 64 → (k : Stands exec is_state room_of s)
+        → Agree exec s.start (act (answer_next (stepping s)) s.words) (asker_of s k.unkept) (answerer_of (answered_with v s))
     answered start step s v e small k = subst (λ (y : Answerer). Agree exec s.start (act (answer_next (stepping s)) s.words) (asker_of s k.unkept) y) (same_answerer v s)
         (step s.start s.words (asker_of s k.unkept) (record (answerer_of s) { m = stepping s }) v k.start k.room (begins_by start s.answer.stage s k.unkept refl k.agree) (subst (λ (n : ℕ). Finds (answer_next (stepping s)) s.words n) (sym e) (finds_found (answer_next (stepping s)) s.words)) small)
 
-    pub fed_wiring : (s : PlainState) (v : ℕ) (u : Unkept) (ws : List ℕ) → Agree exec s.start ws (asker_of s u) (answerer_of (answered_with v s)) → (answer_fed (stepping s) v).wiring ≡ s.ask.wiring
-    fed_wiring s v u ws g = let m : Answer = answer_fed_at (stepping s).stage (stepping s) v in sym (settled_wiring m.stage (record { m = m; device = s.device; done = [] })) ∙ g.1.2.same
+    pub fed_wiring : (s : PlainState) (v : ℕ) (u : Unkept) (ws : List ℕ) → Agree exec s.start ws (asker_of s u) (answerer_of (answered_with v s))
+        → (answer_fed (stepping s) v).wiring ≡ s.ask.wiring
+    fed_wiring s v u ws g = let m : Answer = answer_fed_at (stepping s).stage (stepping s) v in sym (settled_wired exec m.stage (record { m = m; device = s.device; done = [] })) ∙ g.1.2.same
 
     longer : (s : PlainState) (v : ℕ) → length (exchanges_of_commands (answered_with v s).executed) ≡ length s.executed + length (after_step v s).done
-    longer s v = let l = length-map exchange_of_command (answered_with v s).executed in let k = length-append s.executed (map command_by (after_step v s).done) in let n = length-map command_by (after_step v s).done in omega (arith, l, k, n)
+    longer s v = let l = length-map (answered_with v s).executed exchange_of_command in let k = length-append s.executed (map command_by (after_step v s).done) in let n = length-map (after_step v s).done command_by in omega (arith, l, k, n)
 
     -- where a command is executed, it is the one in flight, and the memory for it is there
-    pub settles : HistoriesAgree → (s : PlainState) (v : ℕ) (u : Unkept) (ws : List ℕ) (st : AnswerStage) (ready : Bool) → Agree exec s.start s.words (asker_of s u) (answerer_of s) → Agree exec s.start ws (asker_of s u) (answerer_of (answered_with v s))
+    pub settles : HistoriesAgree → (s : PlainState) (v : ℕ) (u : Unkept) (ws : List ℕ) (st : AnswerStage) (ready : Bool)
+        → Agree exec s.start s.words (asker_of s u) (answerer_of s) → Agree exec s.start ws (asker_of s u) (answerer_of (answered_with v s))
         → (carried s.ask ≡ true → length s.executed ≡ length s.calls.records → ready ≡ true) → (answer_fed (stepping s) v).stage ≡ st → SettlesIf st ready
     settles law s v u ws RunDevice ready g g' h e = let x : Asker = asker_of s u in let y : Answerer = answerer_of s in let z : Answerer = answerer_of (answered_with v s) in let m : Answer = answer_fed_at (stepping s).stage (stepping s) v in
         let one : length (after_step v s).done ≡ 1 = settled_more m.stage m s.device e in
         let a = least x.done y.done (law exec s.start s.words x y g).0 in let b = most x.done z.done (law exec s.start ws x z g').0 in let l = longer s v in
-        let n = length-map exchange_of_command s.executed in
+        let n = length-map s.executed exchange_of_command in
         let other : length z.done ≡ length x.done → ⊥ = λ q. omega (arith, one, a, b, l, n, q) in
         let equal : length s.executed ≡ length x.done = omega (arith, one, a, b, l, n) in
-        h (carried_if s.ask.stage s.ask (turn z.m) x z g'.0 g'.1.2.ask_ok.flies g'.1.2.fits other) (equal ∙ lengths s.calls.records)
+        h (carried_if s.ask.stage s.ask (turn z.m) x z g'.0 g'.1.2.ask_ok.flies g'.1.2.fits other) (equal ∙ length-map s.calls.records exchange_of_record)
     settles law s v u ws AnswerRest ready g g' h e = tt
     settles law s v u ws TakeLine ready g g' h e = tt
     settles law s v u ws TakeAckLoad ready g g' h e = tt
@@ -177,18 +147,21 @@ module _ (exec : Device) where
     settles law s v u ws CloseBellStore ready g g' h e = tt
     settles law s v u ws CloseLine ready g g' h e = tt
 
-    ready_on : HistoriesAgree → (s : PlainState) (v : ℕ) (u : Unkept) (ws : List ℕ) (st : AnswerStage) (ready : Bool) → Agree exec s.start s.words (asker_of s u) (answerer_of s)
-        → (carried s.ask ≡ true → length s.executed ≡ length s.calls.records → ready ≡ true) → (answer_fed (stepping s) v).stage ≡ st → carried s.ask ≡ true → length (answered_with v s).executed ≡ length s.calls.records → ready_after st ready ≡ true
+    ready_on : HistoriesAgree → (s : PlainState) (v : ℕ) (u : Unkept) (ws : List ℕ) (st : AnswerStage) (ready : Bool)
+        → Agree exec s.start s.words (asker_of s u) (answerer_of s)
+        → (carried s.ask ≡ true → length s.executed ≡ length s.calls.records → ready ≡ true) → (answer_fed (stepping s) v).stage ≡ st → carried s.ask ≡ true
+        → length (answered_with v s).executed ≡ length s.calls.records → ready_after st ready ≡ true
     ready_on law s v u ws RunDevice ready g h e q n = let x : Asker = asker_of s u in let y : Answerer = answerer_of s in let m : Answer = answer_fed_at (stepping s).stage (stepping s) v in
         let one : length (after_step v s).done ≡ 1 = settled_more m.stage m s.device e in
-        let a = least x.done y.done (law exec s.start s.words x y g).0 in let l = longer s v in let k = length-map exchange_of_command s.executed in let j = length-map exchange_of_command (answered_with v s).executed in let i = lengths s.calls.records in
+        let a = least x.done y.done (law exec s.start s.words x y g).0 in let l = longer s v in let k = length-map s.executed exchange_of_command in let j = length-map (answered_with v s).executed exchange_of_command in let i = length-map s.calls.records exchange_of_record in
         absurd (omega (arith, one, a, l, k, j, i, n))
     ready_on law s v u ws st ready g h e q n = let x : Asker = asker_of s u in let y : Answerer = answerer_of s in
-        let a = least x.done y.done (law exec s.start s.words x y g).0 in let l = longer s v in let k = length-map exchange_of_command s.executed in let j = length-map exchange_of_command (answered_with v s).executed in let i = lengths s.calls.records in
+        let a = least x.done y.done (law exec s.start s.words x y g).0 in let l = longer s v in let k = length-map s.executed exchange_of_command in let j = length-map (answered_with v s).executed exchange_of_command in let i = length-map s.calls.records exchange_of_record in
         h q (omega (arith, a, l, k, j, i, n))
 
     -- the channel after the step
-    pub answer_holds : AnswerBeginAgrees → AnswerStepAgrees exec is_state room_of → HistoriesAgree → (s : PlainState) (v : ℕ) (ready : Bool) (room : ℕ) → v ≡ found (answer_next (stepping s)) s.words → v < 2 ^ 64 → Holds exec is_state room_of s ready room
+    pub answer_holds : AnswerBeginAgrees → AnswerStepAgrees exec is_state room_of → HistoriesAgree → (s : PlainState) (v : ℕ) (ready : Bool) (room : ℕ)
+        → v ≡ found (answer_next (stepping s)) s.words → v < 2 ^ 64 → Holds exec is_state room_of s ready room
         → Holds exec is_state room_of (answered_with v s) (ready_after (answer_fed (stepping s) v).stage ready) room
     answer_holds start step law s v ready room e small h = let k = h.0 in (
       record {
@@ -207,28 +180,37 @@ module _ (exec : Device) where
 
     -- ---- in the words of the code
 
-    found_by : (s : PlainState) (b : Answer) (t : Action) (v : ℕ) → b ≡ stepping s → t ≡ answer_next b → v ≡ found t s.words → v ≡ found (answer_next (stepping s)) s.words
+    found_by : (s : PlainState) (b : Answer) (t : Action) (v : ℕ) → b ≡ stepping s → t ≡ answer_next b → v ≡ found t s.words
+        → v ≡ found (answer_next (stepping s)) s.words
     found_by s b t v eb et ev = ev ∙ ap (λ (t : Action). found t s.words) (et ∙ ap answer_next eb)
 
     fed_by : (s : PlainState) (b f : Answer) (v : ℕ) → b ≡ stepping s → f ≡ answer_fed b v → f ≡ answer_fed (stepping s) v
     fed_by s b f v eb ef = ef ∙ ap (λ (b : Answer). answer_fed b v) eb
 
-    pub settle_ready : AnswerBeginAgrees → AnswerStepAgrees exec is_state room_of → HistoriesAgree → (s : PlainState) (ready : Bool) (room : ℕ) (b f : Answer) (t : Action) (v : ℕ) → b ≡ stepping s → t ≡ answer_next b → v ≡ found t s.words → v < 2 ^ 64 → f ≡ answer_fed b v → Holds exec is_state room_of s ready room → SettlesIf f.stage ready
+    pub settle_ready : AnswerBeginAgrees → AnswerStepAgrees exec is_state room_of → HistoriesAgree
+        → (s : PlainState) (ready : Bool) (room : ℕ) (b f : Answer) (t : Action) (v : ℕ) → b ≡ stepping s → t ≡ answer_next b → v ≡ found t s.words
+        → v < 2 ^ 64 → f ≡ answer_fed b v → Holds exec is_state room_of s ready room → SettlesIf f.stage ready
     settle_ready start step law s ready room b f t v eb et ev small ef h = let k = h.0 in
         settles law s v k.unkept (act (answer_next (stepping s)) s.words) f.stage ready k.agree (answered start step s v (found_by s b t v eb et ev) small k) h.1.taken (sym (ap (λ (a : Answer). a.stage) (fed_by s b f v eb ef)))
 
-    pub settle_wiring : AnswerBeginAgrees → AnswerStepAgrees exec is_state room_of → (s : PlainState) (ready : Bool) (room : ℕ) (b f : Answer) (t : Action) (v : ℕ) → b ≡ stepping s → t ≡ answer_next b → v ≡ found t s.words → v < 2 ^ 64 → f ≡ answer_fed b v → Holds exec is_state room_of s ready room → f.wiring ≡ s.ask.wiring
+    pub settle_wiring : AnswerBeginAgrees → AnswerStepAgrees exec is_state room_of
+        → (s : PlainState) (ready : Bool) (room : ℕ) (b f : Answer) (t : Action) (v : ℕ) → b ≡ stepping s → t ≡ answer_next b → v ≡ found t s.words
+        → v < 2 ^ 64 → f ≡ answer_fed b v → Holds exec is_state room_of s ready room → f.wiring ≡ s.ask.wiring
     settle_wiring start step s ready room b f t v eb et ev small ef h = let k = h.0 in
         ap (λ (a : Answer). a.wiring) (fed_by s b f v eb ef) ∙ fed_wiring s v k.unkept (act (answer_next (stepping s)) s.words) (answered start step s v (found_by s b t v eb et ev) small k)
 
-    pub device_room : DeviceStays exec is_state room_of → (s : PlainState) (ready : Bool) (room : ℕ) → Holds exec is_state room_of s ready room → room_of s.device ≡ s.ask.wiring.room
+    pub device_room : DeviceStays exec is_state room_of → (s : PlainState) (ready : Bool) (room : ℕ) → Holds exec is_state room_of s ready room
+        → room_of s.device ≡ s.ask.wiring.room
     device_room law s ready room h = let k = h.0 in (law s.start s.words (asker_of s k.unkept) (answerer_of s) k.start k.room k.agree).1
 
     pub same_settle : (s : PlainState) (f : Answer) (v : ℕ) → f ≡ answer_fed (stepping s) v → settle exec (record { m = f; device = s.device; done = [] }) ≡ after_step v s
-    same_settle s f v e = let m : Answer = answer_fed_at (stepping s).stage (stepping s) v in ap (λ (a : Answer). settle exec (record { m = a; device = s.device; done = [] })) e ∙ counted m.stage (record { m = m; device = s.device; done = [] })
+    same_settle s f v e = let m : Answer = answer_fed_at (stepping s).stage (stepping s) v in ap (λ (a : Answer). settle exec (record { m = a; device = s.device; done = [] })) e ∙ counted exec m.stage (record { m = m; device = s.device; done = [] })
 
-    pub settled_holds : AnswerBeginAgrees → AnswerStepAgrees exec is_state room_of → HistoriesAgree → (s : PlainState) (reg reg' : Executions) (b f f' : Answer) (d' ws : List ℕ) (t : Action) (v : ℕ) → b ≡ stepping s → t ≡ answer_next b → v ≡ found t s.words → v < 2 ^ 64 → f ≡ answer_fed b v → ws ≡ act t s.words → s.executed ≡ reg.commands
-        → IsSettled (settle exec (record { m = f; device = s.device; done = [] })) f.stage reg f' d' reg' → Holds exec is_state room_of s reg.ready reg.room → Holds exec is_state room_of (record s { words = ws; answer = f'; device = d'; executed = reg'.commands }) reg'.ready reg'.room
+    pub settled_holds : AnswerBeginAgrees → AnswerStepAgrees exec is_state room_of → HistoriesAgree
+        → (s : PlainState) (reg reg' : Executions) (b f f' : Answer) (d' ws : List ℕ) (t : Action) (v : ℕ) → b ≡ stepping s → t ≡ answer_next b
+        → v ≡ found t s.words → v < 2 ^ 64 → f ≡ answer_fed b v → ws ≡ act t s.words → s.executed ≡ reg.commands
+        → IsSettled (settle exec (record { m = f; device = s.device; done = [] })) f.stage reg f' d' reg' → Holds exec is_state room_of s reg.ready reg.room
+        → Holds exec is_state room_of (record s { words = ws; answer = f'; device = d'; executed = reg'.commands }) reg'.ready reg'.room
     settled_holds start step law s reg reg' b f f' d' ws t v eb et ev small ef ew ex is h = let e = fed_by s b f v eb ef in let y : Answerer = after_step v s in let q = same_settle s f v e in
         let commands : reg'.commands ≡ s.executed ++ map command_by y.done = ap (λ (r : Executions). r.commands) is.executed ∙ ap (λ (z : List Command × List Exchange). z.0 ++ map command_by z.1) (λ i. (sym ex i, (q i).done)) in
         let ready : reg'.ready ≡ ready_after (answer_fed (stepping s) v).stage reg.ready = ap (λ (r : Executions). r.ready) is.executed ∙ ap (λ (a : Answer). ready_after a.stage reg.ready) e in

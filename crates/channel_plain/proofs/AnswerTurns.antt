@@ -30,98 +30,10 @@ use Rattle.channel_plain.specs.declared.trace.TraceLine.{TraceLine}
 use Rattle.channel_plain.specs.Picks.{PlainState, started_at, answer_end, answer_picked, line_of}
 use Rattle.channel_plain.specs.Standing.{Stands}
 use Rattle.channel_plain.specs.WordRuns.{Answered, Answers, more, AnswerWalks, answer_from, answer_on, execute, next_of}
-use Rattle.channel_plain.proofs.WordSteps.{not_false, takes_next, takes_rest}
+use Rattle.channel_plain.proofs.Bools.{not_false}
+use Rattle.channel_plain.proofs.WordSteps.{takes_next, takes_rest}
+use Rattle.pcc_steps.proofs.AnswerFeeds.{ends_run, fed_rests, is_rest, is_run, run_is, unsettled}
 use Rattle.channel_plain.proofs.AnswerHolds.{stepping, after_step, fed_wiring, grown, same_settle}
-
-abbrev pub is_rest : AnswerStage → Bool
-is_rest AnswerRest = true
-is_rest TakeLine = false
-is_rest TakeAckLoad = false
-is_rest TakeAckStore = false
-is_rest TakeHeader = false
-is_rest (TakeBlock j) = false
-is_rest RunDevice = false
-is_rest (ReplyBlock j) = false
-is_rest ReplyError = false
-is_rest ReplyHeader = false
-is_rest ReplyUpdateLoad = false
-is_rest ReplyUpdateStore = false
-is_rest ReplyMarkLoad = false
-is_rest ReplyMarkStore = false
-is_rest CloseBellLoad = false
-is_rest CloseBellStore = false
-is_rest CloseLine = false
-
-abbrev pub is_run : AnswerStage → Bool
-is_run RunDevice = true
-is_run _ = false
-
-pub rest_is : (st : AnswerStage) → is_rest st ≡ true → st ≡ AnswerRest
-rest_is AnswerRest e = refl
-rest_is _ e = absurd (cc e)
-
-pub run_is : (st : AnswerStage) → is_run st ≡ true → st ≡ RunDevice
-run_is RunDevice e = refl
-run_is _ e = absurd (cc e)
-
-abbrev pub ends_run : Option AnswerOutcome → Bool
-ends_run None = false
-ends_run (Some o) = true
-
--- ---- a run ends exactly where the machine rests
-
-served_rest : (st : AnswerStage) → is_rest st ≡ ends_run (served_at st)
-served_rest AnswerRest = refl
-served_rest _ = refl
-
-ack_goes : (s : Style) → is_rest (after_ack s) ≡ false
-ack_goes Headed = refl
-ack_goes _ = refl
-
-take_goes : (b : Bool) (s : Style) → is_rest (after_take b s) ≡ false
-take_goes true s = refl
-take_goes false s = ack_goes s
-
-error_goes : (s : Style) → is_rest (after_error s) ≡ false
-error_goes Headed = refl
-error_goes Joined4 = refl
-error_goes Separate4 = refl
-error_goes _ = refl
-
-reply_goes : (b : Bool) (s : Style) → is_rest (after_reply b s) ≡ false
-reply_goes true s = refl
-reply_goes false s = error_goes s
-
-takes_rests : (b : Bool) (a : Answer) → is_rest (take_on b a).stage ≡ ends_run (take_told b)
-takes_rests true a = refl
-takes_rests false a = take_goes (four_by (style_of a.wiring) a.wiring.has_ack) (style_of a.wiring)
-
-load_rests : (b : Bool) (j v : ℕ) (a : Answer) → is_rest (load_on b j v a).stage ≡ false
-load_rests true j v a = refl
-load_rests false j v a = refl
-
-reply_rests : (b : Bool) (j : ℕ) (a : Answer) → is_rest (reply_on b j a).stage ≡ false
-reply_rests true j a = refl
-reply_rests false j a = reply_goes (tells_error a.wiring) (style_of a.wiring)
-
-pub fed_rests : (st : AnswerStage) (a : Answer) (v : ℕ) → is_rest st ≡ false → is_run st ≡ false → is_rest (answer_fed_at st a v).stage ≡ ends_run (answer_told_at st a v)
-fed_rests AnswerRest a v e f = absurd (cc e)
-fed_rests TakeLine a v e f = takes_rests (eqb v 0) a
-fed_rests TakeAckLoad a v e f = refl
-fed_rests TakeAckStore a v e f = ack_goes (style_of a.wiring)
-fed_rests TakeHeader a v e f = refl
-fed_rests (TakeBlock j) a v e f = load_rests (has_more j a.wiring) j v a
-fed_rests RunDevice a v e f = absurd (cc f)
-fed_rests (ReplyBlock j) a v e f = reply_rests (has_more j a.wiring) j a
-fed_rests ReplyError a v e f = error_goes (style_of a.wiring)
-fed_rests ReplyHeader a v e f = served_rest (done_stage a)
-fed_rests ReplyUpdateLoad a v e f = refl
-fed_rests ReplyUpdateStore a v e f = served_rest (after_update (style_of a.wiring) a)
-fed_rests ReplyMarkLoad a v e f = refl
-fed_rests ReplyMarkStore a v e f = served_rest (done_stage a)
-fed_rests CloseBellLoad a v e f = refl
-fed_rests CloseBellStore a v e f = served_rest (after_close (asks_notify a))
-fed_rests CloseLine a v e f = refl
 
 -- ---- the machine that has loaded a command
 
@@ -129,7 +41,7 @@ abbrev HasLoaded : AnswerStage → Answer → Type 0
 HasLoaded RunDevice m = AnswerOk m × (m.space ≡ bytes_of (drop (heads_of (style_of m.wiring)) m.loaded))
 HasLoaded _ m = Unit {0}
 
--- the device's turn comes after the last word of the block alone
+-- the device's turn is after the last word of the block alone
 abbrev NoRun : AnswerStage → Type 0
 NoRun RunDevice = ⊥
 NoRun _ = Unit {0}
@@ -220,10 +132,6 @@ takes_plain exec w (stores p u r) x next d es h = refl
 takes_plain exec w (swaps p u f) x next d es h = refl
 takes_plain exec w (executes c s f) x next d es h = absurd h
 
-settle_plain : (exec : Device) (st : AnswerStage) (y : Answerer) → is_run st ≡ false → settle_at exec st y ≡ y
-settle_plain exec RunDevice y e = absurd (cc e)
-settle_plain exec _ y e = refl
-
 module _ (exec : Device) (w : Wiring) where
   -- the device executes what was loaded
   ran_at : (run : Run AnswerEnd) (m : Answer) (x : Action) (d : List ℕ) (es : List Exchange) → x ≡ Execute (answer_code m) → m.wiring ≡ w → (space : List ℕ) → m.space ≡ space → Gives run x space (λ bad reply. answer_left (ran_with (record m { space = reply }) bad))
@@ -236,7 +144,7 @@ module _ (exec : Device) (w : Wiring) where
       ap (λ (z : ℕ × List ℕ × Wiring). let x : Executed = exec d z.0 z.1 in record { device = x.state; executed = es ++ exchange_of exec z.2.reports d z.0 z.1 ∷ []; run = f x.bad x.space }) (λ i. (ec i, es' i, sym wired i))
       ∙ (let x : Executed = exec d (answer_code m) m.space in ap (λ (r : Run AnswerEnd). record { device = x.state; executed = es ++ exchange_of exec m.wiring.reports d (answer_code m) m.space ∷ []; run = r }) (sym (h.2 x.bad x.space)))
 
-  -- what a step told, where it ends no run
+  -- what a step reported, where it ends no run
   plain_after : (told : Option AnswerOutcome) (m : Answer) (d : List ℕ) (es : List Exchange) → (told ≡ None → execute exec w (answer_left m) d es ≡ record { device = d; executed = es; run = answer_left m }) → execute exec w (answer_after told m) d es ≡ record { device = d; executed = es ++ []; run = answer_after told m }
   plain_after None m d es h = h refl ∙ ap (λ (l : List Exchange). record { device = d; executed = l; run = answer_left m }) (sym (append-nil es))
   plain_after (Some Idle) m d es h = ap (λ (l : List Exchange). record { device = d; executed = l; run = ends finds_none }) (sym (append-nil es))
@@ -247,11 +155,12 @@ module _ (exec : Device) (w : Wiring) where
   run_after (Some o) m e f = absurd (not_false (is_rest m.stage) e f)
 
   -- a step with the device's turn
-  settled_on : AnswerStepsByTable → ExecutesByTable → (b : Bool) (told : Option AnswerOutcome) (m : Answer) (d : List ℕ) (es : List Exchange) → is_run m.stage ≡ b → m.wiring ≡ w → is_rest m.stage ≡ ends_run told → HasLoaded m.stage m → (is_run m.stage ≡ false → AnswerOk m)
+  settled_on : AnswerStepsByTable → ExecutesByTable → (b : Bool) (told : Option AnswerOutcome) (m : Answer) (d : List ℕ) (es : List Exchange)
+      → is_run m.stage ≡ b → m.wiring ≡ w → is_rest m.stage ≡ ends_run told → HasLoaded m.stage m → (is_run m.stage ≡ false → AnswerOk m)
       → let y : Answerer = settle exec (record { m = m; device = d; done = [] }) in execute exec w (answer_after told m) d es ≡ record { device = y.device; executed = es ++ y.done; run = answer_after told y.m }
   settled_on law turn false told m d es e wired stops has ok =
       plain_after told m d es (λ n. takes_plain exec w (answer_left m) (answer_next m) (λ v. answer_after (answer_told m v) (answer_fed m v)) d es (law m (ok e) (λ q. not_false (is_rest m.stage) (ap is_rest q) (stops ∙ ap ends_run n), λ q. not_false (is_run m.stage) (ap is_run q) e)))
-      ∙ ap (λ (y : Answerer). record { device = y.device; executed = es ++ y.done; run = answer_after told y.m }) (sym (settle_plain exec m.stage (record { m = m; device = d; done = [] }) e))
+      ∙ ap (λ (y : Answerer). record { device = y.device; executed = es ++ y.done; run = answer_after told y.m }) (sym (unsettled exec m.stage (record { m = m; device = d; done = [] }) e))
   settled_on law turn true told m d es e wired stops has ok = let at : m.stage ≡ RunDevice = run_is m.stage e in
       let loaded : AnswerOk m × (m.space ≡ bytes_of (drop (heads_of (style_of m.wiring)) m.loaded)) = subst (λ (st : AnswerStage). HasLoaded st m) at has in
       let told_none : told ≡ None = run_after told m stops (ap is_rest at) in
@@ -268,7 +177,8 @@ module _ (exec : Device) (w : Wiring) where
     a_resting : is_rest s.answer.stage ≡ true → Answers exec w start lines s.device (exchanges_of_commands s.executed) → AnswerTie start s lines
     a_running : (past ls : List TraceLine) (d : List ℕ) (es : List Exchange) → is_rest s.answer.stage ≡ false → Answers exec w start past d es → AnswerWalks exec w (answer_from exec w d es) ls (record { device = s.device; executed = exchanges_of_commands s.executed; run = answer_left s.answer }) → lines ≡ past ++ ls → AnswerTie start s lines
 
-  walk_more : (a b : Answered) (ls : List TraceLine) (l : TraceLine) → AnswerWalks exec w a ls b → next_of b.run ≡ Some l.action → l.end ≡ end.Open → AnswerWalks exec w a (ls ++ l ∷ []) (answer_on exec w b l.value)
+  walk_more : (a b : Answered) (ls : List TraceLine) (l : TraceLine) → AnswerWalks exec w a ls b → next_of b.run ≡ Some l.action → l.end ≡ end.Open
+      → AnswerWalks exec w a (ls ++ l ∷ []) (answer_on exec w b l.value)
   walk_more a b [] l h n e = (ap (λ (x : Answered). next_of x.run) h ∙ n, e, ap (λ (x : Answered). answer_on exec w x l.value) h)
   walk_more a b (m ∷ ms) l h n e = (h.0, h.1, walk_more (answer_on exec w a m.value) b ms l h.2 n e)
 
@@ -293,9 +203,15 @@ module _ (exec : Device) (w : Wiring) where
   end_of Served = serves
 
   -- a step of a run that is under way
-  step_on : AnswerStepsByTable → ExecutesByTable → (told : Option AnswerOutcome) (start : List ℕ) (s : PlainState) (side : Side) (b : Answer) (v : ℕ) (past ls : List TraceLine) (d : List ℕ) (es : List Exchange) → told ≡ answer_told b v → b ≡ stepping exec s → AnswerOk b → is_rest b.stage ≡ false → is_run b.stage ≡ false → b.wiring ≡ w → (answer_fed b v).wiring ≡ w
-      → (is_run (answer_fed b v).stage ≡ false → AnswerOk (answer_fed b v)) → (y : Answerer) → y ≡ settle exec (record { m = answer_fed b v; device = s.device; done = [] }) → (ws : List ℕ) → Answers exec w start past d es → AnswerWalks exec w (answer_from exec w d es) ls (record { device = s.device; executed = exchanges_of_commands s.executed; run = answer_left b })
-      → (is_rest y.m.stage ≡ is_rest (answer_fed b v).stage) → AnswerTie start (record s { words = ws; answer = y.m; device = y.device; executed = s.executed ++ map command_by y.done }) (past ++ (ls ++ record { side = side; action = answer_next b; value = v; end = answer_end told } ∷ []))
+  step_on : AnswerStepsByTable → ExecutesByTable
+      → (told : Option AnswerOutcome) (start : List ℕ) (s : PlainState) (side : Side) (b : Answer) (v : ℕ) (past ls : List TraceLine) (d : List ℕ) (es : List Exchange)
+      → told ≡ answer_told b v → b ≡ stepping exec s → AnswerOk b → is_rest b.stage ≡ false → is_run b.stage ≡ false → b.wiring ≡ w
+      → (answer_fed b v).wiring ≡ w
+      → (is_run (answer_fed b v).stage ≡ false → AnswerOk (answer_fed b v)) → (y : Answerer)
+      → y ≡ settle exec (record { m = answer_fed b v; device = s.device; done = [] }) → (ws : List ℕ) → Answers exec w start past d es
+      → AnswerWalks exec w (answer_from exec w d es) ls (record { device = s.device; executed = exchanges_of_commands s.executed; run = answer_left b })
+      → (is_rest y.m.stage ≡ is_rest (answer_fed b v).stage)
+      → AnswerTie start (record s { words = ws; answer = y.m; device = y.device; executed = s.executed ++ map command_by y.done }) (past ++ (ls ++ record { side = side; action = answer_next b; value = v; end = answer_end told } ∷ []))
   step_on law turn told start s side b v past ls d es et eb ok rests runs wired wired' ok' y ey ws before walks same =
       let m : Answer = answer_fed b v in let E : List Exchange = exchanges_of_commands s.executed in let pre : Answered = record { device = s.device; executed = E; run = answer_left b } in
       let next : ℕ → Run AnswerEnd = λ v. answer_after (answer_told b v) (answer_fed b v) in
@@ -338,14 +254,16 @@ module _ (exec : Device) (w : Wiring) where
   settle_rest CloseLine y e = ap is_rest e
 
   -- a pick of the answering side
-  pub answer_tie : AnswersByTable → AnswerStepsByTable → ExecutesByTable → (is_state : List ℕ → Type 0) (room_of : List ℕ → ℕ) (start : List ℕ) (s : PlainState) (side : Side) (lines : List TraceLine) → Stands exec is_state room_of s → Stands exec is_state room_of (answer_picked exec s).state → s.ask.wiring ≡ w → AnswerTie start s lines
+  pub answer_tie : AnswersByTable → AnswerStepsByTable → ExecutesByTable
+      → (is_state : List ℕ → Type 0) (room_of : List ℕ → ℕ) (start : List ℕ) (s : PlainState) (side : Side) (lines : List TraceLine)
+      → Stands exec is_state room_of s → Stands exec is_state room_of (answer_picked exec s).state → s.ask.wiring ≡ w → AnswerTie start s lines
       → AnswerTie start (answer_picked exec s).state (lines ++ line_of side (answer_picked exec s) ∷ [])
   answer_tie table law turn is_state room_of start s side lines k k' wired tie =
       let b : Answer = stepping exec s in let v : ℕ = found (answer_next b) s.words in let m : Answer = answer_fed b v in let y : Answerer = after_step exec v s in
       let same : s.answer.wiring ≡ w = k.agree.1.2.same ∙ wired in
       let e : settle exec (record { m = m; device = s.device; done = [] }) ≡ y = same_settle exec is_state room_of s m v refl in
       let mw : m.wiring ≡ w = fed_wiring exec is_state room_of s v k'.unkept (act (answer_next b) s.words) k'.agree ∙ wired in
-      let ok' : is_run m.stage ≡ false → AnswerOk m = λ q. subst (λ (z : Answerer). AnswerOk z.m) (sym e ∙ settle_plain exec m.stage (record { m = m; device = s.device; done = [] }) q) k'.agree.1.2.answer_ok in
+      let ok' : is_run m.stage ≡ false → AnswerOk m = λ q. subst (λ (z : Answerer). AnswerOk z.m) (sym e ∙ unsettled exec m.stage (record { m = m; device = s.device; done = [] }) q) k'.agree.1.2.answer_ok in
       let rest : is_rest y.m.stage ≡ is_rest m.stage = ap (λ (z : Answerer). is_rest z.m.stage) (sym e) ∙ settle_rest m.stage (record { m = m; device = s.device; done = [] }) refl in
       go tie same e mw ok' rest
     where

@@ -40,7 +40,8 @@ headed_or false k t code e l h = l
 same_test : (kind : ℕ) → has_byte_codes kind ≡ ltb kind 3
 same_test kind = grind (arith, nat_tests)
 
-other : (a b j : Bool) (code : ℕ) → code < 2 ^ 32 → CodeFits (if a then (if j then Joined3 else Separate3) else if b then (if j then Joined4 else Separate4) else Reduced5) code
+other : (a b j : Bool) (code : ℕ) → code < 2 ^ 32
+    → CodeFits (if a then (if j then Joined3 else Separate3) else if b then (if j then Joined4 else Separate4) else Reduced5) code
 other true b true code h = h
 other true b false code h = h
 other false true true code h = h
@@ -58,5 +59,6 @@ same_call : (x y : Asked) → Some x ≡ Some y → x ≡ y
 same_call x y e = cc
 
 -- a call that is begun is the one that is looked up
-pub code_serving : (calls : List Asked) (s : PlainState) (c : Asked) → IsServing calls s → s.calls.begun ≡ true → slice_get calls s.calls.ended ≡ Some c → c.code < 2 ^ 32 → CodeFits (style_of s.ask.wiring) c.code
+pub code_serving : (calls : List Asked) (s : PlainState) (c : Asked) → IsServing calls s → s.calls.begun ≡ true → slice_get calls s.calls.ended ≡ Some c
+    → c.code < 2 ^ 32 → CodeFits (style_of s.ask.wiring) c.code
 code_serving calls s c h begun at small = let v = h begun in code_fits s.ask.wiring c small (subst (λ (x : Asked). is_wide s.ask.wiring x ≡ false) (same_call v.call c (sym v.at ∙ at)) v.code)

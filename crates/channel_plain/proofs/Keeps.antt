@@ -21,15 +21,18 @@ use Rattle.pcc_steps.specs.Wires.{style_of, block_of}
 use Rattle.pcc_steps.specs.Asking.{Ask, LooksLeft, CodeFits, ask_next, ask_fed, ask_told, ask_fed_at, ask_begun, ask_looking, ask_budgeted}
 use Rattle.pcc_steps.specs.Agree.{act, Finds, Asker, Answerer, Agree, done_after, clears_after, found}
 use Rattle.pcc_steps.specs.Laws.{AskStepAgrees, PostBeginAgrees, LookBeginAgrees, BudgetAgrees}
-use Rattle.channel_plain.specs.declared.sent.Sent.{Sent}
+use Rattle.channel_core.specs.declared.sent.Sent.{Sent}
 use Rattle.channel_plain.specs.declared.trace.Asked.{Asked}
-use Rattle.channel_plain.specs.Picks.{CallBook, PlainState, Ended, ask_ended, call_begun, call_posted, clear_ended, drained_calls, recorded, is_late, given_up}
-use Rattle.channel_plain.specs.Holding.{FliesIf, FliesWith}
+use Rattle.channel_plain.specs.Picks.{CallsState, PlainState, Ended, ask_ended, call_begun, call_posted, clear_ended, drained, drained_calls, next_reading, read_once, recorded}
+use Rattle.channel_core.specs.Sendings.{FliesWith, given_up_after, is_given_up}
+use Rattle.channel_plain.specs.Holding.{FliesIf}
 use Rattle.pcc_steps.proofs.WordSteps.{long_act, finds_found}
 use Rattle.channel_plain.specs.News.{opening_of}
-use Rattle.channel_plain.specs.Standing.{asker_of, answerer_of, carried, carried_at, is_rest, IsCarried, LooksBegun, Holds, owns}
+use Rattle.pcc_steps.specs.Carrying.{carried, carried_at, is_rest}
+use Rattle.channel_plain.specs.Standing.{asker_of, answerer_of, IsCarried, LooksBegun, Holds, owns}
 use Rattle.channel_plain.specs.Steps.{budget_by}
-use Rattle.channel_plain.proofs.AskFed.{Fed, fed, stepped, not_rest}
+use Rattle.pcc_steps.proofs.AskFeeds.{Fed, done_same, fed, stepped, not_rest}
+use Rattle.channel_plain.proofs.Bools.{below, not_false}
 
 -- ---- small facts
 
@@ -42,21 +45,23 @@ begun_looks false n b h = h
 
 -- ---- what a step of a run makes of the calls
 
-pub record After (a : Ask) (c : CallBook) (done : List Exchange) : Type 0 where
+pub record After (a : Ask) (c : CallsState) (done : List Exchange) : Type 0 where
   pub list : exchanges_of c.records ≡ done
   pub carries : IsCarried (carried a) c.sent a.code a.input
   pub runs : is_rest a.stage ≡ false → c.begun ≡ true
   pub looks : c.begun ≡ true → LooksBegun (both (is_rest a.stage) a.in_flight) a.looks a.budget
   pub own : carried a ≡ true → a.in_flight ≡ false → owns c.sent ≡ true
 
-carry : (b b' : Bool) (sent : Option Sent) (code code' : ℕ) (input input' : List ℕ) → b' ≡ b → code' ≡ code → input' ≡ input → IsCarried b sent code input → IsCarried b' sent code' input'
+carry : (b b' : Bool) (sent : Option Sent) (code code' : ℕ) (input input' : List ℕ) → b' ≡ b → code' ≡ code → input' ≡ input → IsCarried b sent code input
+    → IsCarried b' sent code' input'
 carry b b' sent code code' input input' e k i h = subst (λ (z : Bool × (ℕ × List ℕ)). IsCarried z.0 sent z.1.0 z.1.1) (λ j. (sym e j, (sym k j, sym i j))) h
 
-carry_late : (b : Bool) (sent : Option Sent) (code : ℕ) (input : List ℕ) → IsCarried b sent code input → IsCarried b (given_up sent) code input
-carry_late true None code input h = absurd h
-carry_late true (Some c) code input h = h
-carry_late false None code input h = refl
-carry_late false (Some c) code input h = absurd (cc h)
+carry_late : (b : Bool) (looks : ℕ) (sent : Option Sent) (code : ℕ) (input : List ℕ) → IsCarried b sent code input
+    → IsCarried b (given_up_after looks sent) code input
+carry_late true looks None code input h = absurd h
+carry_late true looks (Some c) code input h = h
+carry_late false looks None code input h = refl
+carry_late false looks (Some c) code input h = absurd (cc h)
 
 rested_waits : (r f : Bool) → r ≡ true → both r f ≡ f
 rested_waits true f e = refl
@@ -70,28 +75,23 @@ drained_list : (sent : Option Sent) (rs : List Record) (a : Ask) (e : Bool) (r :
 drained_list None rs a e r h = absurd h
 drained_list (Some c) rs a e r h = map-append exchange_of_record rs (recorded (Some c) e a.space r) ∙ ap (λ (x : ℕ × List ℕ). exchanges_of rs ++ record { code = x.0; input = x.1; error = e; output = a.space } ∷ []) (λ i. (h.0 i, h.1 i))
 
-late_records : (l : Bool) (c : CallBook) → (drained_calls l c).records ≡ c.records
+late_records : (l : Bool) (c : CallsState) → (drained_calls l c).records ≡ c.records
 late_records true c = refl
 late_records false c = refl
 
-late_sent : (l : Bool) (c : CallBook) → (drained_calls l c).sent ≡ c.sent
+late_sent : (l : Bool) (c : CallsState) → (drained_calls l c).sent ≡ c.sent
 late_sent true c = refl
 late_sent false c = refl
 
-late_begun : (l : Bool) (c : CallBook) → (drained_calls l c).begun ≡ true → l ≡ true
+late_begun : (l : Bool) (c : CallsState) → (drained_calls l c).begun ≡ true → l ≡ true
 late_begun true c e = refl
 late_begun false c e = absurd (cc e)
 
-not_false : (b : Bool) → b ≡ true → b ≡ false → ⊥
-not_false b t f = cc
-
-below : (looks budget : ℕ) → looks ≤ budget → nat_eq looks budget ≡ false → looks < budget
-below looks budget le ne = grind (arith, nat_tests)
-
-cleared : (last : Bool) (st : AskStage) (a b : Ask) (c : CallBook) → nat_eq b.looks b.budget ≡ last → Fed st a b (Some Clear) → b.looks ≤ b.budget → IsCarried (carried_at st a.in_flight) c.sent a.code a.input → c.begun ≡ true → After b (clear_ended last b.looks c).calls (exchanges_of c.records)
+cleared : (last : Bool) (st : AskStage) (a b : Ask) (c : CallsState) → nat_eq b.looks b.budget ≡ last → Fed st a b (Some Clear) → b.looks ≤ b.budget
+    → IsCarried (carried_at st a.in_flight) c.sent a.code a.input → c.begun ≡ true → After b (clear_ended last b.looks c).calls (exchanges_of c.records)
 cleared true st a b c test f left h begun = record {
   list = refl;
-  carries = carry_late (carried b) c.sent b.code b.input (carry (carried_at st a.in_flight) (carried b) c.sent a.code b.code a.input b.input f.carried f.code f.input h);
+  carries = carry_late (carried b) b.looks c.sent b.code b.input (carry (carried_at st a.in_flight) (carried b) c.sent a.code b.code a.input b.input f.carried f.code f.input h);
   runs = λ e. absurd (not_false (is_rest b.stage) f.rests e);
   looks = λ e. absurd (cc e);
   own = λ q e. absurd (not_false b.in_flight (f.flies ∙ f.sure.1) e);
@@ -104,8 +104,10 @@ cleared false st a b c test f left h begun = record {
   own = λ q e. absurd (not_false b.in_flight (f.flies ∙ f.sure.1) e);
 }
 
-pub told_on : (st : AskStage) (a b : Ask) (told : Option AskOutcome) (r : ℕ) (c : CallBook) → Fed st a b told → b.looks ≤ b.budget → IsCarried (carried_at st a.in_flight) c.sent a.code a.input → c.begun ≡ true → 0 < a.budget
-    → (carried_at st a.in_flight ≡ true → a.in_flight ≡ false → owns c.sent ≡ true) → After b (ask_ended told r b c).calls (done_after told (exchanges_of c.records) b)
+pub told_on : (st : AskStage) (a b : Ask) (told : Option AskOutcome) (r : ℕ) (c : CallsState) → Fed st a b told → b.looks ≤ b.budget
+    → IsCarried (carried_at st a.in_flight) c.sent a.code a.input → c.begun ≡ true → 0 < a.budget
+    → (carried_at st a.in_flight ≡ true → a.in_flight ≡ false → owns c.sent ≡ true)
+    → After b (ask_ended told r b c).calls (done_after told (exchanges_of c.records) b)
 told_on st a b None r c f left h begun least own = record {
   list = refl;
   carries = carry (carried_at st a.in_flight) (carried b) c.sent a.code b.code a.input b.input f.carried f.code f.input h;
@@ -122,7 +124,7 @@ told_on st a b (Some Posted) r c f left h begun least own = record {
 }
 told_on st a b (Some Clear) r c f left h begun least own = cleared (nat_eq b.looks b.budget) st a b c refl f left h begun
 told_on st a b (Some (Drained e)) r c f left h begun least own =
-    let l : Bool = is_late c.sent in let d : CallBook = record c { records = c.records ++ recorded c.sent e b.space r; sent = None } in
+    let l : Bool = is_given_up c.sent in let d : CallsState = drained e b.space (next_reading r c) (read_once c) in
     let k : IsCarried true c.sent b.code b.input = carry (carried_at st a.in_flight) true c.sent a.code b.code a.input b.input (sym f.sure.0) f.code f.input h in record {
       list = ap exchanges_of (late_records l d) ∙ drained_list c.sent c.records b e r k;
       carries = subst (λ (z : Bool × Option Sent). IsCarried z.0 z.1 b.code b.input) (λ i. (sym f.carried i, sym (late_sent l d) i)) refl;
@@ -132,11 +134,12 @@ told_on st a b (Some (Drained e)) r c f left h begun least own =
     }
 
 -- the memory for an executed command stays where it was
-clear_records : (last : Bool) (looks : ℕ) (c : CallBook) → (clear_ended last looks c).calls.records ≡ c.records
+clear_records : (last : Bool) (looks : ℕ) (c : CallsState) → (clear_ended last looks c).calls.records ≡ c.records
 clear_records true looks c = refl
 clear_records false looks c = refl
 
-taken_on : (st : AskStage) (a b : Ask) (told : Option AskOutcome) (r : ℕ) (c : CallBook) (n : ℕ) (ready : Bool) → Fed st a b told → (carried_at st a.in_flight ≡ true → n ≡ length c.records → ready ≡ true)
+taken_on : (st : AskStage) (a b : Ask) (told : Option AskOutcome) (r : ℕ) (c : CallsState) (n : ℕ) (ready : Bool) → Fed st a b told
+    → (carried_at st a.in_flight ≡ true → n ≡ length c.records → ready ≡ true)
     → carried b ≡ true → n ≡ length (ask_ended told r b c).calls.records → ready ≡ true
 taken_on st a b None r c n ready f h q e = h (sym f.carried ∙ q) e
 taken_on st a b (Some Posted) r c n ready f h q e = h f.sure.0 e
@@ -146,12 +149,6 @@ taken_on st a b (Some (Drained e)) r c n ready f h q e' = absurd (not_false (car
 left_most : (st : AskStage) (l b : ℕ) → LooksLeft st l b → l ≤ b
 left_most LookWord l b h = omega (arith, h)
 left_most _ l b h = h
-
-done_same : (told : Option AskOutcome) (done : List Exchange) (a : Ask) (n : ℕ) → done_after told done (record a { steps = n }) ≡ done_after told done a
-done_same None done a n = refl
-done_same (Some Posted) done a n = refl
-done_same (Some Clear) done a n = refl
-done_same (Some (Drained e)) done a n = refl
 
 -- ---- the state with the value that the step found
 
@@ -181,10 +178,11 @@ small Separate4 code fits = fits
 small Reduced5 code fits = fits
 
 module _ (exec : Device) (is_state : List ℕ → Type 0) (room_of : List ℕ → ℕ) where
-  pub step_holds : AskStepAgrees → (r v : ℕ) (s : PlainState) (ready : Bool) (room : ℕ) → v ≡ found (ask_next s.ask) s.words → v < 2 ^ 64 → s.ask.stage ≢ AskRest → Holds exec is_state room_of s ready room → Holds exec is_state room_of (stepped_with v r s) ready room
+  pub step_holds : AskStepAgrees → (r v : ℕ) (s : PlainState) (ready : Bool) (room : ℕ) → v ≡ found (ask_next s.ask) s.words → v < 2 ^ 64
+      → s.ask.stage ≢ AskRest → Holds exec is_state room_of s ready room → Holds exec is_state room_of (stepped_with v r s) ready room
   step_holds law r v s ready room e small runs h = let k = h.0 in let a : Ask = s.ask in let st : AskStage = a.stage in let ok = k.agree.1.2.ask_ok in let told : Option AskOutcome = ask_told a v in
       let z : Ask = ask_fed_at st a v in let b : Ask = ask_fed a v in let f : Fed st a b told = stepped st a z told b.steps (fed st a v (not_rest st runs) ok.flies) in
-      let x : Asker = asker_of s k.unkept in let y : Answerer = answerer_of s in let ws : List ℕ = act (ask_next a) s.words in let c : CallBook = (ask_ended told r b s.calls).calls in
+      let x : Asker = asker_of s k.unkept in let y : Answerer = answerer_of s in let ws : List ℕ = act (ask_next a) s.words in let c : CallsState = (ask_ended told r b s.calls).calls in
       let g = law exec s.start s.words x y v k.agree (subst (λ (n : ℕ). Finds (ask_next a) s.words n) (sym e) (finds_found (ask_next a) s.words)) small in
       let begun : s.calls.begun ≡ true = k.runs (not_rest st runs) in
       let t : After b c (done_after told (exchanges_of s.calls.records) b) = told_on st a b told r s.calls f (left_most b.stage b.looks b.budget g.1.2.ask_ok.looks) k.carries begun (begun_looks (both (is_rest st) a.in_flight) a.looks a.budget (k.looks begun)) k.own in (
@@ -223,7 +221,8 @@ module _ (exec : Device) (is_state : List ℕ → Type 0) (room_of : List ℕ �
       )
 
   -- what is asked of the calls where no run is under way
-  pub rest_holds : BudgetAgrees → (s : PlainState) (ready : Bool) (room : ℕ) (begins : Bool) (polls : ℕ) (c : CallBook) → s.ask.stage ≡ AskRest → c.records ≡ s.calls.records → c.sent ≡ s.calls.sent → (c.begun ≡ true → (begins ≡ true) × (0 < polls)) → Holds exec is_state room_of s ready room
+  pub rest_holds : BudgetAgrees → (s : PlainState) (ready : Bool) (room : ℕ) (begins : Bool) (polls : ℕ) (c : CallsState) → s.ask.stage ≡ AskRest
+      → c.records ≡ s.calls.records → c.sent ≡ s.calls.sent → (c.begun ≡ true → (begins ≡ true) × (0 < polls)) → Holds exec is_state room_of s ready room
       → Holds exec is_state room_of (record s { ask = budget_by begins polls s.ask; calls = c }) ready room
   rest_holds law s ready room true polls c rest rs sent begins h = let k = h.0 in let a : Ask = s.ask in (
     record {
@@ -259,8 +258,10 @@ module _ (exec : Device) (is_state : List ℕ → Type 0) (room_of : List ℕ �
   )
 
   -- a post begins, of a machine whose looks are counted
-  pub post_holds : PostBeginAgrees → (s : PlainState) (ready : Bool) (room : ℕ) (c : Asked) (r : ℕ) → s.ask.stage ≡ AskRest → s.ask.in_flight ≡ false → length c.bytes ≤ s.ask.wiring.room → s.ask.posts < 4096 → CodeFits (style_of s.ask.wiring) c.code → IsBytes c.bytes → 0 < s.ask.budget
-      → Holds exec is_state room_of s ready room → Holds exec is_state room_of (record s { ask = ask_begun s.ask c.code c.bytes; calls = call_posted c s.ask.space r (call_begun s.calls) }) true room
+  pub post_holds : PostBeginAgrees → (s : PlainState) (ready : Bool) (room : ℕ) (c : Asked) (r : ℕ) → s.ask.stage ≡ AskRest → s.ask.in_flight ≡ false
+      → length c.bytes ≤ s.ask.wiring.room → s.ask.posts < 4096 → CodeFits (style_of s.ask.wiring) c.code → IsBytes c.bytes → 0 < s.ask.budget
+      → Holds exec is_state room_of s ready room
+      → Holds exec is_state room_of (record s { ask = ask_begun s.ask c.code c.bytes; calls = call_posted c s.ask.space r (call_begun s.calls) }) true room
   post_holds law s ready room c r rest free fits posts code bytes least h = let k = h.0 in let a : Ask = s.ask in (
     record {
       unkept = record k.unkept { asked = k.unkept.asked ++ c.bytes ∷ [] };
@@ -278,7 +279,8 @@ module _ (exec : Device) (is_state : List ℕ → Type 0) (room_of : List ℕ �
 
 -- ---- in the words of the code
 
-flies_fed : (st : AskStage) (a b : Ask) (told : Option AskOutcome) (sent : Option Sent) (n : ℕ) → Fed st a b told → IsCarried (carried_at st a.in_flight) sent a.code a.input → length a.input ≡ n → length b.space ≡ n → FliesIf told sent (length b.space)
+flies_fed : (st : AskStage) (a b : Ask) (told : Option AskOutcome) (sent : Option Sent) (n : ℕ) → Fed st a b told
+    → IsCarried (carried_at st a.in_flight) sent a.code a.input → length a.input ≡ n → length b.space ≡ n → FliesIf told sent (length b.space)
 flies_fed st a b None sent n f h i o = tt
 flies_fed st a b (Some Posted) sent n f h i o = tt
 flies_fed st a b (Some Clear) sent n f h i o = tt
@@ -290,7 +292,8 @@ flies_fed st a b (Some (Drained e)) sent n f h i o = has (carried_at st a.in_fli
     has false sent q h = absurd (cc q)
 
 -- a slice of the whole list
-pub whole : (n : ℕ) (t : Action) (new now items : List ℕ) → new ≡ act t now → now ≡ items → n ≡ length items → take n (new ++ drop (length new) items) ≡ act t items
+pub whole : (n : ℕ) (t : Action) (new now items : List ℕ) → new ≡ act t now → now ≡ items → n ≡ length items
+    → take n (new ++ drop (length new) items) ≡ act t items
 whole n t new now items e q l = let same : new ≡ act t items = e ∙ ap (act t) q in let long : length new ≡ length items = ap (λ (x : List ℕ). length x) same ∙ long_act t items in
     ap (λ (k : ℕ). take n (new ++ drop k items)) long ∙ (ap (λ (x : List ℕ). take n (new ++ x)) (drop_all (length items) items (same_least (length items))) ∙ (ap (take n) (append-nil new) ∙ (take_all n new (below_long n (length new) (l ∙ sym long)) ∙ same)))
   where
@@ -301,7 +304,8 @@ whole n t new now items e q l = let same : new ≡ act t items = e ∙ ap (act t
     below_long n k e = omega (arith, e)
 
 module _ (exec : Device) (is_state : List ℕ → Type 0) (room_of : List ℕ → ℕ) where
-  pub told_flies : AskStepAgrees → (s : PlainState) (ready : Bool) (room : ℕ) (t : Action) (v : ℕ) (b : Ask) (told : Option AskOutcome) → t ≡ ask_next s.ask → v ≡ found t s.words → v < 2 ^ 64 → s.ask.stage ≢ AskRest → b ≡ ask_fed s.ask v → told ≡ ask_told s.ask v
+  pub told_flies : AskStepAgrees → (s : PlainState) (ready : Bool) (room : ℕ) (t : Action) (v : ℕ) (b : Ask) (told : Option AskOutcome) → t ≡ ask_next s.ask
+      → v ≡ found t s.words → v < 2 ^ 64 → s.ask.stage ≢ AskRest → b ≡ ask_fed s.ask v → told ≡ ask_told s.ask v
       → Holds exec is_state room_of s ready room → FliesIf told s.calls.sent (length b.space)
   told_flies law s ready room t v b told e q small runs fb ft h = let k = h.0 in let a : Ask = s.ask in let st : AskStage = a.stage in let z : Ask = ask_fed_at st a v in
       let f : Fed st a (ask_fed a v) (ask_told a v) = stepped st a z (ask_told a v) (ask_fed a v).steps (fed st a v (not_rest st runs) k.agree.1.2.ask_ok.flies) in
@@ -310,10 +314,13 @@ module _ (exec : Device) (is_state : List ℕ → Type 0) (room_of : List ℕ �
       let o : length (ask_fed a v).space ≡ a.wiring.room = g.1.2.ask_ok.sized.space ∙ ap (λ (w : Wiring). w.room) f.wiring in
       subst (λ (p : Option AskOutcome × Ask). FliesIf p.0 s.calls.sent (length p.1.space)) (λ i. (sym ft i, sym fb i)) (flies_fed st a (ask_fed a v) (ask_told a v) s.calls.sent a.wiring.room f k.carries i o)
 
-  pub told_holds : AskStepAgrees → (s : PlainState) (ready : Bool) (room r : ℕ) (t : Action) (v : ℕ) (b : Ask) (told : Option AskOutcome) (ws : List ℕ) (d : Ended) → t ≡ ask_next s.ask → v ≡ found t s.words → v < 2 ^ 64 → s.ask.stage ≢ AskRest → b ≡ ask_fed s.ask v → told ≡ ask_told s.ask v
-      → ws ≡ act t s.words → d ≡ ask_ended told r b s.calls → Holds exec is_state room_of s ready room → Holds exec is_state room_of (record s { words = ws; ask = b; calls = d.calls }) ready room
+  pub told_holds : AskStepAgrees
+      → (s : PlainState) (ready : Bool) (room r : ℕ) (t : Action) (v : ℕ) (b : Ask) (told : Option AskOutcome) (ws : List ℕ) (d : Ended) → t ≡ ask_next s.ask
+      → v ≡ found t s.words → v < 2 ^ 64 → s.ask.stage ≢ AskRest → b ≡ ask_fed s.ask v → told ≡ ask_told s.ask v
+      → ws ≡ act t s.words → d ≡ ask_ended told r b s.calls → Holds exec is_state room_of s ready room
+      → Holds exec is_state room_of (record s { words = ws; ask = b; calls = d.calls }) ready room
   told_holds law s ready room r t v b told ws d e q small runs fb ft w c h =
-      let l : (record s { words = ws; ask = b; calls = d.calls }) ≡ stepped_with v r s = ap (λ (p : List ℕ × Ask × CallBook). record s { words = p.0; ask = p.1; calls = p.2 }) (λ i. ((w ∙ ap (λ (t : Action). act t s.words) e) i, fb i, (ap (λ (d : Ended). d.calls) c ∙ ap (λ (p : Option AskOutcome × Ask). (ask_ended p.0 r p.1 s.calls).calls) (λ i. (ft i, fb i))) i)) in
+      let l : (record s { words = ws; ask = b; calls = d.calls }) ≡ stepped_with v r s = ap (λ (p : List ℕ × Ask × CallsState). record s { words = p.0; ask = p.1; calls = p.2 }) (λ i. ((w ∙ ap (λ (t : Action). act t s.words) e) i, fb i, (ap (λ (d : Ended). d.calls) c ∙ ap (λ (p : Option AskOutcome × Ask). (ask_ended p.0 r p.1 s.calls).calls) (λ i. (ft i, fb i))) i)) in
       subst (λ (s' : PlainState). Holds exec is_state room_of s' ready room) (sym l) (step_holds exec is_state room_of law r v s ready room (q ∙ ap (λ (t : Action). found t s.words) e) small runs h)
 
   -- the memory for one more command is taken
@@ -321,7 +328,10 @@ module _ (exec : Device) (is_state : List ℕ → Type 0) (room_of : List ℕ �
   ready_more s ready room h = (h.0, record { fits = h.1.fits; taken = λ q n. refl })
 
   -- a post begins, whether the call begins with it or was begun before
-  pub posted_holds : BudgetAgrees → PostBeginAgrees → (begins : Bool) (polls : ℕ) (s : PlainState) (ready : Bool) (room : ℕ) (c : Asked) (r : ℕ) → s.ask.stage ≡ AskRest → s.ask.in_flight ≡ false → length c.bytes ≤ s.ask.wiring.room → s.ask.posts < 4096 → CodeFits (style_of s.ask.wiring) c.code → IsBytes c.bytes → 0 < (budget_by begins polls s.ask).budget
-      → Holds exec is_state room_of s ready room → Holds exec is_state room_of (record s { ask = ask_begun (budget_by begins polls s.ask) c.code c.bytes; calls = call_posted c s.ask.space r (call_begun s.calls) }) true room
+  pub posted_holds : BudgetAgrees → PostBeginAgrees → (begins : Bool) (polls : ℕ) (s : PlainState) (ready : Bool) (room : ℕ) (c : Asked) (r : ℕ)
+      → s.ask.stage ≡ AskRest → s.ask.in_flight ≡ false → length c.bytes ≤ s.ask.wiring.room → s.ask.posts < 4096 → CodeFits (style_of s.ask.wiring) c.code
+      → IsBytes c.bytes → 0 < (budget_by begins polls s.ask).budget
+      → Holds exec is_state room_of s ready room
+      → Holds exec is_state room_of (record s { ask = ask_begun (budget_by begins polls s.ask) c.code c.bytes; calls = call_posted c s.ask.space r (call_begun s.calls) }) true room
   posted_holds law law' true polls s ready room c r rest free fits posts code bytes least h = post_holds exec is_state room_of law' (record s { ask = ask_budgeted s.ask polls }) ready room c r rest free fits posts code bytes least (rest_holds exec is_state room_of law s ready room true polls s.calls rest refl refl (λ e. (refl, least)) h)
   posted_holds law law' false polls s ready room c r rest free fits posts code bytes least h = post_holds exec is_state room_of law' s ready room c r rest free fits posts code bytes least h

@@ -1,4 +1,6 @@
-pub mod AskFed
+pub mod Bools
+pub mod Readied
+pub mod Blocks
 pub mod Keeps
 pub mod AnswerHolds
 pub mod Posts

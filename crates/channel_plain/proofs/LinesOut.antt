@@ -17,5 +17,6 @@ text_more (m ∷ ls) l = ap (λ (t : List ℕ). trace_line_text m ++ t) (text_mo
 pub none_written : (first now : List ℕ) → now ≡ first → now ≡ first ++ trace_text []
 none_written first now e = e ∙ sym (append-nil first)
 
-pub one_written : (first now new : List ℕ) (lines : List TraceLine) (l : TraceLine) → now ≡ first ++ trace_text lines → new ≡ now ++ trace_line_text l → new ≡ first ++ trace_text (lines ++ l ∷ [])
+pub one_written : (first now new : List ℕ) (lines : List TraceLine) (l : TraceLine) → now ≡ first ++ trace_text lines → new ≡ now ++ trace_line_text l
+    → new ≡ first ++ trace_text (lines ++ l ∷ [])
 one_written first now new lines l e q = q ∙ ap (λ (x : List ℕ). x ++ trace_line_text l) e ∙ append_assoc first (trace_text lines) (trace_line_text l) ∙ ap (λ (x : List ℕ). first ++ x) (sym (text_more lines l))

@@ -6,18 +6,20 @@ use Rattle.pcc_history.specs.Channel.{Exchange, over}
 use Rattle.pcc_history.specs.Devices.{Device, bank_exec}
 use Rattle.rate_limit.specs.declared.Limits.{Limits}
 use Rattle.pcc_journal.specs.declared.record.Record.{Record}
-use Rattle.shmem_header.specs.Spelling.{words_of}
+use Rattle.shmem_header.specs.Spelling.{word_bytes, word_of, words_of}
+use Rattle.pcc_steps.specs.Wires.{opening_header, style_of}
 use Rattle.pcc_steps.specs.declared.wiring.Wiring.{Wiring}
 use Rattle.pcc_steps.specs.declared.wiring.Action.{Action}
 use Rattle.pcc_steps.specs.declared.wiring.Action.TheVariants.{Load, Store, Swap, Rest}
 use Rattle.pcc_steps.specs.Runs.{Run, ends, loads, stores, swaps, executes, AskEnd, posts, sees_clear, drains, AnswerEnd, finds_none, serves, look_run, post_run}
-use Rattle.channel_plain.specs.declared.sent.Sent.{Sent}
+use Rattle.channel_core.specs.declared.sent.Sent.{Sent}
 use Rattle.channel_plain.specs.declared.trace.Asked.{Asked}
 use Rattle.channel_plain.specs.declared.trace.TraceEnd.{TraceEnd}
 use Rattle.channel_plain.specs.declared.trace.TraceEnd.TheVariants as end
 use Rattle.channel_plain.specs.declared.trace.TraceLine.{TraceLine}
-use Rattle.channel_plain.specs.WordRuns.{Answered, Answers, AnswerWalks, Calls, Cut, IsAnswering, IsAsking, IsRun, IsUnfinished, Serves, Turn, Turns, Walks, answer_from, answer_on, answered_end, begins, delays, gives_up, goes_on, idles, looking, looks_on, next_of, posts_call, refuses, rest_of, sending, sends, takes, unanswered, whole}
+use Rattle.channel_plain.specs.WordRuns.{Answered, Answers, AnswerWalks, Calls, Cut, IsAnswering, IsAsking, IsRun, IsUnfinished, Serves, Turn, Turns, Walks, answer_from, answer_on, answered_end, begins, delays, from_opening, gives_up, goes_on, idles, looking, looks_on, next_of, posts_call, refuses, replied, rest_of, sending, sends, takes, unanswered, whole}
 use Rattle.channel_plain.specs.WordRuns.{none, more}
+use Rattle.channel_core.specs.Sendings.{is_late}
 use Rattle.channel_plain.specs.Picks.{drained_end, given_up_end}
 use Rattle.channel_plain.specs.declared.trace.Side.TheVariants.{System, Platform}
 use Rattle.channel_plain.specs.WorkedPicks.{line, no_bytes, swap_call, wired}
@@ -58,10 +60,11 @@ module _ (w : Wiring) (limits : Limits) (calls : List Asked) where
   says s t ms ls l e (delays _ s' c r m sv free lt rests) act opened = let q = last_same [] ls m l e in act (ap (λ (l : TraceLine). l.action) (sym q) ∙ rests.0)
   says s t ms ls l e (sends _ s' c r ns m sv free le run is) act opened = let q = last_same ns ls m l e in let n : end.Posted ≡ end.Open = sym is ∙ (ap (λ (l : TraceLine). l.end) q ∙ opened) in absurd (cc n)
   says s t ms ls l e (looks_on _ s' c p ns m sv es lt run is) act opened = let q = last_same ns ls m l e in let n : end.Clear (s'.looks + 1) ≡ end.Open = sym is ∙ (ap (λ (l : TraceLine). l.end) q ∙ opened) in absurd (cc n)
-  says s t ms ls l e (gives_up _ s' c p ns m sv es lt run is) act opened = let q = last_same ns ls m l e in given_up_says p.late c.polls (sym is ∙ (ap (λ (l : TraceLine). l.end) q ∙ opened))
-  says s t ms ls l e (takes _ s' c p r error block ns m sv es run is) act opened = let q = last_same ns ls m l e in drained_says p.late error (sym is ∙ (ap (λ (l : TraceLine). l.end) q ∙ opened))
+  says s t ms ls l e (gives_up _ s' c p ns m sv es lt run is) act opened = let q = last_same ns ls m l e in given_up_says (is_late p) c.polls (sym is ∙ (ap (λ (l : TraceLine). l.end) q ∙ opened))
+  says s t ms ls l e (takes _ s' c p r error block ns m sv es run is) act opened = let q = last_same ns ls m l e in drained_says (is_late p) error (sym is ∙ (ap (λ (l : TraceLine). l.end) q ∙ opened))
 
-pub asks_say : (w : Wiring) (limits : Limits) (calls : List Asked) (s t : Calls) (ls : List TraceLine) (l : TraceLine) → Turn w limits calls s (ls ++ l ∷ []) t → l.action ≢ Rest → l.end ≢ end.Open
+pub asks_say : (w : Wiring) (limits : Limits) (calls : List Asked) (s t : Calls) (ls : List TraceLine) (l : TraceLine)
+    → Turn w limits calls s (ls ++ l ∷ []) t → l.action ≢ Rest → l.end ≢ end.Open
 asks_say w limits calls s t ls l h = says w limits calls s t (ls ++ l ∷ []) ls l refl h
 
 -- ---- whole runs
@@ -70,16 +73,19 @@ ends_there : (run rest : Run AskEnd) (ls : List TraceLine) (l : TraceLine) (e : 
 ends_there run rest [] l e h w = sym h.ends ∙ (ap (λ (r : Run AskEnd). rest_of r l.value) (sym h.walks) ∙ w.2)
 ends_there run rest (m ∷ ms) l e h w = ends_there (rest_of run m.value) rest ms l e (record { rest = h.rest; walks = h.walks.2; last = h.last; ends = h.ends }) w.2
 
-pub not_cut : (run rest : Run AskEnd) (ls : List TraceLine) (l : TraceLine) (e : AskEnd) → IsRun run ls l e → Walks run (ls ++ l ∷ []) rest → IsUnfinished rest → ⊥
+pub not_cut : (run rest : Run AskEnd) (ls : List TraceLine) (l : TraceLine) (e : AskEnd) → IsRun run ls l e → Walks run (ls ++ l ∷ []) rest
+    → IsUnfinished rest → ⊥
 not_cut run rest ls l e h w u = none_left e rest (ends_there run rest ls l e h w) u
 
 module _ (exec : Device) (w : Wiring) where
-  answer_there : (a b c : Answered) (ls : List TraceLine) (l : TraceLine) → AnswerWalks exec w a ls b → AnswerWalks exec w a (ls ++ l ∷ []) c → answer_on exec w b l.value ≡ c
+  answer_there : (a b c : Answered) (ls : List TraceLine) (l : TraceLine) → AnswerWalks exec w a ls b → AnswerWalks exec w a (ls ++ l ∷ []) c
+      → answer_on exec w b l.value ≡ c
   answer_there a b c [] l h g = ap (λ (x : Answered). answer_on exec w x l.value) (sym h) ∙ g.2
   answer_there a b c (m ∷ ms) l h g = answer_there (answer_on exec w a m.value) b c ms l h.2 g.2
 
 pub answer_not_cut : (exec : Device) (w : Wiring) (a b c : Answered) (ls : List TraceLine) (l : TraceLine) (e : AnswerEnd)
-    → AnswerWalks exec w a ls b → next_of b.run ≡ Some l.action → (answer_on exec w b l.value).run ≡ ends e → AnswerWalks exec w a (ls ++ l ∷ []) c → IsUnfinished c.run → ⊥
+    → AnswerWalks exec w a ls b → next_of b.run ≡ Some l.action → (answer_on exec w b l.value).run ≡ ends e → AnswerWalks exec w a (ls ++ l ∷ []) c
+    → IsUnfinished c.run → ⊥
 answer_not_cut exec w a b c ls l e h n q g u = none_left_a e c.run (sym q ∙ ap (λ (x : Answered). x.run) (answer_there exec w a b c ls l h g)) u
 
 -- ---- lines without an end
@@ -208,8 +214,8 @@ module _ (w : Wiring) (limits : Limits) (calls : List Asked) where
   turn_stops s t ms (delays _ s' c r m sv free lt rests) = ([], m, refl, no_step m rests.0)
   turn_stops s t ms' (sends _ s' c r ns m sv free le run is) = (ns, m, refl, has_end m end.Posted is refl)
   turn_stops s t ms' (looks_on _ s' c p ns m sv es lt run is) = (ns, m, refl, has_end m (end.Clear (s'.looks + 1)) is refl)
-  turn_stops s t ms' (gives_up _ s' c p ns m sv es lt run is) = (ns, m, refl, has_end m (given_up_end p.late c.polls) is (given_up_ends p.late c.polls))
-  turn_stops s t ms' (takes _ s' c p r error block ns m sv es run is) = (ns, m, refl, has_end m (drained_end p.late error) is (drained_ends p.late error))
+  turn_stops s t ms' (gives_up _ s' c p ns m sv es lt run is) = (ns, m, refl, has_end m (given_up_end (is_late p) c.polls) is (given_up_ends (is_late p) c.polls))
+  turn_stops s t ms' (takes _ s' c p r error block ns m sv es run is) = (ns, m, refl, has_end m (drained_end (is_late p) error) is (drained_ends (is_late p) error))
 
   turns_stop : (x y : Calls) (ls : List TraceLine) → Turns w limits calls x ls y → StopsWell ls
   turns_stop x y ls none = inl refl
@@ -226,28 +232,26 @@ module _ (w : Wiring) (limits : Limits) (calls : List Asked) where
 
   cut_mid : (x : Calls) (ls : List TraceLine) (rs : List ℕ) → Cut w limits calls x ls rs → all_mid ls ≡ true
   cut_mid x ls rs (whole _) = refl
-  cut_mid x ls rs (sending _ s' c r l ms rest sv free le walks left) = walks_mid (posts_call w c s'.space) rest (l ∷ ms) walks
+  cut_mid x ls rs (sending _ s' c r l ms rest sv free le walks left) = walks_mid (posts_call w c s'.block) rest (l ∷ ms) walks
   cut_mid x ls rs (looking _ s' c p l ms rest sv es walks left) = walks_mid (look_run w) rest (l ∷ ms) walks
 
-  abbrev at_first : List ℕ → Calls
-  at_first opening = record { ended = 0; begun = false; looks = 0; sent = None; space = opening; records = []; readings = [] }
-
-  served_sent : (x y : Calls) (c : Asked) → Serves w limits calls x c y → (y.sent ≡ x.sent) × (y.space ≡ x.space) × (slice_get calls x.ended ≡ Some c)
+  served_sent : (x y : Calls) (c : Asked) → Serves w limits calls x c y → (y.sent ≡ x.sent) × (y.block ≡ x.block) × (slice_get calls x.ended ≡ Some c)
   served_sent x y c (goes_on _ _ b at) = (refl, refl, at)
   served_sent x y c (begins _ _ b at free) = (refl, refl, at)
 
   module _ (opening : List ℕ) (lines : List TraceLine) (readings : List ℕ) (records : List Record) (sent : Option Sent) where
-    -- the run that is cut is what stands after the last end
-    cut_tail : IsAsking w limits calls opening lines readings records sent → (x : Calls) × (rs : List ℕ) × Cut w limits calls x (open_tail lines) rs × (all_mid lines ≡ true → x ≡ at_first opening)
+    -- the run that is cut is what is left after the last end
+    cut_tail : IsAsking w limits calls opening lines readings records sent
+        → (x : Calls) × (rs : List ℕ) × Cut w limits calls x (open_tail lines) rs × (all_mid lines ≡ true → x ≡ from_opening w limits calls opening)
     cut_tail a = (
       a.after,
       a.taken,
       subst (λ (ls : List TraceLine). Cut w limits calls a.after ls a.taken) (sym (tail_of a.past a.last stops (cut_mid a.after a.last a.taken a.cut)) ∙ ap open_tail (sym a.all)) a.cut,
-      λ e. sym (none_ended (at_first opening) a.after a.past a.runs (not_mid a.past stops (front_mid a.past a.last (ap all_mid (sym a.all) ∙ e)))),
+      λ e. sym (none_ended (from_opening w limits calls opening) a.after a.past a.runs (not_mid a.past stops (front_mid a.past a.last (ap all_mid (sym a.all) ∙ e)))),
     )
       where
         stops : StopsWell a.past
-        stops = turns_stop (at_first opening) a.after a.past a.runs
+        stops = turns_stop (from_opening w limits calls opening) a.after a.past a.runs
 
 module _ (exec : Device) (w : Wiring) (start : List ℕ) where
   answers_stop : (ls : List TraceLine) (d : List ℕ) (es : List Exchange) → Answers exec w start ls d es → StopsWell ls
@@ -292,23 +296,29 @@ stores_first code (b ∷ bs) e = cc
 abbrev five : List TraceLine
 five = line System (Store 8 513) 0 end.Open ∷ line System (Store 0 70066062080) 0 end.Open ∷ line System (Load 1) 0 end.Open ∷ line System (Store 1 1) 0 end.Open ∷ line System (Store 2 1) 0 end.Open ∷ []
 
-posted_off : (x : Calls) (ls : List TraceLine) (rs : List ℕ) → Cut w0 free_limits one_call x ls rs → ls ≡ five → x ≡ at_first w0 free_limits one_call no_bytes → ⊥
+abbrev first_block : List ℕ
+first_block = opening_header (style_of w0) w0 ++ words_of no_bytes
+
+posted_walk : (rest : Run AskEnd) → Walks (posts_call w0 (swap_call 0 (1 ∷ 2 ∷ []) 3) first_block) five rest → ends posts ≡ rest
+unfolding word_bytes word_of
+posted_walk rest h = h.2.2.2.2.2
+
+posted_off : (x : Calls) (ls : List TraceLine) (rs : List ℕ) → Cut w0 free_limits one_call x ls rs → ls ≡ five
+    → x ≡ from_opening w0 free_limits one_call no_bytes → ⊥
 posted_off x ls rs (whole _) e q = cc
 posted_off x ls rs (sending _ s' c r l ms rest sv free le walks left) e q = let h = served_sent w0 free_limits one_call x s' c sv in
     let at : c ≡ swap_call 0 (1 ∷ 2 ∷ []) 3 = sym (some_same (swap_call 0 (1 ∷ 2 ∷ []) 3) c (ap (λ (x : Calls). slice_get one_call x.ended) (sym q) ∙ h.2)) in
-    let space : s'.space ≡ no_bytes = h.1 ∙ ap (λ (x : Calls). x.space) q in
-    none_left posts rest (posted_walk rest (subst (λ (z : Asked × List ℕ × List TraceLine). Walks (posts_call w0 z.0 z.1) z.2 rest) (λ i. (at i, space i, e i)) walks)) left
-  where
-    posted_walk : (rest : Run AskEnd) → Walks (posts_call w0 (swap_call 0 (1 ∷ 2 ∷ []) 3) no_bytes) five rest → ends posts ≡ rest
-    posted_walk rest h = h.2.2.2.2.2
+    let block : s'.block ≡ first_block = h.1 ∙ ap (λ (x : Calls). x.block) q in
+    none_left posts rest (posted_walk rest (subst (λ (z : Asked × List ℕ × List TraceLine). Walks (posts_call w0 z.0 z.1) z.2 rest) (λ i. (at i, block i, e i)) walks)) left
 posted_off x ls rs (looking _ s' c p l ms rest sv es walks left) e q = let h = served_sent w0 free_limits one_call x s' c sv in
     let n : Some p ≡ None = sym es ∙ (h.0 ∙ ap (λ (x : Calls). x.sent) q) in absurd (cc n)
 
 -- the steps of a look
-look_off : (x : Calls) (ls : List TraceLine) (rs : List ℕ) (m : TraceLine) (ns : List TraceLine) (e : AskEnd) → m.action ≡ Load 0 → ((rest : Run AskEnd) → Walks (look_run w0) (m ∷ ns) rest → ends e ≡ rest) → Cut w0 free_limits one_call x ls rs → ls ≡ m ∷ ns → ⊥
+look_off : (x : Calls) (ls : List TraceLine) (rs : List ℕ) (m : TraceLine) (ns : List TraceLine) (e : AskEnd) → m.action ≡ Load 0
+    → ((rest : Run AskEnd) → Walks (look_run w0) (m ∷ ns) rest → ends e ≡ rest) → Cut w0 free_limits one_call x ls rs → ls ≡ m ∷ ns → ⊥
 look_off x ls rs m ns k act done (whole _) e = cc
-look_off x ls rs m ns k act done (sending _ s' c r l ms rest sv free le walks left) e = let h : Walks (posts_call w0 c s'.space) (m ∷ ns) rest = subst (λ (z : List TraceLine). Walks (posts_call w0 c s'.space) z rest) e walks in
-    stores_first c.code (words_of (over s'.space c.bytes)) (h.0 ∙ ap Some act)
+look_off x ls rs m ns k act done (sending _ s' c r l ms rest sv free le walks left) e = let h : Walks (posts_call w0 c s'.block) (m ∷ ns) rest = subst (λ (z : List TraceLine). Walks (posts_call w0 c s'.block) z rest) e walks in
+    stores_first c.code (words_of (over (replied w0 s'.block) c.bytes)) (h.0 ∙ ap Some act)
 look_off x ls rs m ns k act done (looking _ s' c p l ms rest sv es walks left) e = none_left k rest (done rest (subst (λ (z : List TraceLine). Walks (look_run w0) z rest) e walks)) left
 
 abbrev seen_clear : TraceLine

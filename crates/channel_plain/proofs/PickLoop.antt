@@ -18,8 +18,11 @@ module _ {K : Type 0} (taken : K → ℕ) (tells : K → ℕ → Option ℕ) (ex
       idle b t f = cc
 
   -- one pick more
-  pub follows_more : (s : Clocked K) (sides : List Side) (i : ℕ) (trace : List TraceLine) (t t' : Clocked K) (side : Side) (line : TraceLine) → i < length sides → side ≡ get_or sides i side → Stands exec is_state room_of t.channel → Stands exec is_state room_of t'.channel
-      → PicksOnce taken tells exec calls side t.channel t.clock t'.channel t'.clock line → IsServing calls t'.channel → Follows taken tells exec calls is_state room_of (take i sides) s trace t → Follows taken tells exec calls is_state room_of (take (i + 1) sides) s (trace ++ line ∷ []) t'
+  pub follows_more : (s : Clocked K) (sides : List Side) (i : ℕ) (trace : List TraceLine) (t t' : Clocked K) (side : Side) (line : TraceLine)
+      → i < length sides → side ≡ get_or sides i side → Stands exec is_state room_of t.channel → Stands exec is_state room_of t'.channel
+      → PicksOnce taken tells exec calls side t.channel t.clock t'.channel t'.clock line → IsServing calls t'.channel
+      → Follows taken tells exec calls is_state room_of (take i sides) s trace t
+      → Follows taken tells exec calls is_state room_of (take (i + 1) sides) s (trace ++ line ∷ []) t'
   follows_more s sides i trace t t' side line lt is stands stands' p serving w = let r : ℕ = p.0 in let q : Picked = picked exec calls side r t.channel in
       let next : take i sides ++ side ∷ [] ≡ take (i + 1) sides = ap (λ (x : Side). take i sides ++ x ∷ []) is ∙ sym (take_more sides i side lt) in
       record {
@@ -39,10 +42,14 @@ module _ {K : Type 0} (taken : K → ℕ) (tells : K → ℕ → Option ℕ) (ex
     pub loops_start : (s : Clocked K) (sides : List Side) (entry : O) → IsFresh s.channel → Loops s sides 0 entry entry s
     loops_start s sides entry new = record { trace = []; follows = fresh_follows s new; went = λ first h. h }
 
-    pub loops_more : (s : Clocked K) (sides : List Side) (i : ℕ) (entry out out' : O) (t t' : Clocked K) (side : Side) (line : TraceLine) → i < length sides → side ≡ get_or sides i side → Stands exec is_state room_of t.channel → Stands exec is_state room_of t'.channel
-        → PicksOnce taken tells exec calls side t.channel t.clock t'.channel t'.clock line → IsServing calls t'.channel → ((first : O) (lines : List TraceLine) → takes first lines out → takes first (lines ++ line ∷ []) out') → Loops s sides i entry out t → Loops s sides (i + 1) entry out' t'
+    pub loops_more : (s : Clocked K) (sides : List Side) (i : ℕ) (entry out out' : O) (t t' : Clocked K) (side : Side) (line : TraceLine) → i < length sides
+        → side ≡ get_or sides i side → Stands exec is_state room_of t.channel → Stands exec is_state room_of t'.channel
+        → PicksOnce taken tells exec calls side t.channel t.clock t'.channel t'.clock line → IsServing calls t'.channel
+        → ((first : O) (lines : List TraceLine) → takes first lines out → takes first (lines ++ line ∷ []) out') → Loops s sides i entry out t
+        → Loops s sides (i + 1) entry out' t'
     loops_more s sides i entry out out' t t' side line lt is stands stands' p serving add h = record { trace = h.trace ++ line ∷ []; follows = follows_more s sides i h.trace t t' side line lt is stands stands' p serving h.follows; went = λ first e. add first h.trace (h.went first e) }
 
-    pub loops_end : (s : Clocked K) (sides : List Side) (i : ℕ) (first entry out : O) (t : Clocked K) → length sides ≤ i → takes first [] entry → Loops s sides i entry out t
+    pub loops_end : (s : Clocked K) (sides : List Side) (i : ℕ) (first entry out : O) (t : Clocked K) → length sides ≤ i → takes first [] entry
+        → Loops s sides i entry out t
         → (n : ℕ) × (trace : List TraceLine) × Follows taken tells exec calls is_state room_of (take n sides) s trace t × ((take n sides ≡ sides) × takes first trace out)
     loops_end s sides i first entry out t le e h = (i, h.trace, h.follows, (take_all i sides le, h.went first e))

@@ -16,7 +16,8 @@ few_more true r = omega arith
 few_more false r = omega arith
 
 module _ {K : Type 0} (taken : K → ℕ) (tells : K → ℕ → Option ℕ) (exec : Device) (calls : List Asked) (is_state : List ℕ → Type 0) (room_of : List ℕ → ℕ) where
-  pub stays : (s : PlainState) (k : K) (sides : List Side) (trace : List TraceLine) (rs : List ℕ) (t : PlainState) (m : K) → Wove taken tells exec calls is_state room_of s k sides trace rs t m → Stays s t
+  pub stays : (s : PlainState) (k : K) (sides : List Side) (trace : List TraceLine) (rs : List ℕ) (t : PlainState) (m : K)
+      → Wove taken tells exec calls is_state room_of s k sides trace rs t m → Stays s t
   stays s k sides trace rs t m unpicked = record { wiring = refl; limits = refl; start = refl }
   stays s k sides trace rs t m (picks before ls qs u n n' side r w stands after serving takes) =
       let h = stays s k before ls qs u n w in
@@ -24,7 +25,8 @@ module _ {K : Type 0} (taken : K → ℕ) (tells : K → ℕ → Option ℕ) (ex
       record { wiring = q.wiring ∙ h.wiring; limits = q.limits ∙ h.limits; start = q.start ∙ h.start }
 
   -- a pick takes one reading at most
-  pub few_readings : (s : PlainState) (k : K) (sides : List Side) (trace : List TraceLine) (rs : List ℕ) (t : PlainState) (m : K) → Wove taken tells exec calls is_state room_of s k sides trace rs t m → length rs ≤ length sides
+  pub few_readings : (s : PlainState) (k : K) (sides : List Side) (trace : List TraceLine) (rs : List ℕ) (t : PlainState) (m : K)
+      → Wove taken tells exec calls is_state room_of s k sides trace rs t m → length rs ≤ length sides
   few_readings s k sides trace rs t m unpicked = omega arith
   few_readings s k sides trace rs t m (picks before ls qs u n n' side r w stands after serving takes) =
       let h = few_readings s k before ls qs u n w in

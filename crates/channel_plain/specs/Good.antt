@@ -6,7 +6,7 @@ use Rattle.pcc_history.specs.Histories.{Legal}
 use Rattle.rate_limit.specs.RateLimits.{WithinLimits}
 use Rattle.pcc_journal.specs.Records.{exchanges_of, exchanges_of_commands, times_of}
 use Rattle.channel_plain.specs.Picks.{PlainState}
-use Rattle.channel_plain.specs.Holding.{post_of}
+use Rattle.channel_core.specs.Sendings.{post_of}
 
 -- The records are a legal history of the device from its start, and so are the executed commands, which are those of the records or one more;
 -- the posts keep the limits, that of a command that is posted or in flight included.

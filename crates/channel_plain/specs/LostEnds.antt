@@ -7,7 +7,7 @@ use Rattle.pcc_journal.specs.declared.record.Record.{Record}
 use Rattle.pcc_steps.specs.declared.wiring.Wiring.{Wiring}
 use Rattle.pcc_steps.specs.declared.wiring.Action.TheVariants.{Load, Store, Swap, Rest}
 use Rattle.pcc_steps.specs.Runs.{Run, ends, AskEnd, AnswerEnd}
-use Rattle.channel_plain.specs.declared.sent.Sent.{Sent}
+use Rattle.channel_core.specs.declared.sent.Sent.{Sent}
 use Rattle.channel_plain.specs.declared.trace.Side.{Side}
 use Rattle.channel_plain.specs.declared.trace.Side.TheVariants.{System, Platform}
 use Rattle.channel_plain.specs.declared.trace.Asked.{Asked}
@@ -33,7 +33,7 @@ AnswerIsNotCut = (exec : Device) (w : Wiring) (a b c : Answered) (ls : List Trac
 
 -- ---- traces, made by hand
 
--- a trace that comes of no picks, whatever readings, records, command in flight and executed commands are said to come of it
+-- a trace of no picks, whatever readings, records, command in flight and executed commands it is said to leave
 abbrev pub IsRefused : List Asked → List Side → List TraceLine → Type 0
 IsRefused calls picks trace = (readings : List ℕ) (records : List Record) (sent : Option Sent) (executed : List Exchange)
     → WordRun bank_exec (wired 0 false false) (record { turnaround = 0; per_minute = 0 }) (0 ∷ no_bytes) no_bytes

@@ -1,10 +1,9 @@
 -- A channel on a plain list of words, and what a pick of one of its ends makes of it.
-use Rattle.std.specs.Prelude.{◌&&◌, nat_lt, ◌==◌, ℕ, ◌+◌, ltb, Bool, true, false, if◌then◌else◌, List, [], ◌∷◌, ◌++◌, length, map, Option, Some, None}
+use Rattle.std.specs.Prelude.{◌&&◌, nat_lt, ◌==◌, ℕ, ◌+◌, not, Bool, true, false, List, [], ◌∷◌, ◌++◌, length, map, Option, Some, None}
 use Rattle.std.specs.List.{slice_get}
 use Rattle.pcc_history.specs.Devices.{Device}
-use Rattle.pcc_history.specs.Channel.{over}
 use Rattle.rate_limit.specs.declared.Limits.{Limits}
-use Rattle.rate_limit.specs.RateLimits.{earliest_of}
+use Rattle.pcc_journal.specs.declared.note.Note.{Note}
 use Rattle.pcc_journal.specs.declared.record.Record.{Record}
 use Rattle.pcc_journal.specs.declared.record.Pending.{Pending}
 use Rattle.pcc_journal.specs.declared.command.Command.{Command}
@@ -23,12 +22,16 @@ use Rattle.pcc_steps.specs.declared.answer.AnswerOutcome.TheVariants.{Idle, Serv
 use Rattle.pcc_steps.specs.Asking.{Ask, ask_next, ask_fed, ask_told, ask_begun, ask_looking, ask_budgeted}
 use Rattle.pcc_steps.specs.Answering.{Answer, answer_next, answer_told, answer_begun}
 use Rattle.pcc_steps.specs.Agree.{act, Answerer, answerer_fed, flying, found}
+use Rattle.pcc_steps.specs.Kinds.{is_responder}
 use Rattle.channel_core.specs.declared.answers.CallRefusal.{CallRefusal}
 use Rattle.channel_core.specs.declared.answers.CallRefusal.TheVariants as refusal
 use Rattle.channel_core.specs.declared.refusals.TheConstants.{GREATEST_CODE}
-use Rattle.channel_core.specs.Refusals.{has_byte_codes, refusal_of as call_refusal}
+use Rattle.channel_core.specs.Refusals.{has_byte_codes, refusal_of as call_refusal, soon_of}
+use Rattle.channel_core.specs.Readings.{counted}
+use Rattle.channel_core.specs.Sendings.{command_of, given_up_after, is_given_up, note_of, record_of, sent_at}
+use Rattle.channel_core.specs.declared.caller.Reading.{Reading}
+use Rattle.channel_core.specs.declared.sent.Sent.{Sent}
 use Rattle.channel_core.specs.Executions.{command_by}
-use Rattle.channel_plain.specs.declared.sent.Sent.{Sent}
 use Rattle.channel_plain.specs.declared.trace.Side.{Side}
 use Rattle.channel_plain.specs.declared.trace.Side.TheVariants.{System, Platform}
 use Rattle.channel_plain.specs.declared.trace.Asked.{Asked}
@@ -37,12 +40,16 @@ use Rattle.channel_plain.specs.declared.trace.TraceEnd.TheVariants as end
 use Rattle.channel_plain.specs.declared.trace.TraceLine.{TraceLine}
 
 -- the calls, and what came of their commands
-pub record CallBook : Type 0 where
+pub record CallsState : Type 0 where
   pub limits : Limits
   pub records : List Record
+  -- beside each record
+  pub notes : List Note
   -- the command that is posted or in flight
   pub sent : Option Sent
-  -- the calls that have ended, and whether the one behind them is begun
+  -- how many readings were taken
+  pub readings : ℕ
+  -- the calls that have ended, and whether the one after them is begun
   pub ended : ℕ
   pub begun : Bool
 
@@ -53,7 +60,7 @@ pub record PlainState : Type 0 where
   pub answer : Answer
   pub device : List ℕ
   pub start : List ℕ
-  pub calls : CallBook
+  pub calls : CallsState
   pub executed : List Command
 
 -- what a pick makes of the channel, its word step with the value that this found, what ended with it, and whether it took a reading
@@ -64,39 +71,31 @@ pub record Picked : Type 0 where
   pub end : TraceEnd
   pub reads : Bool
 
--- the side that asks
+-- the side that asks: the platform on type 4, the operating system on the other types
 abbrev pub asks_by : ℕ → Side → Bool
-asks_by kind System = if kind == 4 then false else true
-asks_by kind Platform = kind == 4
+asks_by kind System = not (is_responder kind)
+asks_by kind Platform = is_responder kind
 
 -- ---- the calls
 
-abbrev pub call_ended : CallBook → CallBook
+abbrev pub call_ended : CallsState → CallsState
 call_ended b = record b { ended = b.ended + 1; begun = false }
 
-abbrev pub call_begun : CallBook → CallBook
+abbrev pub call_begun : CallsState → CallsState
 call_begun b = record b { begun = true }
-
-abbrev pub is_late : Option Sent → Bool
-is_late None = false
-is_late (Some c) = c.late
-
-abbrev pub command_in : Option Sent → Option Pending
-command_in None = None
-command_in (Some c) = Some c.command
 
 -- the command in flight, if one is
 abbrev pub pending_by : Bool → Option Sent → Option Pending
-pending_by true sent = command_in sent
+pending_by true sent = command_of sent
 pending_by false sent = None
 
-abbrev pub given_up : Option Sent → Option Sent
-given_up None = None
-given_up (Some c) = Some (record c { late = true })
+-- a reading was taken
+abbrev pub read_once : CallsState → CallsState
+read_once b = record b { readings = counted b.readings }
 
 -- how an end of a run leaves the calls, and what ended with it
 pub record Ended : Type 0 where
-  pub calls : CallBook
+  pub calls : CallsState
   pub end : TraceEnd
 
 -- the command in flight was an earlier one, or that of the call itself
@@ -104,21 +103,21 @@ abbrev pub given_up_end : Bool → ℕ → TraceEnd
 given_up_end true looks = end.StillPending looks
 given_up_end false looks = end.TimedOut looks
 
--- a look saw the command incomplete, after so many: was it the last that the call has?
-abbrev pub clear_ended : Bool → ℕ → CallBook → Ended
-clear_ended true looks b = record { calls = call_ended (record b { sent = given_up b.sent }); end = given_up_end (is_late b.sent) looks }
+-- a look saw the command incomplete, after N looks: was it the last that the call has?
+abbrev pub clear_ended : Bool → ℕ → CallsState → Ended
+clear_ended true looks b = record { calls = call_ended (record b { sent = given_up_after looks b.sent }); end = given_up_end (is_given_up b.sent) looks }
 clear_ended false looks b = record { calls = b; end = end.Clear looks }
-
-abbrev pub record_of : Sent → Bool → List ℕ → ℕ → Record
-record_of c error output done = let p = c.command in
-    record { caller = p.caller; code = p.code; input = p.input; error = error; output = output; post = p.post; done = done; late = c.late }
 
 abbrev pub recorded : Option Sent → Bool → List ℕ → ℕ → List Record
 recorded None error output done = []
 recorded (Some c) error output done = record_of c error output done ∷ []
 
+abbrev pub noted_done : Option Sent → ℕ → List Note
+noted_done None number = []
+noted_done (Some c) number = note_of c number ∷ []
+
 -- was the command given up before?
-abbrev pub drained_calls : Bool → CallBook → CallBook
+abbrev pub drained_calls : Bool → CallsState → CallsState
 drained_calls true b = b
 drained_calls false b = call_ended b
 
@@ -126,22 +125,34 @@ abbrev pub drained_end : Bool → Bool → TraceEnd
 drained_end true error = end.Late error
 drained_end false error = end.Done error
 
--- the reply was taken, at a reading
-abbrev pub drain_ended : Bool → List ℕ → ℕ → CallBook → Ended
-drain_ended error output done b = record {
-  calls = drained_calls (is_late b.sent) (record b { records = b.records ++ recorded b.sent error output done; sent = None });
-  end = drained_end (is_late b.sent) error;
+-- the command in flight is recorded, with the reading of its completion
+abbrev pub drained : Bool → List ℕ → Reading → CallsState → CallsState
+drained error output done b = record b {
+  records = b.records ++ recorded b.sent error output done.at;
+  notes = b.notes ++ noted_done b.sent done.number;
+  sent = None;
 }
 
+abbrev pub drained_at : Bool → List ℕ → Reading → CallsState → Ended
+drained_at error output done b = record {
+  calls = drained_calls (is_given_up b.sent) (drained error output done b);
+  end = drained_end (is_given_up b.sent) error;
+}
+
+-- the next reading
+abbrev pub next_reading : ℕ → CallsState → Reading
+next_reading at b = record { at = at; number = b.readings }
+
+-- the reply was taken, at the next reading
+abbrev pub drain_ended : Bool → List ℕ → ℕ → CallsState → Ended
+drain_ended error output done b = drained_at error output (next_reading done b) (read_once b)
+
 -- the command of a call that is posted at a reading, over the space that was drained last
-abbrev pub sent_by : Asked → List ℕ → ℕ → Sent
-sent_by c space reading = record { command = record { caller = c.caller; code = c.code; input = over space c.bytes; post = reading }; late = false }
+abbrev pub sent_by : Asked → List ℕ → Reading → Sent
+sent_by c space reading = sent_at c.caller c.code c.bytes reading space
 
-abbrev pub call_posted : Asked → List ℕ → ℕ → CallBook → CallBook
-call_posted c space reading b = record b { sent = Some (sent_by c space reading) }
-
-abbrev pub earliest_call : CallBook → ℕ
-earliest_call b = earliest_of b.limits (times_of b.records)
+abbrev pub call_posted : Asked → List ℕ → ℕ → CallsState → CallsState
+call_posted c space reading b = record (read_once b) { sent = Some (sent_by c space (next_reading reading b)) }
 
 -- the code doesn't fit the header of types 0 to 2
 abbrev pub is_wide : Wiring → Asked → Bool
@@ -158,6 +169,10 @@ refused_end (Some (refusal.StillPending looks)) = Some (end.StillPending looks)
 refused_end (Some (refusal.TooSoon now earliest)) = Some (end.TooSoon now earliest)
 refused_end (Some (refusal.TimedOut looks)) = Some (end.TimedOut looks)
 
+-- what refuses a post at a reading
+abbrev pub soon_end : ℕ → CallsState → Option TraceEnd
+soon_end reading b = refused_end (soon_of b.limits (times_of b.records) reading)
+
 -- what refuses a call before it is begun
 abbrev pub refusal_of : Wiring → Asked → ℕ → ℕ → Option TraceEnd
 refusal_of w c records flights = refused_end (call_refusal w.kind w.room c.code (length c.bytes) (records + flights))
@@ -165,7 +180,7 @@ refusal_of w c records flights = refused_end (call_refusal w.kind w.room c.code 
 -- ---- the asking side
 
 -- how a run ended, if it did: the reading is that of a completion
-abbrev pub ask_ended : Option AskOutcome → ℕ → Ask → CallBook → Ended
+abbrev pub ask_ended : Option AskOutcome → ℕ → Ask → CallsState → Ended
 ask_ended None reading a b = record { calls = b; end = end.Open }
 ask_ended (Some Posted) reading a b = record { calls = b; end = end.Posted }
 ask_ended (Some Clear) reading a b = clear_ended (a.looks == a.budget) a.looks b
@@ -191,7 +206,7 @@ ask_stepped reading s = let action = ask_next s.ask in let value : ℕ = found a
     }
 
 -- no word step
-abbrev pub rested : PlainState → CallBook → TraceEnd → Bool → Picked
+abbrev pub rested : PlainState → CallsState → TraceEnd → Bool → Picked
 rested s b e reads = record { state = record s { calls = b }; action = Rest; value = 0; end = e; reads = reads }
 
 -- a run that posts the call's command begins, at a reading
@@ -199,14 +214,14 @@ abbrev pub posting : Asked → ℕ → PlainState → PlainState
 posting c reading s = record s { ask = ask_begun s.ask c.code c.bytes; calls = call_posted c s.ask.space reading s.calls }
 
 -- is the reading below the earliest?
-abbrev pub post_or_soon : Bool → Asked → ℕ → PlainState → Picked
-post_or_soon true c reading s = rested s (call_ended s.calls) (end.TooSoon reading (earliest_call s.calls)) true
-post_or_soon false c reading s = record (ask_stepped reading (posting c reading s)) { reads = true }
+abbrev pub post_or_soon : Option TraceEnd → Asked → ℕ → PlainState → Picked
+post_or_soon (Some e) c reading s = rested s (call_ended (read_once s.calls)) e true
+post_or_soon None c reading s = record (ask_stepped reading (posting c reading s)) { reads = true }
 
 -- a call is begun and no run is under way: is a command in flight?
 abbrev pub served : Bool → Asked → ℕ → PlainState → Picked
 served true c reading s = ask_stepped reading (record s { ask = ask_looking s.ask })
-served false c reading s = post_or_soon (ltb reading (earliest_call s.calls)) c reading s
+served false c reading s = post_or_soon (soon_end reading s.calls) c reading s
 
 -- a call is next: is it refused?
 abbrev pub begins : Option TraceEnd → Asked → ℕ → PlainState → Picked

@@ -4,15 +4,17 @@ use Rattle.std.specs.List.{slice_get}
 use Rattle.pcc_history.specs.Devices.{Device}
 use Rattle.pcc_history.specs.Channel.{both}
 use Rattle.pcc_journal.specs.Records.{exchanges_of, exchanges_of_commands}
-use Rattle.pcc_steps.specs.declared.ask.AskStage.{AskStage}
-use Rattle.pcc_steps.specs.declared.ask.AskStage.TheVariants.{AskRest, PostBlock, PostHeader, PostUpdateLoad, PostUpdateStore, PostMarkLoad, PostMarkStore, PostBellLoad, PostBellStore, PostLine, LookWord, LookError, LookBlock, LookLine, LookLineStore, LookAckLoad, LookAckStore}
 use Rattle.pcc_steps.specs.declared.wiring.Wiring.{Wiring}
+use Rattle.pcc_journal.specs.declared.command.Command.{Command}
+use Rattle.pcc_steps.specs.Answering.{Answer}
 use Rattle.pcc_steps.specs.Asking.{Ask}
+use Rattle.pcc_steps.specs.Carrying.{carried, is_rest}
 use Rattle.pcc_steps.specs.Wires.{block_of}
 use Rattle.pcc_steps.specs.Agree.{Asker, Answerer, Agree, flying}
-use Rattle.channel_plain.specs.declared.sent.Sent.{Sent}
+use Rattle.channel_core.specs.Sendings.{is_late}
+use Rattle.channel_core.specs.declared.sent.Sent.{Sent}
 use Rattle.channel_plain.specs.declared.trace.Asked.{Asked}
-use Rattle.channel_plain.specs.Picks.{CallBook, PlainState, is_wide}
+use Rattle.channel_plain.specs.Picks.{CallsState, PlainState, is_wide}
 use Rattle.channel_plain.specs.News.{opening_of}
 
 -- what the asking end has done that the channel doesn't keep: the looks that saw the command incomplete, and the bytes of each command that was
@@ -28,48 +30,17 @@ asker_of s u = record { m = s.ask; done = exchanges_of s.calls.records; clears =
 abbrev pub answerer_of : PlainState → Answerer
 answerer_of s = record { m = s.answer; device = s.device; done = exchanges_of_commands s.executed }
 
--- no run is under way
-abbrev pub is_rest : AskStage → Bool
-is_rest AskRest = true
-is_rest (PostBlock j) = false
-is_rest PostHeader = false
-is_rest PostUpdateLoad = false
-is_rest PostUpdateStore = false
-is_rest PostMarkLoad = false
-is_rest PostMarkStore = false
-is_rest PostBellLoad = false
-is_rest PostBellStore = false
-is_rest PostLine = false
-is_rest LookWord = false
-is_rest LookError = false
-is_rest (LookBlock j) = false
-is_rest LookLine = false
-is_rest LookLineStore = false
-is_rest LookAckLoad = false
-is_rest LookAckStore = false
-
--- a command is being posted, or is in flight
-abbrev pub carried_at : AskStage → Bool → Bool
-carried_at AskRest flies = flies
-carried_at (PostBlock j) flies = true
-carried_at PostHeader flies = true
-carried_at PostUpdateLoad flies = true
-carried_at PostUpdateStore flies = true
-carried_at PostMarkLoad flies = true
-carried_at PostMarkStore flies = true
-carried_at PostBellLoad flies = true
-carried_at PostBellStore flies = true
-carried_at PostLine flies = true
-carried_at LookWord flies = flies
-carried_at LookError flies = flies
-carried_at (LookBlock j) flies = flies
-carried_at LookLine flies = flies
-carried_at LookLineStore flies = flies
-carried_at LookAckLoad flies = flies
-carried_at LookAckStore flies = flies
-
-abbrev pub carried : Ask → Bool
-carried a = carried_at a.stage a.in_flight
+-- a channel by its parts
+abbrev pub channel_of : List ℕ → Ask → Answer → List ℕ → List ℕ → CallsState → List Command → PlainState
+channel_of words ask answer device start calls executed = record {
+  words = words;
+  ask = ask;
+  answer = answer;
+  device = device;
+  start = start;
+  calls = calls;
+  executed = executed;
+}
 
 -- the command of the calls is the one that the asking machine has
 abbrev pub IsCarried : Bool → Option Sent → ℕ → List ℕ → Type 0
@@ -85,10 +56,10 @@ LooksBegun false looks budget = 0 < budget
 -- the command of the call that is begun is posted
 abbrev pub owns : Option Sent → Bool
 owns None = false
-owns (Some c) = not c.late
+owns (Some c) = not (is_late c)
 
 -- the call that is begun: nothing refuses it
-pub record Serving (calls : List Asked) (w : Wiring) (budget records flights : ℕ) (b : CallBook) : Type 0 where
+pub record Serving (calls : List Asked) (w : Wiring) (budget records flights : ℕ) (b : CallsState) : Type 0 where
   pub call : Asked
   pub at : slice_get calls b.ended ≡ Some call
   pub code : is_wide w call ≡ false

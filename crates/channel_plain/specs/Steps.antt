@@ -7,7 +7,7 @@ use Rattle.pcc_steps.specs.Answering.{Answer}
 use Rattle.pcc_steps.specs.Agree.{Answerer}
 use Rattle.channel_core.specs.Executions.{Executions, command_by}
 use Rattle.channel_plain.specs.declared.pick.Pick.{Pick}
-use Rattle.channel_plain.specs.Picks.{CallBook, PlainState, Picked, call_begun}
+use Rattle.channel_plain.specs.Picks.{CallsState, PlainState, Picked, call_begun}
 use Rattle.channel_plain.specs.Holding.{Takes}
 
 -- the memory for an executed command is there, where one is to be executed
@@ -31,15 +31,15 @@ abbrev pub IsPick : Picked → PlainState → Pick → Type 0
 IsPick p s pick = (s ≡ p.state) × (pick ≡ record { action = p.action; value = p.value; end = p.end })
 
 -- it did so at a reading, which the clock gave where it took one
-abbrev pub Reads : {K : Type 0} → (K → ℕ) → (K → ℕ → Option ℕ) → K → K → (ℕ → Picked) → PlainState → Pick → Type 0
-Reads taken tells old new at s pick = (r : ℕ) × Takes taken tells old new (at r).reads r × IsPick (at r) s pick
+abbrev pub IsPickAt : {K : Type 0} → (K → ℕ) → (K → ℕ → Option ℕ) → K → K → (ℕ → Picked) → PlainState → Pick → Type 0
+IsPickAt taken reports old new at s pick = (r : ℕ) × Takes taken reports old new (at r).reads r × IsPick (at r) s pick
 
 -- a call begins: its looks are counted
 abbrev pub budget_by : Bool → ℕ → Ask → Ask
 budget_by true polls a = ask_budgeted a polls
 budget_by false polls a = a
 
-abbrev pub begun_by : Bool → CallBook → CallBook
+abbrev pub begun_by : Bool → CallsState → CallsState
 begun_by true b = call_begun b
 begun_by false b = b
 

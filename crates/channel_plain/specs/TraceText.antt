@@ -19,20 +19,21 @@ letter Platform = codes "p"
 abbrev pub action_words : Action → ℕ → List Spelled
 action_words (Load place) value = Words (codes " load ") ∷ Decimal place ∷ Words (codes " ") ∷ HexOf (to_be_bytes w64 value) ∷ []
 action_words (Store place word) value = Words (codes " store ") ∷ Decimal place ∷ Words (codes " ") ∷ HexOf (to_be_bytes w64 word) ∷ []
-action_words (Swap place word) value = Words (codes " swap ") ∷ Decimal place ∷ Words (codes " ") ∷ HexOf (to_be_bytes w64 word) ∷ Words (codes " ") ∷ HexOf (to_be_bytes w64 value) ∷ []
+action_words (Swap place word) value =
+    Words (codes " swap ") ∷ Decimal place ∷ Words (codes " ") ∷ HexOf (to_be_bytes w64 word) ∷ Words (codes " ") ∷ HexOf (to_be_bytes w64 value) ∷ []
 action_words (Execute code) value = []
 action_words Rest value = Words (codes " rest") ∷ []
 
--- a call that ends without a word step is told in place of one
+-- a call that ends without a word step is reported in place of one
 abbrev pub step_words : TraceLine → List Spelled
-step_words l = told l.end
+step_words l = reported l.end
   where
-    told : TraceEnd → List Spelled
-    told (end.TooSoon now earliest) = []
-    told (end.BadCode code) = []
-    told (end.TooLong len room) = []
-    told end.JournalFull = []
-    told _ = action_words l.action l.value
+    reported : TraceEnd → List Spelled
+    reported (end.TooSoon now earliest) = []
+    reported (end.BadCode code) = []
+    reported (end.TooLong len room) = []
+    reported end.JournalFull = []
+    reported _ = action_words l.action l.value
 
 -- what ended
 abbrev pub end_words : TraceEnd → List Spelled

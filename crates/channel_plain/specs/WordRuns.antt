@@ -1,5 +1,5 @@
--- What a trace of single word steps tells: which words it moves, the runs of each side, the calls with their ends, the readings, and the
--- journal that comes of it. It speaks of whole runs, and of no machine.
+-- What a trace of single word steps says: which words it moves, the runs of each side, the calls with their ends, the readings, and the
+-- journal that it leaves. It speaks of whole runs, and of no machine.
 use Rattle.std.specs.Prelude.{◌≡◌, ◌≤◌, ◌<◌, ℕ, ◌+◌, Bool, true, false, not, List, [], ◌∷◌, ◌++◌, length, map, drop, Option, Some, None}
 use Rattle.std.specs.List.{slice_get, filter}
 use Rattle.pcc_history.specs.Devices.{Device}
@@ -12,16 +12,19 @@ use Rattle.shmem_header.specs.Spelling.{words_of, bytes_of}
 use Rattle.pcc_steps.specs.declared.wiring.Wiring.{Wiring}
 use Rattle.pcc_steps.specs.declared.wiring.Action.{Action}
 use Rattle.pcc_steps.specs.declared.wiring.Action.TheVariants.{Load, Store, Swap, Rest}
-use Rattle.pcc_steps.specs.Wires.{style_of, heads_of, block_header, opening_words}
+use Rattle.pcc_steps.specs.Wires.{style_of, heads_of, block_header, opening_header, opening_words}
 use Rattle.pcc_steps.specs.Runs.{Run, ends, loads, stores, swaps, executes, AskEnd, posts, sees_clear, drains, AnswerEnd, finds_none, serves, post_run, look_run, answer_run}
 use Rattle.pcc_steps.specs.Agree.{act, found}
-use Rattle.channel_plain.specs.declared.sent.Sent.{Sent}
+use Rattle.channel_core.specs.Readings.{count_of}
+use Rattle.channel_core.specs.Sendings.{count_flying, given_up_after, is_late, record_of}
+use Rattle.channel_core.specs.declared.caller.Reading.{Reading}
+use Rattle.channel_core.specs.declared.sent.Sent.{Sent}
 use Rattle.channel_plain.specs.declared.trace.Side.{Side}
 use Rattle.channel_plain.specs.declared.trace.Asked.{Asked}
 use Rattle.channel_plain.specs.declared.trace.TraceEnd.{TraceEnd}
 use Rattle.channel_plain.specs.declared.trace.TraceEnd.TheVariants as end
 use Rattle.channel_plain.specs.declared.trace.TraceLine.{TraceLine}
-use Rattle.channel_plain.specs.Picks.{asks_by, given_up_end, record_of, refusal_of, sent_by, drained_end}
+use Rattle.channel_plain.specs.Picks.{asks_by, given_up_end, refusal_of, sent_by, drained_end}
 
 -- ---- the words
 
@@ -32,7 +35,7 @@ Remembers words (l ∷ ls) = (l.value ≡ found l.action words) × Remembers (ac
 
 -- ---- the steps of a run
 
--- the step that comes next; executing is no word step
+-- the next step; executing is no word step
 abbrev pub next_of : {E : Type 0} → Run E → Option Action
 next_of (ends e) = None
 next_of (loads place k) = Some (Load place)
@@ -40,7 +43,7 @@ next_of (stores place word k) = Some (Store place word)
 next_of (swaps place word k) = Some (Swap place word)
 next_of (executes code space k) = None
 
--- the rest of the run behind that step, by the value that it found
+-- the rest of the run after that step, by the value that it found
 abbrev pub rest_of : {E : Type 0} → Run E → ℕ → Run E
 rest_of (ends e) value = ends e
 rest_of (loads place k) value = k value
@@ -68,13 +71,15 @@ pub record IsRun {E : Type 0} (run : Run E) (ls : List TraceLine) (l : TraceLine
 
 -- how the calls stand between two runs of the asking side
 pub record Calls : Type 0 where
-  -- the calls that have ended, and whether the one behind them is begun
+  -- the calls that have ended, and whether the one after them is begun
   pub ended : ℕ
   pub begun : Bool
   -- the looks that saw the command incomplete, since the call began or its command was posted
   pub looks : ℕ
   -- the command in flight
   pub sent : Option Sent
+  -- the words of the block as this side last stored or loaded them
+  pub block : List ℕ
   -- the space that was drained last
   pub space : List ℕ
   pub records : List Record
@@ -86,16 +91,24 @@ end_call s = record s { ended = s.ended + 1; begun = false }
 abbrev pub take_reading : Calls → ℕ → Calls
 take_reading s r = record s { readings = s.readings ++ r ∷ [] }
 
-abbrev pub in_flight : Option Sent → ℕ
-in_flight None = 0
-in_flight (Some c) = 1
+-- the reading that is taken after these
+abbrev pub reading_at : List ℕ → ℕ → Reading
+reading_at before at = record { at = at; number = count_of (length before) }
 
 abbrev pub refusal_at : Wiring → Asked → Calls → Option TraceEnd
-refusal_at w c s = refusal_of w c (length s.records) (in_flight s.sent)
+refusal_at w c s = refusal_of w c (length s.records) (count_flying s.sent)
 
--- the run that posts it: its code, and the space that was drained last with its bytes laid over
+-- the space that a block holds
+abbrev pub replied : Wiring → List ℕ → List ℕ
+replied w block = bytes_of (drop (heads_of (style_of w)) block)
+
+-- the block of a call, after the block that was last stored or loaded: the call's header words, and its bytes over the front of that block's space
+abbrev pub block_after : Wiring → Asked → List ℕ → List ℕ
+block_after w c block = block_header (style_of w) w c.code (length c.bytes) ++ words_of (over (replied w block) c.bytes)
+
+-- the run that posts a call: it stores all words of the call's block
 abbrev pub posts_call : Wiring → Asked → List ℕ → Run AskEnd
-posts_call w c space = post_run w c.code (block_header (style_of w) w c.code (length c.bytes) ++ words_of (over space c.bytes))
+posts_call w c block = post_run w c.code (block_after w c block)
 
 -- a line with no word step, that ends so
 abbrev pub Rests : TraceLine → TraceEnd → Type 0
@@ -105,9 +118,6 @@ Rests l e = (l.action ≡ Rest) × (l.end ≡ e)
 abbrev pub goes_on_if : Bool → Calls → Calls
 goes_on_if true s = s
 goes_on_if false s = end_call s
-
-abbrev pub replied : Wiring → List ℕ → List ℕ
-replied w block = bytes_of (drop (heads_of (style_of w)) block)
 
 module _ (w : Wiring) (limits : Limits) (calls : List Asked) where
   -- a call is served: one that was begun before, or the next one, which nothing refuses and which begins now
@@ -131,24 +141,42 @@ module _ (w : Wiring) (limits : Limits) (calls : List Asked) where
         → Rests l (end.TooSoon r (earliest_at s')) → Turn s (l ∷ []) (end_call (take_reading s' r))
     -- nothing is in flight, and the reading is not below the earliest: the command is posted
     sends : (s s' : Calls) (c : Asked) (r : ℕ) (ls : List TraceLine) (l : TraceLine) → Serves s c s' → s'.sent ≡ None → earliest_at s' ≤ r
-        → IsRun (posts_call w c s'.space) ls l posts → l.end ≡ end.Posted
-        → Turn s (ls ++ l ∷ []) (record (take_reading s' r) { sent = Some (sent_by c s'.space r); looks = 0 })
+        → IsRun (posts_call w c s'.block) ls l posts → l.end ≡ end.Posted
+        → Turn s (ls ++ l ∷ []) (record (take_reading s' r) {
+          sent = Some (sent_by c s'.space (reading_at s'.readings r));
+          block = block_after w c s'.block;
+          looks = 0;
+        })
     -- a command is in flight and isn't complete, and the call may look again
     looks_on : (s s' : Calls) (c : Asked) (p : Sent) (ls : List TraceLine) (l : TraceLine) → Serves s c s' → s'.sent ≡ Some p → s'.looks + 1 < c.polls
         → IsRun (look_run w) ls l sees_clear → l.end ≡ end.Clear (s'.looks + 1)
         → Turn s (ls ++ l ∷ []) (record s' { looks = s'.looks + 1 })
     -- that look was the last that the call has
     gives_up : (s s' : Calls) (c : Asked) (p : Sent) (ls : List TraceLine) (l : TraceLine) → Serves s c s' → s'.sent ≡ Some p → s'.looks + 1 ≡ c.polls
-        → IsRun (look_run w) ls l sees_clear → l.end ≡ given_up_end p.late c.polls
-        → Turn s (ls ++ l ∷ []) (end_call (record s' { looks = s'.looks + 1; sent = Some (record p { late = true }) }))
+        → IsRun (look_run w) ls l sees_clear → l.end ≡ given_up_end (is_late p) c.polls
+        → Turn s (ls ++ l ∷ []) (end_call (record s' { looks = s'.looks + 1; sent = given_up_after c.polls (Some p) }))
     -- the command is complete: its reply is taken, at a reading
     takes : (s s' : Calls) (c : Asked) (p : Sent) (r : ℕ) (error : Bool) (block : List ℕ) (ls : List TraceLine) (l : TraceLine) → Serves s c s'
-        → s'.sent ≡ Some p → IsRun (look_run w) ls l (drains error block) → l.end ≡ drained_end p.late error
-        → Turn s (ls ++ l ∷ []) (goes_on_if p.late (record (take_reading s' r) {
+        → s'.sent ≡ Some p → IsRun (look_run w) ls l (drains error block) → l.end ≡ drained_end (is_late p) error
+        → Turn s (ls ++ l ∷ []) (goes_on_if (is_late p) (record (take_reading s' r) {
           sent = None;
+          block = block;
           space = replied w block;
           records = s'.records ++ record_of p error (replied w block) r ∷ [];
         }))
+
+  -- no call has begun, over an opening space
+  abbrev pub from_opening : List ℕ → Calls
+  from_opening opening = record {
+    ended = 0;
+    begun = false;
+    looks = 0;
+    sent = None;
+    block = opening_header (style_of w) w ++ words_of opening;
+    space = opening;
+    records = [];
+    readings = [];
+  }
 
   -- runs, one after the other
   pub data Turns (from : Calls) : List TraceLine → Calls → Type 0 where
@@ -159,7 +187,7 @@ module _ (w : Wiring) (limits : Limits) (calls : List Asked) where
   pub data Cut : Calls → List TraceLine → List ℕ → Type 0 where
     whole : (s : Calls) → Cut s [] []
     sending : (s s' : Calls) (c : Asked) (r : ℕ) (l : TraceLine) (ls : List TraceLine) (rest : Run AskEnd) → Serves s c s'
-        → s'.sent ≡ None → earliest_at s' ≤ r → Walks (posts_call w c s'.space) (l ∷ ls) rest → IsUnfinished rest → Cut s (l ∷ ls) (r ∷ [])
+        → s'.sent ≡ None → earliest_at s' ≤ r → Walks (posts_call w c s'.block) (l ∷ ls) rest → IsUnfinished rest → Cut s (l ∷ ls) (r ∷ [])
     looking : (s s' : Calls) (c : Asked) (p : Sent) (l : TraceLine) (ls : List TraceLine) (rest : Run AskEnd) → Serves s c s'
         → s'.sent ≡ Some p → Walks (look_run w) (l ∷ ls) rest → IsUnfinished rest → Cut s (l ∷ ls) []
 
@@ -170,7 +198,7 @@ module _ (w : Wiring) (limits : Limits) (calls : List Asked) where
     pub last : List TraceLine
     pub after : Calls
     pub taken : List ℕ
-    pub runs : Turns (record { ended = 0; begun = false; looks = 0; sent = None; space = opening; records = []; readings = [] }) past after
+    pub runs : Turns (from_opening opening) past after
     pub cut : Cut after last taken
     pub all : lines ≡ past ++ last
     pub read : readings ≡ after.readings ++ taken
@@ -179,14 +207,14 @@ module _ (w : Wiring) (limits : Limits) (calls : List Asked) where
 
 -- ---- the answering side
 
--- a run with the device behind it, and what the device has executed
+-- a run with its device, and what the device has executed
 pub record Answered : Type 0 where
   pub device : List ℕ
   pub executed : List Exchange
   pub run : Run AnswerEnd
 
 module _ (exec : Device) (w : Wiring) where
-  -- the device executes a command as soon as the run has come to it
+  -- the device executes a command as soon as the run has loaded it
   abbrev pub execute : Run AnswerEnd → List ℕ → List Exchange → Answered
   execute (executes code space k) device es = let x = exec device code space in
       record { device = x.state; executed = es ++ exchange_of exec w.reports device code space ∷ []; run = k x.bad x.space }
@@ -241,7 +269,8 @@ answered_line kind l = not (asks_by kind l.side)
 abbrev pub side_of_line : TraceLine → Side
 side_of_line l = l.side
 
--- the trace of the picks, for the calls, with the readings that it took, and the records, the command in flight and the executed commands that come of it
+-- the trace of the picks, for the calls, with the readings that it took, and the records, the command in flight and the executed commands that
+-- it leaves
 pub record WordRun (exec : Device) (w : Wiring) (limits : Limits) (start opening : List ℕ) (calls : List Asked) (picks : List Side)
     (trace : List TraceLine) (readings : List ℕ) (records : List Record) (sent : Option Sent) (executed : List Exchange) : Type 0 where
   pub sides : map side_of_line trace ≡ picks

@@ -2,6 +2,7 @@
 -- clock whose readings are 0, 10, 20 and so on.
 use Rattle.std.specs.Prelude.{◌≡◌, ℕ, ◌+◌, Bool, true, false, if◌then◌else◌, replicate, List, [], ◌∷◌, ◌++◌, Option, Some, None}
 use Rattle.pcc_history.specs.Devices.{bank_exec}
+use Rattle.pcc_journal.specs.declared.note.Note.{Note}
 use Rattle.pcc_journal.specs.declared.record.Record.{Record}
 use Rattle.pcc_gas.specs.declared.mask.Masks.{Masks}
 use Rattle.pcc_steps.specs.declared.wiring.Wiring.{Wiring}
@@ -10,13 +11,14 @@ use Rattle.pcc_steps.specs.declared.wiring.Action.TheVariants.{Load, Store, Swap
 use Rattle.pcc_steps.specs.declared.ask.AskStage.TheVariants.{AskRest}
 use Rattle.pcc_steps.specs.declared.answer.AnswerStage.TheVariants.{AnswerRest}
 use Rattle.pcc_steps.specs.Wires.{opening_header, opening_words, style_of}
-use Rattle.channel_plain.specs.declared.sent.Sent.{Sent}
+use Rattle.channel_core.specs.declared.sent.Sent.{Sent}
 use Rattle.channel_plain.specs.declared.trace.Side.{Side}
 use Rattle.channel_plain.specs.declared.trace.Side.TheVariants.{System, Platform}
 use Rattle.channel_plain.specs.declared.trace.Asked.{Asked}
 use Rattle.channel_plain.specs.declared.trace.TraceEnd.{TraceEnd}
 use Rattle.channel_plain.specs.declared.trace.TraceEnd.TheVariants.{Open, Posted, Clear, Done, Late, TimedOut, StillPending, Served, Idle}
 use Rattle.channel_plain.specs.declared.trace.TraceLine.{TraceLine}
+use Rattle.channel_plain.specs.News.{no_calls}
 use Rattle.channel_plain.specs.Picks.{PlainState, picked, line_of}
 
 -- the doorbell's lowest bit is set, and the others are kept; the acknowledge register keeps four bits and sets two
@@ -68,13 +70,14 @@ fresh w = record {
   answer = record { wiring = w; stage = AnswerRest; kept = 0; header = 0; bad = false; loaded = blank w; out = blank w; space = no_bytes; steps = 0 };
   device = 0 ∷ no_bytes;
   start = 0 ∷ no_bytes;
-  calls = record { limits = record { turnaround = 0; per_minute = 0 }; records = []; sent = None; ended = 0; begun = false };
+  calls = no_calls (record { turnaround = 0; per_minute = 0 });
   executed = [];
 }
 
 pub record Woven : Type 0 where
   pub trace : List TraceLine
   pub records : List Record
+  pub notes : List Note
   pub sent : Option Sent
 
 abbrev pub before : TraceLine → Woven → Woven
@@ -82,7 +85,7 @@ before l v = record v { trace = l ∷ v.trace }
 
 -- the picks, with the next reading
 abbrev pub woven : List Asked → List Side → ℕ → PlainState → Woven
-woven calls [] reading s = record { trace = []; records = s.calls.records; sent = s.calls.sent }
+woven calls [] reading s = record { trace = []; records = s.calls.records; notes = s.calls.notes; sent = s.calls.sent }
 woven calls (side ∷ sides) reading s = let p = picked bank_exec calls side reading s in
     before (line_of side p) (woven calls sides (if p.reads then reading + 10 else reading) p.state)
 
@@ -96,6 +99,10 @@ swap_call caller bytes polls = record { caller = caller; code = 16; bytes = byte
 abbrev pub kept : ℕ → ℕ → Bool → Record
 kept post done late =
     record { caller = 0; code = 16; input = 1 ∷ 2 ∷ 0 ∷ 0 ∷ 0 ∷ 0 ∷ 0 ∷ 0 ∷ []; error = false; output = no_bytes; post = post; done = done; late = late }
+
+-- the numbers of the readings of a post and a completion, and the looks after which the command was given up
+abbrev pub note_at : ℕ → ℕ → ℕ → Note
+note_at post done looks = record { post_at = post; done_at = done; looks = looks }
 
 -- a command is posted, executed and drained
 abbrev pub one_exchange : Type 0
@@ -116,6 +123,7 @@ one_exchange = woven (swap_call 0 (1 ∷ 2 ∷ []) 3 ∷ [])
           ∷ line System (Load 0) 281545042772736 Open
           ∷ line System (Load 8) 0 (Done false) ∷ [];
       records = kept 0 10 false ∷ [];
+      notes = note_at 0 1 0 ∷ [];
       sent = None;
     }
 
@@ -142,6 +150,7 @@ with_notification = woven (swap_call 0 (1 ∷ 2 ∷ []) 3 ∷ [])
           ∷ line System (Load 4) 1 Open
           ∷ line System (Store 4 0) 0 (Done false) ∷ [];
       records = kept 0 10 false ∷ [];
+      notes = note_at 0 1 0 ∷ [];
       sent = None;
     }
 
@@ -170,6 +179,7 @@ with_acknowledge = woven (swap_call 0 (1 ∷ 2 ∷ []) 3 ∷ [])
           ∷ line System (Load 5) 0 Open
           ∷ line System (Store 5 3) 0 (Done false) ∷ [];
       records = kept 0 10 false ∷ [];
+      notes = note_at 0 1 0 ∷ [];
       sent = None;
     }
 
@@ -200,7 +210,8 @@ drained_late = woven (swap_call 0 (1 ∷ 2 ∷ []) 1 ∷ swap_call 1 [] 2 ∷ sw
           ∷ line System (Store 1 1) 0 Open
           ∷ line System (Store 2 1) 0 Posted ∷ [];
       records = kept 0 10 true ∷ [];
-      sent = Some (record { command = record { caller = 2; code = 16; input = 3 ∷ 0 ∷ 0 ∷ 0 ∷ 0 ∷ 0 ∷ 0 ∷ 0 ∷ []; post = 20 }; late = false });
+      notes = note_at 0 1 1 ∷ [];
+      sent = Some (record { command = record { caller = 2; code = 16; input = 3 ∷ 0 ∷ 0 ∷ 0 ∷ 0 ∷ 0 ∷ 0 ∷ 0 ∷ []; post = 20 }; note = note_at 2 0 0 });
     }
 
 -- ---- types 3 to 5
@@ -268,6 +279,7 @@ type_three_joined = woven (swap_call 0 (1 ∷ 2 ∷ []) 3 ∷ [])
           ∷ line System (Load 5) 0 Open
           ∷ line System (Store 5 3) 0 (Done false) ∷ [];
       records = kept 0 10 false ∷ [];
+      notes = note_at 0 1 0 ∷ [];
       sent = None;
     }
 
@@ -302,6 +314,7 @@ type_three_separate = woven (record { caller = 0; code = 18; bytes = 1 ∷ []; p
           ∷ line System (Load 9) 77309411333 Open
           ∷ line System (Load 10) 1 (Done true) ∷ [];
       records = record { caller = 0; code = 18; input = one_byte; error = true; output = one_byte; post = 0; done = 10; late = false } ∷ [];
+      notes = note_at 0 1 0 ∷ [];
       sent = None;
     }
 
@@ -329,6 +342,7 @@ type_four_joined = woven (record { caller = 0; code = 16; bytes = 1 ∷ []; poll
           ∷ line Platform (Load 9) 68719476741 Open
           ∷ line Platform (Load 10) 0 (Done false) ∷ [];
       records = record { caller = 0; code = 16; input = one_byte; error = false; output = no_bytes; post = 0; done = 10; late = false } ∷ [];
+      notes = note_at 0 1 0 ∷ [];
       sent = None;
     }
 
@@ -367,6 +381,7 @@ type_four_separate = woven (record { caller = 0; code = 17; bytes = []; polls = 
           ∷ line Platform (Load 4) 1 Open
           ∷ line Platform (Store 4 0) 0 (Done false) ∷ [];
       records = record { caller = 0; code = 17; input = no_bytes; error = false; output = no_bytes; post = 0; done = 10; late = false } ∷ [];
+      notes = note_at 0 1 0 ∷ [];
       sent = None;
     }
 
@@ -395,5 +410,6 @@ type_five = woven (record { caller = 0; code = 18; bytes = 1 ∷ []; polls = 1 }
           ∷ line System (Load 8) 78655996672 Open
           ∷ line System (Load 9) 1 (Done true) ∷ [];
       records = record { caller = 0; code = 18; input = one_byte; error = true; output = one_byte; post = 0; done = 10; late = false } ∷ [];
+      notes = note_at 0 1 0 ∷ [];
       sent = None;
     }

@@ -1,107 +1,111 @@
 //! The calls, and what came of their commands.
 
-ghost use Rattle.std.specs.Prelude.{◌≡◌, ◌≤◌, ◌<◌, ◌-◌, ◌^◌, ℕ, [], true, false, None, length, IfOk, OnErr};
+ghost use Rattle.std.specs.Prelude.{◌≡◌, ◌≤◌, ◌<◌, ◌-◌, ◌^◌, ℕ, true, false, None, length, IfOk, OnErr, OnOk};
 ghost use Rattle.std.specs.Option.{option_copied};
 ghost use Rattle.rate_limit.specs.RateLimits.{WithinLimits};
 ghost use Rattle.pcc_journal.specs.Records.{times_of};
-ghost use Rattle.pcc_history.specs.Channel.{over};
 ghost use Rattle.pcc_steps.specs.Agree.{flying};
-ghost use Rattle.channel_plain.specs.Picks.{ask_ended, call_begun, call_ended, clear_ended, command_in, drain_ended, refusal_of, refused_end, takes_reading};
-ghost use Rattle.channel_plain.specs.Holding.{FliesIf, FliesWith, Takes, post_of, tried};
+ghost use Rattle.channel_core.specs.CommandHistory.{reserved};
+ghost use Rattle.channel_core.specs.Sendings.{FliesWith, command_of, post_of};
+ghost use Rattle.channel_plain.specs.News.{no_calls};
+ghost use Rattle.channel_plain.specs.Picks.{ask_ended, call_begun, call_ended, clear_ended, drained_at, given_up_end, refusal_of, refused_end, takes_reading};
+ghost use Rattle.channel_plain.specs.Holding.{FliesIf, Takes, tried};
 
-use crate::sent::{Flight, Sent};
 use crate::trace::{Asked, TraceEnd};
-use channel_core::{CallRefusal, refusal};
-use pcc_io::{Bytes, Clock, NoMemory};
-use pcc_journal::{Journal, Pending, Record};
+use channel_core::{CallRefusal, Caller, History, Reading, Ready, make_ready, refusal, too_soon};
+use pcc_io::{Clock, NoMemory};
+use pcc_journal::{Journal, Notes, Pending};
 use pcc_steps::{AskOutcome, AskState, Wiring};
-use rate_limit::{Limits, completion_keeps_limits, earliest, earliest_is_exact};
+use rate_limit::Limits;
 use std::alloc::Global;
 use std::marker::Model;
 
-/// The calls that have ended, the one that is begun, and the records. A command that is posted has the memory for its record.
+/// The calls that have ended, the one that is begun, and the commands, with the clock that the asking end reads.
 #[derive(Drop)]
-pub(crate) struct CallLog {
-    limits: Limits,
-    journal: Journal,
-    flight: Option<Flight>,
+pub(crate) struct CallLog<K: Clock> {
+    caller: Caller<K>,
+    history: History,
     ended: usize,
     begun: bool,
 }
 
-impl Model for CallLog {
+impl<K: Clock> Model for CallLog<K> {
     ghost use Rattle.rate_limit.specs.RateLimits.{WithinLimits};
     ghost use Rattle.pcc_journal.specs.Records.{times_of};
-    ghost use Rattle.channel_plain.specs.Picks.{CallBook};
-    ghost use Rattle.channel_plain.specs.Holding.{HasMemory, MayEnd, book_of, post_of, sent_of};
+    ghost use Rattle.channel_core.specs.Sendings.{post_of};
+    ghost use Rattle.channel_plain.specs.Holding.{ClockedCalls, MayEnd, calls_of};
 
-    ghost Value = { CallBook };
+    ghost Value = { ClockedCalls K };
 
-    ghost view = { λ b. book_of b.limits b.journal b.flight b.ended b.begun };
+    ghost view = { λ b. record {
+      calls = calls_of b.caller.limits b.history b.caller.readings b.ended b.begun;
+      clock = b.caller.clock;
+    } };
 
-    ghost invariant = { λ b. HasMemory b.flight b.journal.spare
-        × WithinLimits b.limits (times_of b.journal.items) (post_of (sent_of b.flight)) × MayEnd b.begun b.ended };
+    ghost invariant = { λ b. WithinLimits b.caller.limits (times_of b.history.records) (post_of b.history.sent) × MayEnd b.begun b.ended };
 }
 
-impl CallLog {
-    /// No call has begun.
-    pub fn new(alloc: Global, limits: Limits) -> CallLog
-        ensures { result ≡ record { limits = limits; records = []; sent = None; ended = 0; begun = false } }
+impl<K: Clock> CallLog<K> {
+    /// No call has begun, and no reading was taken.
+    pub fn new(alloc: Global, limits: Limits, clock: K) -> CallLog<K>
+        ensures { result ≡ record { calls = no_calls limits; clock = clock } }
     {
         CallLog {
-            limits,
-            journal: Journal::new(alloc),
-            flight: None,
+            caller: Caller::new(limits, clock),
+            history: History::new(alloc),
             ended: 0,
             begun: false,
         }
     }
 
     pub fn journal(&self) -> &Journal
-        ensures { result.now.items ≡ self.now.records }
+        ensures { result.now.items ≡ self.now.calls.records }
     {
-        &self.journal
+        self.history.journal()
+    }
+
+    pub fn notes(&self) -> &Notes
+        ensures { result.now.items ≡ self.now.calls.notes }
+    {
+        self.history.notes()
     }
 
     /// The posts keep the limits, that of a command that is posted or in flight included. It does nothing.
     pub fn keep(&self)
-        ensures { WithinLimits self.now.limits (times_of self.now.records) (post_of self.now.sent) }
+        ensures { WithinLimits self.now.calls.limits (times_of self.now.calls.records) (post_of self.now.calls.sent) }
     {
         let _ = &self.begun;
     }
 
     /// The command that is posted or in flight.
-    pub fn sent(&self) -> Option<&Pending>
-        ensures { option_copied result ≡ command_in self.now.sent }
+    pub fn pending(&self) -> Option<&Pending>
+        ensures { option_copied result ≡ command_of self.now.calls.sent }
     {
-        match &self.flight {
-            None => None,
-            Some(flight) => Some(&flight.sent.command),
-        }
+        self.history.pending()
     }
 
     pub fn ended(&self) -> usize
-        ensures { result ≡ self.now.ended }
+        ensures { result ≡ self.now.calls.ended }
     {
         self.ended
     }
 
     pub fn begun(&self) -> bool
-        ensures { result ≡ self.now.begun }
+        ensures { result ≡ self.now.calls.begun }
     {
         self.begun
     }
 
     pub fn begin(&mut self)
-        requires { self.old.ended < 2 ^ 64 - 1 }
-        ensures { self.new ≡ call_begun self.old }
+        requires { self.old.calls.ended < 2 ^ 64 - 1 }
+        ensures { self.new ≡ record self.old { calls = call_begun self.old.calls } }
     {
         self.begun = true;
     }
 
     pub fn end_call(&mut self)
-        requires { self.old.ended < 2 ^ 64 - 1 }
-        ensures { self.new ≡ call_ended self.old }
+        requires { self.old.calls.ended < 2 ^ 64 - 1 }
+        ensures { self.new ≡ record self.old { calls = call_ended self.old.calls } }
     {
         self.ended += 1;
         self.begun = false;
@@ -109,133 +113,130 @@ impl CallLog {
 
     /// What refuses a call before it is begun: bad code, too long, journal full, in this order.
     pub fn refusal(&self, call: &Asked, wiring: &Wiring, flies: bool) -> Option<TraceEnd>
-        ensures { result ≡ refusal_of wiring.now call.now (length self.now.records) (flying flies) }
+        ensures { result ≡ refusal_of wiring.now call.now (length self.now.calls.records) (flying flies) }
     {
-        let posts = self.journal.len() + usize::from(flies);
+        let posts = self.history.journal().len() + usize::from(flies);
         refused_end(refusal(wiring.kind, wiring.room, call.code, call.bytes.len(), posts))
     }
 
     /// Takes the memory for a post and its record, and then a reading. The call ends where that is too soon, else its command is posted.
-    pub fn post<K: Clock>(
+    #[tactic(auto, using(crate::proofs::Readied::within_post, crate::proofs::Readied::over_length))]
+    pub fn post(
         &mut self,
         alloc: Global,
+        wiring: &Wiring,
         call: &Asked,
         space: &[u8],
-        clock: &mut K,
     ) -> Result<Option<TraceEnd>, NoMemory>
-        requires free { self.old.sent ≡ None }
-        requires fits { length call.now.bytes ≤ length space.now }
-        requires counted { self.old.ended < 2 ^ 64 - 1 }
-        ensures ok { IfOk result (λ end. (reading : ℕ) × Takes K.taken K.tells clock.old clock.new true reading
-            × (record { calls = self.new; end = end } ≡ tried call.now space.now reading self.old)) }
-        ensures err { OnErr result ((self.new ≡ self.old) × (clock.new ≡ clock.old)) }
+        requires free { self.old.calls.sent ≡ None }
+        requires fits { length call.now.bytes ≤ wiring.now.room }
+        requires long { length space.now ≡ wiring.now.room }
+        requires counted { self.old.calls.ended < 2 ^ 64 - 1 }
+        ensures ok { IfOk result (λ end. (reading : ℕ) × Takes K.taken K.tells self.old.clock self.new.clock true reading
+            × (record { calls = self.new.calls; end = end } ≡ tried call.now space.now reading self.old.calls)) }
+        ensures err { OnErr result (self.new ≡ self.old) }
     {
-        let input = laid_over(alloc, space, call.bytes.as_slice())?;
-        let mut reply = Vec::from_slice(alloc, space)?;
-        match self.journal.reserve() {
-            Ok(()) => {}
-            Err(_) => return Err(NoMemory),
+        let ready = ready_for(&mut self.history, alloc, wiring, call)?;
+        let post = self.caller.read();
+        let soon = too_soon(&self.caller.limits, self.history.journal().times(), post.at);
+        match refused_end(soon) {
+            Some(end) => {
+                self.end_call();
+                Ok(Some(end))
+            }
+            None => {
+                self.history.mark_post(ready.fly(call.caller, &post, space));
+                self.begun = true;
+                Ok(None)
+            }
         }
-        let now = clock.now();
-        let earliest = earliest(&self.limits, self.journal.times());
-        if u128::from(now) < earliest {
-            self.end_call();
-            return Ok(Some(TraceEnd::TooSoon { now, earliest }));
-        }
-        earliest_is_exact();
-        self.flight = Some(Flight {
-            sent: Sent {
-                command: Pending {
-                    caller: call.caller,
-                    code: call.code,
-                    input: Bytes::from_vec(input),
-                    post: now,
-                },
-                late: false,
-            },
-            reply,
-        });
-        self.begun = true;
-        Ok(None)
     }
 
-    /// A run of the asking machine took a step that told this.
-    pub fn told<K: Clock>(
-        &mut self,
-        told: Option<AskOutcome>,
-        ask: &AskState,
-        clock: &mut K,
-    ) -> TraceEnd
-        requires begun { self.old.begun ≡ true }
-        requires flies { FliesIf told self.old.sent (length ask.now.space) }
-        ensures { (reading : ℕ) × Takes K.taken K.tells clock.old clock.new (takes_reading told) reading
-            × (record { calls = self.new; end = result } ≡ ask_ended told reading ask.now self.old) }
+    /// Records what a step of the asking machine reported.
+    pub fn report(&mut self, outcome: Option<AskOutcome>, ask: &AskState) -> TraceEnd
+        requires begun { self.old.calls.begun ≡ true }
+        requires flies { FliesIf outcome self.old.calls.sent (length ask.now.space) }
+        ensures { (reading : ℕ) × Takes K.taken K.tells self.old.clock self.new.clock (takes_reading outcome) reading
+            × (record { calls = self.new.calls; end = result } ≡ ask_ended outcome reading ask.now self.old.calls) }
     {
-        match told {
+        match outcome {
             None => TraceEnd::Open,
             Some(AskOutcome::Posted) => TraceEnd::Posted,
             Some(AskOutcome::Clear) => self.clear(ask.looks() == ask.budget(), ask.looks()),
             Some(AskOutcome::Drained { error }) => {
-                let done = clock.now();
-                self.drain(error, ask.space(), done)
+                let done = self.caller.read();
+                self.drain(error, ask.space(), &done)
             }
         }
     }
 
     // A look saw the command incomplete.
     fn clear(&mut self, last: bool, looks: u32) -> TraceEnd
-        requires { self.old.begun ≡ true }
-        ensures { record { calls = self.new; end = result } ≡ clear_ended last looks self.old }
+        requires { self.old.calls.begun ≡ true }
+        ensures calls { record { calls = self.new.calls; end = result } ≡ clear_ended last looks self.old.calls }
+        ensures clock { self.new.clock ≡ self.old.clock }
     {
         let _ = &self.begun;
         if !last {
             return TraceEnd::Clear { looks };
         }
         self.end_call();
-        match &mut self.flight {
-            None => TraceEnd::TimedOut { looks },
-            Some(flight) => {
-                let late = flight.sent.late;
-                flight.sent.late = true;
-                if late {
-                    TraceEnd::StillPending { looks }
-                } else {
-                    TraceEnd::TimedOut { looks }
-                }
-            }
-        }
+        let late = self.history.given_up();
+        self.history.mark_late(looks);
+        given_up_end(late, looks)
     }
 
-    // The reply was taken.
-    fn drain(&mut self, error: bool, output: &[u8], done: u64) -> TraceEnd
-        requires begun { self.old.begun ≡ true }
-        requires flies { FliesWith self.old.sent (length output.now) }
-        ensures { record { calls = self.new; end = result } ≡ drain_ended error output.now done self.old }
+    // The reply was taken, at the reading that was taken last.
+    #[tactic(auto, using(crate::proofs::Readied::done_is, crate::proofs::Readied::within_done))]
+    fn drain(&mut self, error: bool, output: &[u8], done: &Reading) -> TraceEnd
+        requires begun { self.old.calls.begun ≡ true }
+        requires flies { FliesWith self.old.calls.sent (length output.now) }
+        ensures calls { record { calls = self.new.calls; end = result } ≡ drained_at error output.now done.now self.old.calls }
+        ensures clock { self.new.clock ≡ self.old.clock }
     {
-        match self.flight.take() {
-            None => unreachable!(),
-            Some(mut flight) => {
-                let late = flight.sent.late;
-                let command = flight.sent.command;
-                flight.reply.copy_from_slice(output);
-                completion_keeps_limits();
-                self.journal.append(Record {
-                    caller: command.caller,
-                    code: command.code,
-                    input: command.input,
-                    error,
-                    output: Bytes::from_vec(flight.reply),
-                    post: command.post,
-                    done,
-                    late,
-                });
-                if late {
-                    return TraceEnd::Late { error };
-                }
-                self.end_call();
-                TraceEnd::Done { error }
-            }
+        let late = self.history.given_up();
+        self.history.mark_done(error, output, done);
+        if late {
+            return TraceEnd::Late { error };
         }
+        self.end_call();
+        TraceEnd::Done { error }
+    }
+}
+
+// What ends a call at its last look: its own command is given up, or that of an earlier call was before.
+fn given_up_end(late: bool, looks: u32) -> TraceEnd
+    ensures { result ≡ given_up_end late looks }
+{
+    if late {
+        TraceEnd::StillPending { looks }
+    } else {
+        TraceEnd::TimedOut { looks }
+    }
+}
+
+// Makes the command of a call ready. Nothing refuses a call that is begun, so what fails is memory.
+#[tactic(auto, using(crate::proofs::Readied::ready_made, crate::proofs::Readied::none_made))]
+fn ready_for(
+    history: &mut History,
+    alloc: Global,
+    wiring: &Wiring,
+    call: &Asked,
+) -> Result<Ready, NoMemory>
+    ensures ready { IfOk result (λ r. r ≡ record { kind = wiring.now.kind; room = wiring.now.room; code = call.now.code; bytes = call.now.bytes }) }
+    ensures reserved { OnOk result (history.new ≡ reserved history.old) }
+    ensures err { OnErr result (history.new ≡ history.old) }
+{
+    match make_ready(
+        history,
+        alloc,
+        wiring.kind,
+        wiring.room,
+        call.code,
+        call.bytes.as_slice(),
+    ) {
+        Ok(ready) => Ok(ready),
+        Err(_) => Err(NoMemory),
     }
 }
 
@@ -252,14 +253,4 @@ fn refused_end(refusal: Option<CallRefusal>) -> Option<TraceEnd>
         CallRefusal::TooSoon { now, earliest } => Some(TraceEnd::TooSoon { now, earliest }),
         CallRefusal::TimedOut { looks } => Some(TraceEnd::TimedOut { looks }),
     }
-}
-
-// The bytes laid over the front of a space.
-fn laid_over(alloc: Global, space: &[u8], bytes: &[u8]) -> Result<Vec<u8>, NoMemory>
-    requires { length bytes.now ≤ length space.now }
-    ensures { IfOk result (λ v. v.items ≡ over space.now bytes.now) }
-{
-    let mut input = Vec::from_slice(alloc, bytes)?;
-    input.extend_from_slice(&space[bytes.len()..])?;
-    Ok(input)
 }

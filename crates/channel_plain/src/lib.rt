@@ -6,7 +6,6 @@ mod ends;
 mod lines;
 mod pick;
 mod plain;
-mod sent;
 mod step;
 mod text;
 mod trace;
@@ -14,7 +13,6 @@ mod weaving;
 mod worked;
 
 pub use plain::Plain;
-pub use sent::{Flight, Sent};
 pub use text::trace_lines;
 pub use trace::{Asked, Side, Trace, TraceEnd, TraceLine};
 pub use weaving::{weave, weave_lines};

@@ -16,7 +16,7 @@ pub(crate) trait LineSink {
     /// From the first of two states to the second, these lines were taken, in order.
     ghost took: { Self → List TraceLine → Self → Type 0 };
 
-    /// Makes room for so many lines. It takes none.
+    /// Makes room for N lines. It takes none.
     fn expect(&mut self, lines: usize) -> Result<(), NoMemory>
         ensures { OnOk result (took self.old [] self.new) };
 

@@ -6,9 +6,9 @@ ghost use Rattle.rate_limit.specs.RateLimits.{WithinLimits};
 ghost use Rattle.pcc_journal.specs.Records.{times_of};
 ghost use Rattle.pcc_steps.specs.Wires.{IsRight};
 ghost use Rattle.channel_plain.specs.Picks.{asks_by, pending_by, picked};
-ghost use Rattle.channel_plain.specs.Holding.{post_of};
+ghost use Rattle.channel_core.specs.Sendings.{post_of};
 ghost use Rattle.channel_plain.specs.Standing.{HavePolls, IsServing, Stands};
-ghost use Rattle.channel_plain.specs.Steps.{Reads};
+ghost use Rattle.channel_plain.specs.Steps.{IsPickAt};
 ghost use Rattle.channel_plain.specs.News.{IsNew};
 ghost use Rattle.channel_plain.specs.Weaving.{PicksOnce};
 ghost use Rattle.channel_plain.specs.Good.{IsGood};
@@ -18,8 +18,8 @@ use crate::pick::Pick;
 use crate::trace::{Asked, Side, TraceLine};
 use pcc_exec::Executor;
 use pcc_io::{Clock, NoMemory};
-use pcc_journal::{Commands, Journal, Pending};
-use pcc_steps::{Wiring, history_laws};
+use pcc_journal::{Commands, Journal, Notes, Pending};
+use pcc_steps::{Wiring, history_laws, is_responder};
 use rate_limit::Limits;
 use std::alloc::Global;
 use std::marker::Model;
@@ -27,8 +27,7 @@ use std::marker::Model;
 /// A channel whose two ends take turns on a plain list of words, with the clock that its asking side reads.
 #[derive(Drop)]
 pub struct Plain<E: Executor, K: Clock> {
-    ends: Ends<E>,
-    clock: K,
+    ends: Ends<E, K>,
 }
 
 impl<E: Executor, K: Clock> Model for Plain<E, K> {
@@ -36,7 +35,7 @@ impl<E: Executor, K: Clock> Model for Plain<E, K> {
 
     ghost Value = { Clocked K };
 
-    ghost view = { λ p. record { channel = p.ends; clock = p.clock } };
+    ghost view = { λ p. p.ends };
 }
 
 impl<E: Executor, K: Clock> Plain<E, K> {
@@ -53,8 +52,8 @@ impl<E: Executor, K: Clock> Plain<E, K> {
         ensures new { IfOk result (λ p. IsNew wiring limits (E.state device) p.channel) }
         ensures clock { IfOk result (λ p. p.clock ≡ clock) }
     {
-        let ends = Ends::new(alloc, wiring, device, limits)?;
-        Ok(Plain { ends, clock })
+        let ends = Ends::new(alloc, wiring, device, limits, clock)?;
+        Ok(Plain { ends })
     }
 
     /// One pick of a side, for the calls, which are the same at each pick: its next word step, or none. It takes all its memory before it
@@ -67,7 +66,7 @@ impl<E: Executor, K: Clock> Plain<E, K> {
         ensures err { OnErr result (self.new ≡ self.old) }
         ensures serving { IsServing calls.now self.new.channel }
 
-        // What holds before and behind each pick: the relation of the words with both ends and their histories, and what the journal is worth.
+        // What holds before and after each pick: the relation of the words with both ends and their histories, and what the journal is worth.
         ensures stood { Stands E.exec_of E.is_state E.room_of self.old.channel }
         ensures stands { Stands E.exec_of E.is_state E.room_of self.new.channel }
         ensures good { IsGood E.exec_of self.new.channel }
@@ -93,12 +92,12 @@ impl<E: Executor, K: Clock> Plain<E, K> {
     fn side_pick(&mut self, side: Side, calls: &[Asked]) -> Result<Pick, NoMemory>
         requires polls { HavePolls calls.now }
         requires serving { IsServing calls.now self.old.channel }
-        ensures ok { IfOk result (λ pick. Reads K.taken K.tells self.old.clock self.new.clock
+        ensures ok { IfOk result (λ pick. IsPickAt K.taken K.tells self.old.clock self.new.clock
             (λ r. picked E.exec_of calls.now side r self.old.channel) self.new.channel pick) }
         ensures err { OnErr result (self.new ≡ self.old) }
     {
         if asks(self.ends.wiring(), side) {
-            return self.ends.ask_pick(calls, &mut self.clock);
+            return self.ends.ask_pick(calls);
         }
         Ok(self.ends.answer_pick())
     }
@@ -108,6 +107,13 @@ impl<E: Executor, K: Clock> Plain<E, K> {
         ensures { result.now.items ≡ self.now.channel.calls.records }
     {
         self.ends.journal()
+    }
+
+    /// The notes beside the records.
+    pub fn notes(&self) -> &Notes
+        ensures { result.now.items ≡ self.now.channel.calls.notes }
+    {
+        self.ends.notes()
     }
 
     /// The command in flight.
@@ -130,7 +136,7 @@ fn asks(wiring: &Wiring, side: Side) -> bool
     ensures { result ≡ asks_by wiring.now.kind side }
 {
     match side {
-        Side::System => wiring.kind != 4,
-        Side::Platform => wiring.kind == 4,
+        Side::System => !is_responder(wiring.kind),
+        Side::Platform => is_responder(wiring.kind),
     }
 }

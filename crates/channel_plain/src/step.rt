@@ -1,7 +1,6 @@
 //! The device's turn, and what a step needs to know of its bytes.
 
 ghost use Rattle.std.specs.Prelude.{◌≡◌, ◌<◌, ◌^◌, []};
-ghost use Rattle.pcc_bytes.specs.Bytes.{IsBytes};
 ghost use Rattle.pcc_steps.specs.Agree.{settle};
 ghost use Rattle.channel_plain.specs.Picks.{started_at};
 ghost use Rattle.channel_plain.specs.Steps.{IsSettled, SettlesIf};
@@ -10,13 +9,6 @@ use crate::trace::Asked;
 use channel_core::Executed;
 use pcc_exec::Executor;
 use pcc_steps::{Action, AnswerState, answer_next, answer_ran, answer_space, answer_start};
-
-/// A slice of bytes has bytes. It does nothing.
-pub(crate) fn fit(bytes: &[u8])
-    ensures { IsBytes bytes.now }
-{
-    let _ = bytes;
-}
 
 /// A code has 32 bits. It does nothing.
 pub(crate) fn fit_code(call: &Asked)

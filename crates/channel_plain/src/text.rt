@@ -57,7 +57,7 @@ fn put_action(out: &mut Vec<u8>, action: Action, value: u64) -> Result<(), NoMem
     }
 }
 
-// A call that ends without a word step is told in place of one.
+// A call that ends without a word step is reported in place of one.
 fn put_step(out: &mut Vec<u8>, line: &TraceLine) -> Result<(), NoMemory>
     ensures { OnOk result (out.new.items ≡ out.old.items ++ spelled (step_words line.now)) }
 {
@@ -146,7 +146,7 @@ fn put_trace(out: &mut Vec<u8>, lines: &[TraceLine]) -> Result<(), NoMemory>
     Ok(())
 }
 
-/// The text of a trace, a line for each pick. A call that ends without a word step is told in place of one.
+/// The text of a trace, a line for each pick. A call that ends without a word step is reported in place of one.
 pub fn trace_lines(alloc: Global, trace: &Trace) -> Result<Vec<u8>, NoMemory>
     ensures { IfOk result (λ text. text.items ≡ trace_text trace.now) }
 {

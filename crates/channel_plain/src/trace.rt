@@ -10,7 +10,7 @@ pub enum Side {
     Platform,
 }
 
-/// A call: a command of this code with the bytes that are laid over the front of the space. It is given up after so many looks, from 1 to
+/// A call: a command of this code with the bytes that are laid over the front of the space. It is given up after N looks, from 1 to
 /// 1,000,000.
 #[derive(Debug, Drop)]
 pub struct Asked {

@@ -22,14 +22,15 @@ use Rattle.pcc_journal.specs.Records.{exchanges_of, exchanges_of_commands, times
 use Rattle.pcct_table.specs.declared.subspace.Subspace.{Subspace}
 use Rattle.pcct_table.specs.declared.table.Table.{Table}
 use Rattle.pcc_steps.specs.declared.wiring.Wiring.{Wiring}
-use Rattle.channel_plain.specs.declared.sent.Sent.{Sent}
+use Rattle.channel_core.specs.declared.sent.Sent.{Sent}
 use Rattle.channel_plain.specs.declared.trace.Asked.{Asked}
 use Rattle.channel_plain.specs.declared.trace.Side.{Side}
 use Rattle.channel_plain.specs.declared.trace.TraceLine.{TraceLine}
 use Rattle.channel_plain.specs.Good.{IsGood, Stays}
-use Rattle.channel_plain.specs.Holding.{Takes, post_of}
+use Rattle.channel_core.specs.Sendings.{command_of, post_of}
+use Rattle.channel_plain.specs.Holding.{Takes}
 use Rattle.channel_plain.specs.News.{IsNew, opening_of}
-use Rattle.channel_plain.specs.Picks.{CallBook, PlainState, command_in, pending_by}
+use Rattle.channel_plain.specs.Picks.{CallsState, PlainState, pending_by}
 use Rattle.channel_plain.specs.Standing.{HavePolls}
 use Rattle.channel_plain.specs.TraceText.{trace_text}
 use Rattle.channel_plain.specs.Weaving.{Readings, reads, unread}
@@ -69,10 +70,10 @@ one_reading : (s : Scenario) (rs : List ℕ) (m m' : LineState) (r : ℕ) → le
 one_reading s rs m m' r small takes t =
     let count : m.taken ≡ length rs = t.count in
     let len : length (rs ++ r ∷ []) ≡ length rs + 1 = length-append rs (r ∷ []) in
-    let taken : m'.taken ≡ min (m.taken + 1) (2 ^ 64 - 1) = takes.0 in
-    let told : IfSome (line_tells m m.taken) (λ x. r ≡ x) = takes.1 (omega arith) in
+    let taken : m'.taken ≡ min (m.taken + 1) (2 ^ 64 - 1) = takes.count in
+    let told : IfSome (line_tells m m.taken) (λ x. r ≡ x) = takes.reading (omega arith) in
     let here : r ≡ line_reading s.start s.step 0 m.taken = told_is (line_tells m m.taken) (line_reading s.start s.step 0 m.taken) r (t.told m.taken ∙ all_told s m.taken) told in
-    record { told = λ k. takes.2 k ∙ t.told k; count = omega arith; read = λ k lt. by_place (ltb k (length rs)) k refl (omega arith) here }
+    record { told = λ k. takes.told k ∙ t.told k; count = omega arith; read = λ k lt. by_place (ltb k (length rs)) k refl (omega arith) here }
   where
     seam : (k : ℕ) → k ≡ length rs → r ≡ line_reading s.start s.step 0 m.taken → get_or (rs ++ r ∷ []) k 0 ≡ line_reading s.start s.step 0 k
     seam k e here = ap (λ (n : ℕ). get_or (rs ++ r ∷ []) n 0) e ∙ get_or-append_seam rs r [] 0 ∙ here ∙ ap (line_reading s.start s.step 0) (t.count ∙ sym e)
@@ -107,7 +108,7 @@ limits_flown l ts true o h = h
 limits_flown l ts false None h = h
 limits_flown l ts false (Some sent) h = without l ts sent.command.post h
 
-pending_flown : (b : Bool) (o : Option Sent) → pending_by b o ≡ command_in (flown b o)
+pending_flown : (b : Bool) (o : Option Sent) → pending_by b o ≡ command_of (flown b o)
 pending_flown true o = refl
 pending_flown false o = refl
 
@@ -140,7 +141,7 @@ is_woven s t o u letters w limits state begin end clock0 clock calls sides trace
     let n : length (map side_of letters) ≡ length letters = length-map letters side_of in
     let m : length sides ≡ length (map side_of letters) = ap length sided in
     let wires : begin.ask.wiring ≡ wiring_with o.id t.flags u = new.ask.0 ∙ wired in
-    let lims : begin.calls.limits ≡ (head_of o.id u).limits = ap (λ (k : CallBook). k.limits) new.calls ∙ limited in
+    let lims : begin.calls.limits ≡ (head_of o.id u).limits = ap (λ (k : CallsState). k.limits) new.calls ∙ limited in
     let start : begin.start ≡ 0 ∷ replicate (head_of o.id u).room 0 = new.start ∙ stated in
     let R : Wiring × Limits × List ℕ × List Asked × List Side → Type 0 = λ z. WordRun bank_exec z.0 z.1 z.2 (opening_of z.0) z.3 z.4 trace rs end.calls.records (flown end.ask.in_flight end.calls.sent) (exchanges_of_commands end.executed) in
     let C : LineState → Type 0 = λ c. Readings ticks_of line_tells c rs clock in

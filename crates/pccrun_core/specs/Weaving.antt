@@ -15,13 +15,12 @@ use Rattle.pcc_script.specs.declared.scenario.Line.TheVariants as line
 use Rattle.pcc_script.specs.declared.scenario.Scenario.{Scenario}
 use Rattle.pcct_table.specs.declared.subspace.Subspace.{Subspace}
 use Rattle.pcct_table.specs.declared.table.Table.{Table}
-use Rattle.channel_plain.specs.declared.sent.Sent.{Sent}
+use Rattle.channel_core.specs.declared.sent.Sent.{Sent}
 use Rattle.channel_plain.specs.declared.trace.Asked.{Asked}
 use Rattle.channel_plain.specs.declared.trace.Side.{Side}
 use Rattle.channel_plain.specs.declared.trace.Side.TheVariants as side
 use Rattle.channel_plain.specs.declared.trace.TraceLine.{TraceLine}
-use Rattle.channel_plain.specs.Holding.{post_of}
-use Rattle.channel_plain.specs.Picks.{command_in}
+use Rattle.channel_core.specs.Sendings.{command_of, post_of}
 use Rattle.channel_plain.specs.TraceText.{trace_text}
 use Rattle.channel_plain.specs.Wholes.{IsWhole}
 use Rattle.channel_plain.specs.WordRuns.{WordRun}
@@ -78,7 +77,7 @@ pub record IsWoven (s : Scenario) (t : Table) (text : List ℕ) : Type 0 where
   pub headline : WordHeadline bank_exec (wiring_with open_line.id t.flags subspace) (head_of open_line.id subspace).limits
       (0 ∷ replicate (head_of open_line.id subspace).room 0) (replicate (head_of open_line.id subspace).room 0) (map asked_by s.actions)
       trace readings records sent
-  pub text_is : text ≡ trace_text trace ++ journal_text (head_of open_line.id subspace) records (command_in sent)
+  pub text_is : text ≡ trace_text trace ++ journal_text (head_of open_line.id subspace) records (command_of sent)
 
 -- ---- what is woven
 

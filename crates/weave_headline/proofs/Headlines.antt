@@ -13,23 +13,20 @@ use Rattle.pcc_journal.specs.Records.{exchanges_of}
 use Rattle.pcc_journal.specs.Events.{noted, noted_pending}
 use Rattle.pcc_steps.specs.declared.wiring.Wiring.{Wiring}
 use Rattle.pcc_steps.specs.Runs.{look_run}
-use Rattle.channel_plain.specs.declared.sent.Sent.{Sent}
+use Rattle.channel_core.specs.declared.sent.Sent.{Sent}
+use Rattle.channel_core.specs.Sendings.{command_of}
 use Rattle.channel_plain.specs.declared.trace.Side.{Side}
 use Rattle.channel_plain.specs.declared.trace.Asked.{Asked}
 use Rattle.channel_plain.specs.declared.trace.TraceLine.{TraceLine}
-use Rattle.channel_plain.specs.Picks.{command_in, sent_by}
-use Rattle.channel_plain.specs.WordRuns.{Calls, Cut, IsAsking, WordRun, asked_line, looking, posts_call, sending, whole}
+use Rattle.channel_plain.specs.Picks.{sent_by}
+use Rattle.channel_plain.specs.WordRuns.{Calls, Cut, IsAsking, WordRun, asked_line, from_opening, looking, posts_call, reading_at, sending, whole}
+use Rattle.channel_headline.proofs.WholeRuns.{all_ended}
 use Rattle.channel_headline.specs.Headline.{Headline}
 use Rattle.channel_headline.specs.Lines.{AreEnded, CallLine, HasReply, asked_by}
 use Rattle.weave_headline.specs.TraceLog.{TraceLog, empty_log, line_of, lines_in, log_from, log_of, open_line}
 use Rattle.weave_headline.specs.WordHeadline.{WordHeadline, journal_of, terms_of}
 use Rattle.weave_headline.proofs.Points.{IsLost, Point, headline_at, lost, lost_note, note_of, nothing}
 use Rattle.weave_headline.proofs.Turns.{Flies, Holds, Rests, late, log_append, log_walk, owned, quiet, turns_hold}
-
-all_ended : (ls : List CallLine) → AllByRecursion (λ l. HasReply l.reply) ls → AreEnded ls
-all_ended [] h = tt
-all_ended (l ∷ []) h = tt
-all_ended (l ∷ m ∷ ls) h = (h.0, all_ended (m ∷ ls) h.1)
 
 ended_before : (ls : List CallLine) (l : CallLine) → AllByRecursion (λ x. HasReply x.reply) ls → AreEnded (ls ++ l ∷ [])
 ended_before [] l h = tt
@@ -40,12 +37,13 @@ module _ (exec : Device) (w : Wiring) (limits : Limits) (start opening : List �
   -- the headline with a command in flight, its note, and the lines
   abbrev Keeps : Calls → TraceLog → Option Sent → Option Note → List CallLine → Type 0
   Keeps s g sent flight lines = Headline (terms_of exec w limits start opening) s.readings (take (length s.records) (asked_by lines)) lines
-      (record { entries = noted s.records g.notes; pending = noted_pending (command_in sent) flight })
+      (record { entries = noted s.records g.notes; pending = noted_pending (command_of sent) flight })
 
   no_open : (g : TraceLog) → g.unended ≡ false → lines_in w calls g ≡ g.calls
   no_open g e = ap (λ (b : Bool). g.calls ++ open_line w calls b (slice_get calls (length g.calls))) e ∙ append-nil g.calls
 
-  keeps : (s : Calls) (g : TraceLog) → Legal exec w.reports start (exchanges_of s.records) → Holds exec w limits start opening calls s g → Flies exec w limits start opening calls s g → Keeps s g s.sent g.flight (lines_in w calls g)
+  keeps : (s : Calls) (g : TraceLog) → Legal exec w.reports start (exchanges_of s.records) → Holds exec w limits start opening calls s g
+      → Flies exec w limits start opening calls s g → Keeps s g s.sent g.flight (lines_in w calls g)
   keeps s g legal h (quiet a f u p) =
       let one : Keeps s g None None g.calls = headline_at exec w limits start opening s.space s.readings s.records g.notes None g.calls legal (all_ended g.calls h.replies) p in
       subst (λ (o : Option Sent). Keeps s g o g.flight (lines_in w calls g)) (sym a) (subst (λ (o : Option Note). Keeps s g None o (lines_in w calls g)) (sym f) (subst (λ (v : List CallLine). Keeps s g None None v) (sym (no_open g u)) one))
@@ -54,7 +52,7 @@ module _ (exec : Device) (w : Wiring) (limits : Limits) (start opening : List �
       subst (λ (o : Option Sent). Keeps s g o g.flight (lines_in w calls g)) (sym a) (subst (λ (o : Option Note). Keeps s g (Some p) o (lines_in w calls g)) (sym f) (subst (λ (v : List CallLine). Keeps s g (Some p) (Some n) v) (sym (no_open g u)) one))
   keeps s g legal h (owned c rs r a f u e b at pass room le p) =
       let k : CallLine = line_of c None 0 in
-      let sent : Sent = sent_by c s.space r in
+      let sent : Sent = sent_by c s.space (reading_at rs r) in
       let n : Note = note_of (length rs) 0 0 in
       let is : IsLost exec w limits start opening k 0 = record { posted = refl; unsoon = refl; matches = λ before post number. (((refl, refl, refl), refl), tt); cause = λ qs es ls ok. ok } in
       let P : List ℕ → Type 0 = λ v. Point exec w limits start opening s.space v s.records g.notes (Some (lost_note sent.command (length rs) 0)) (g.calls ++ k ∷ []) in
@@ -73,11 +71,11 @@ module _ (exec : Device) (w : Wiring) (limits : Limits) (start opening : List �
   cut_log : (s : Calls) (ls : List TraceLine) (rs : List ℕ) (g : TraceLog) → Cut w limits calls s ls rs
       → (run : List TraceLine) × (log_from w calls g ls ≡ record g { run = run }) × (length rs ≤ 1)
   cut_log s ls rs g (whole _) = (g.run, refl, omega arith)
-  cut_log s ls rs g (sending _ s' c r l ms rest sv free le walks left) = (g.run ++ l ∷ ms, log_walk w calls (posts_call w c s'.space) rest (l ∷ ms) g walks, omega arith)
+  cut_log s ls rs g (sending _ s' c r l ms rest sv free le walks left) = (g.run ++ l ∷ ms, log_walk w calls (posts_call w c s'.block) rest (l ∷ ms) g walks, omega arith)
   cut_log s ls rs g (looking _ s' c p l ms rest sv es walks left) = (g.run ++ l ∷ ms, log_walk w calls (look_run w) rest (l ∷ ms) g walks, omega arith)
 
   abbrev first : Calls
-  first = record { ended = 0; begun = false; looks = 0; sent = None; space = opening; records = []; readings = [] }
+  first = from_opening w limits calls opening
 
   first_holds : Rests exec w limits start opening calls first empty_log
   first_holds = record { told = record { ended = refl; taken = refl; replies = tt; serves = λ b. absurd (no b); flies = quiet refl refl refl (nothing exec w limits start opening) }; rest = refl }
@@ -117,7 +115,8 @@ module _ (exec : Device) (w : Wiring) (limits : Limits) (start opening : List �
       subst G (sym logged) (subst S (sym a.flies) (subst R (sym a.kept) (subst H (sym front) kept, least, most)))
 
   pub word_headline : (picks : List Side) (trace : List TraceLine) (readings : List ℕ) (records : List Record) (sent : Option Sent) (executed : List Exchange)
-      → WordRun exec w limits start opening calls picks trace readings records sent executed → Legal exec w.reports start (exchanges_of records) → WordHeadline exec w limits start opening calls trace readings records sent
+      → WordRun exec w limits start opening calls picks trace readings records sent executed → Legal exec w.reports start (exchanges_of records)
+      → WordHeadline exec w limits start opening calls trace readings records sent
   word_headline picks trace readings records sent executed run legal =
       let t = asking_told (filter (asked_line w.kind) trace) readings records sent legal run.asking in
       record { kept = t.0; more = (t.1, t.2) }

@@ -25,39 +25,14 @@ use Rattle.channel_headline.specs.Causes.{AllCaused, HasCause, IsTooSoon, Past, 
 use Rattle.channel_headline.specs.Headline.{Headline, pending_count, pending_post}
 use Rattle.channel_headline.specs.Lines.{AreEnded, CallLine, asked_by, mine_of, soon_lines, soon_numbers, was_posted, was_too_soon}
 use Rattle.channel_headline.specs.Matches.{AllMatch, Matches, Placed, Tied, own_calls, placed}
+use Rattle.channel_headline.proofs.Histories.{WholeHistory-length, WholeHistory-more, space_after-more}
+use Rattle.channel_headline.proofs.WholeRuns.{asked_more, kept_length}
 use Rattle.channel_headline.proofs.Growing.{after-append, all_last, all_read, match_drained, match_more, match_quiet, one_match, reading_first, reading_second, rise_events, rise_higher, soon_count, soon_more, soon_other}
 use Rattle.channel_headline.proofs.Owned.{own_length}
 use Rattle.channel_headline.proofs.Points.{causes_last, causes_more, from_zero}
 use Rattle.weave_headline.specs.WordHeadline.{terms_of}
 
 -- ---- lists that grow
-
-whole_more : (space : List ℕ) (xs : List Exchange) (bs : List (List ℕ)) (x : Exchange) (b : List ℕ) → WholeHistory space xs bs → x.input ≡ over (space_after space xs) b → WholeHistory space (xs ++ x ∷ []) (bs ++ b ∷ [])
-whole_more space [] [] x b h e = (e, tt)
-whole_more space [] (c ∷ cs) x b h e = absurd h
-whole_more space (y ∷ ys) [] x b h e = absurd h
-whole_more space (y ∷ ys) (c ∷ cs) x b h e = (h.0, whole_more y.output ys cs x b h.1 e)
-
-space_more : (space : List ℕ) (xs : List Exchange) (x : Exchange) → space_after space (xs ++ x ∷ []) ≡ x.output
-space_more space [] x = refl
-space_more space (y ∷ ys) x = space_more y.output ys x
-
-whole_length : (space : List ℕ) (xs : List Exchange) (asked : List (List ℕ)) → WholeHistory space xs asked → length asked ≡ length xs
-whole_length space [] [] h = refl
-whole_length space [] (a ∷ asked) h = absurd h
-whole_length space (x ∷ xs) [] h = absurd h
-whole_length space (x ∷ xs) (a ∷ asked) h = grind (arith, whole_length x.output xs asked h.1)
-
-one_asked : (b : Bool) (l : CallLine) → map (λ (x : CallLine). x.bytes) (cond b (l ∷ []) []) ≡ cond b (l.bytes ∷ []) []
-one_asked true l = refl
-one_asked false l = refl
-
-asked_more : (lines : List CallLine) (l : CallLine) → asked_by (lines ++ l ∷ []) ≡ asked_by lines ++ cond (was_posted l.reply) (l.bytes ∷ []) []
-asked_more lines l =
-    let posted : CallLine → Bool = λ x. was_posted x.reply in
-    ap (λ (v : List CallLine). map (λ (x : CallLine). x.bytes) v) (filter-append posted lines (l ∷ []))
-    ∙ map-append (λ (x : CallLine). x.bytes) (filter posted lines) (filter posted (l ∷ []))
-    ∙ ap (λ (v : List (List ℕ)). asked_by lines ++ v) (one_asked (was_posted l.reply) l)
 
 asked_posted : (lines : List CallLine) (l : CallLine) → was_posted l.reply ≡ true → asked_by (lines ++ l ∷ []) ≡ asked_by lines ++ l.bytes ∷ []
 asked_posted lines l e = asked_more lines l ∙ ap (λ (b : Bool). asked_by lines ++ cond b (l.bytes ∷ []) []) e
@@ -90,8 +65,10 @@ pub record Asks (opening space : List ℕ) (records : List Record) (pending : Op
   pub last : space_after opening (exchanges_of records) ≡ space
   pub waits : IsWaiting space pending waiting
 
-asks_recorded : (opening space : List ℕ) (records : List Record) (lines lines' : List CallLine) (answered : List (List ℕ)) (bytes : List ℕ) (r : Record) → WholeHistory opening (exchanges_of records) answered
-    → space_after opening (exchanges_of records) ≡ space → r.input ≡ over space bytes → asked_by lines' ≡ answered ++ bytes ∷ [] → Asks opening r.output (records ++ r ∷ []) None lines'
+asks_recorded : (opening space : List ℕ) (records : List Record) (lines lines' : List CallLine) (answered : List (List ℕ)) (bytes : List ℕ) (r : Record)
+    → WholeHistory opening (exchanges_of records) answered
+    → space_after opening (exchanges_of records) ≡ space → r.input ≡ over space bytes → asked_by lines' ≡ answered ++ bytes ∷ []
+    → Asks opening r.output (records ++ r ∷ []) None lines'
 asks_recorded opening space records lines lines' answered bytes r whole last input parts =
     let more : exchanges_of (records ++ r ∷ []) ≡ exchanges_of records ++ exchange_of_record r ∷ [] = map-append exchange_of_record records (r ∷ []) in
     let V : List Exchange → Type 0 = λ v. WholeHistory opening v (answered ++ bytes ∷ []) in
@@ -99,15 +76,16 @@ asks_recorded opening space records lines lines' answered bytes r whole last inp
       answered = answered ++ bytes ∷ [];
       waiting = [];
       parts = parts ∙ sym (append-nil (answered ++ bytes ∷ []));
-      whole = subst V (sym more) (whole_more opening (exchanges_of records) answered (exchange_of_record r) bytes whole (input ∙ ap (λ (s : List ℕ). over s bytes) (sym last)));
-      last = ap (space_after opening) more ∙ space_more opening (exchanges_of records) (exchange_of_record r);
+      whole = subst V (sym more) (WholeHistory-more opening (exchanges_of records) answered (exchange_of_record r) bytes whole (input ∙ ap (λ (s : List ℕ). over s bytes) (sym last)));
+      last = ap (space_after opening) more ∙ space_after-more opening (exchanges_of records) (exchange_of_record r);
       waits = refl;
     }
 
 times_more : (records : List Record) (r : Record) → times_of (records ++ r ∷ []) ≡ times_of records ++ times_of_record r ∷ []
 times_more records r = map-append times_of_record records (r ∷ [])
 
-within_more : (l : Limits) (records : List Record) (r : Record) → WithinLimits l (times_of records) (Some r.post) → WithinLimits l (times_of (records ++ r ∷ [])) None
+within_more : (l : Limits) (records : List Record) (r : Record) → WithinLimits l (times_of records) (Some r.post)
+    → WithinLimits l (times_of (records ++ r ∷ [])) None
 within_more l records r w =
     let P : List Times → Type 0 = λ v. WithinLimits l v None in
     subst P (sym (times_more records r)) (completion_keeps l (times_of records) (times_of_record r) w)
@@ -159,7 +137,8 @@ module _ (exec : Device) (w : Wiring) (limits : Limits) (start opening : List �
         AllMatch (l ∷ []) (record { event = Lost p looks; before = before } ∷ [])
     pub cause : (rs : List ℕ) (es : List Event) (ls : List CallLine) → Passes l → HasCause T rs es ls l l.reply
 
-  pub lost : (space rs : List ℕ) (records : List Record) (notes : List Note) (lines : List CallLine) (l : CallLine) (looks r : ℕ) → IsLost l looks → Passes l → length records < MAX_ITEMS
+  pub lost : (space rs : List ℕ) (records : List Record) (notes : List Note) (lines : List CallLine) (l : CallLine) (looks r : ℕ) → IsLost l looks → Passes l
+      → length records < MAX_ITEMS
       → earliest_of limits (times_of records) ≤ r → Point space rs records notes None lines
       → Point space (rs ++ r ∷ []) records notes (Some (lost_note (command_of l space r) (length rs) looks)) (lines ++ l ∷ [])
   lost space rs records notes lines l looks r is passes room le h =
@@ -213,7 +192,8 @@ module _ (exec : Device) (w : Wiring) (limits : Limits) (start opening : List �
 
   -- ---- a command is answered
 
-  pub answered : (space rs : List ℕ) (records : List Record) (notes : List Note) (lines : List CallLine) (l : CallLine) (error : Bool) (output : List ℕ) (r d : ℕ) → l.reply ≡ Some (Done error output) → Passes l
+  pub answered : (space rs : List ℕ) (records : List Record) (notes : List Note) (lines : List CallLine) (l : CallLine) (error : Bool) (output : List ℕ) (r d : ℕ)
+      → l.reply ≡ Some (Done error output) → Passes l
       → length records < MAX_ITEMS → earliest_of limits (times_of records) ≤ r → Point space rs records notes None lines
       → Point output (rs ++ r ∷ d ∷ []) (records ++ record_for (command_of l space r) error output d false ∷ []) (notes ++ note_of (length rs) (length rs + 1) 0 ∷ []) None (lines ++ l ∷ [])
   answered space rs records notes lines l error output r d is passes room le h =
@@ -273,7 +253,8 @@ module _ (exec : Device) (w : Wiring) (limits : Limits) (start opening : List �
 
   -- ---- a command that was given up completes
 
-  pub drained : (space rs : List ℕ) (records : List Record) (notes : List Note) (lines : List CallLine) (pn : NotedPending) (error : Bool) (output : List ℕ) (d : ℕ) → Point space rs records notes (Some pn) lines
+  pub drained : (space rs : List ℕ) (records : List Record) (notes : List Note) (lines : List CallLine) (pn : NotedPending) (error : Bool) (output : List ℕ) (d : ℕ)
+      → Point space rs records notes (Some pn) lines
       → Point output (rs ++ d ∷ []) (records ++ record_for pn.command error output d true ∷ []) (notes ++ record pn.note { done_at = length rs } ∷ []) None lines
   drained space rs records notes lines pn error output d h =
       let k : ℕ = length rs in
@@ -316,15 +297,18 @@ module _ (exec : Device) (w : Wiring) (limits : Limits) (start opening : List �
   -- ---- nothing was posted and no reading was taken
 
   -- the events until now, when the caller's earlier lines had been posted
-  abbrev pub now_past : (space rs : List ℕ) (records : List Record) (notes : List Note) (pending : Option NotedPending) (lines : List CallLine) (l : CallLine) (h : Point space rs records notes pending lines) → Past h.events lines l
+  abbrev pub now_past : (space rs : List ℕ) (records : List Record) (notes : List Note) (pending : Option NotedPending) (lines : List CallLine) (l : CallLine) (h : Point space rs records notes pending lines)
+      → Past h.events lines l
   now_past space rs records notes pending lines l h =
       record { past = h.events; later = []; parts = sym (append-nil h.events); own = own_length l.caller (before_all opening) h.events (mine_of l.caller lines) (h.own l.caller) }
 
-  waits_still : (space : List ℕ) (lines : List CallLine) (l : CallLine) (records : List Record) (pending : Option NotedPending) → was_posted l.reply ≡ false → Asks opening space records pending lines → Asks opening space records pending (lines ++ l ∷ [])
+  waits_still : (space : List ℕ) (lines : List CallLine) (l : CallLine) (records : List Record) (pending : Option NotedPending) → was_posted l.reply ≡ false
+      → Asks opening space records pending lines → Asks opening space records pending (lines ++ l ∷ [])
   waits_still space lines l records pending e a =
       record { answered = a.answered; waiting = a.waiting; parts = asked_other lines l e ∙ a.parts; whole = a.whole; last = a.last; waits = a.waits }
 
-  pub refused : (space rs : List ℕ) (records : List Record) (notes : List Note) (pending : Option NotedPending) (lines : List CallLine) (l : CallLine) → was_posted l.reply ≡ false → was_too_soon l.reply ≡ false
+  pub refused : (space rs : List ℕ) (records : List Record) (notes : List Note) (pending : Option NotedPending) (lines : List CallLine) (l : CallLine)
+      → was_posted l.reply ≡ false → was_too_soon l.reply ≡ false
       → (h : Point space rs records notes pending lines) → HasCause T rs h.events lines l l.reply → Point space rs records notes pending (lines ++ l ∷ [])
   refused space rs records notes pending lines l unposted unsoon h cause =
       let soons : length (soon_lines (lines ++ l ∷ [])) ≡ length (soon_lines lines) = soons_same lines l unsoon in
@@ -348,8 +332,10 @@ module _ (exec : Device) (w : Wiring) (limits : Limits) (start opening : List �
 
   -- ---- a call was too soon
 
-  pub too_soon : (space rs : List ℕ) (records : List Record) (notes : List Note) (lines : List CallLine) (l : CallLine) (r : ℕ) → l.reply ≡ Some (TooSoon r (earliest_of limits (times_of records))) → l.number ≡ length rs
-      → Passes l → r < earliest_of limits (times_of records) → Point space rs records notes None lines → Point space (rs ++ r ∷ []) records notes None (lines ++ l ∷ [])
+  pub too_soon : (space rs : List ℕ) (records : List Record) (notes : List Note) (lines : List CallLine) (l : CallLine) (r : ℕ)
+      → l.reply ≡ Some (TooSoon r (earliest_of limits (times_of records))) → l.number ≡ length rs
+      → Passes l → r < earliest_of limits (times_of records) → Point space rs records notes None lines
+      → Point space (rs ++ r ∷ []) records notes None (lines ++ l ∷ [])
   too_soon space rs records notes lines l r is at passes below h =
       let earliest : ℕ = earliest_of limits (times_of records) in
       let k : ℕ = length rs in
@@ -412,15 +398,14 @@ module _ (exec : Device) (w : Wiring) (limits : Limits) (start opening : List �
     asks = record { answered = []; waiting = []; parts = refl; whole = tt; last = refl; waits = refl };
   }
 
-  kept_length : (rs : List Record) (ns : List Note) → length (noted rs ns) ≡ length rs
-  kept_length rs ns = sym (length-map (noted rs ns) (λ (n : Noted). n.entry)) ∙ ap (λ (v : List Record). length v) (noted_records rs ns)
-
-  pub headline_at : (space rs : List ℕ) (records : List Record) (notes : List Note) (pending : Option NotedPending) (lines : List CallLine) → Legal exec w.reports start (exchanges_of records) → AreEnded lines
-      → Point space rs records notes pending lines → Headline T rs (take (length records) (asked_by lines)) lines (record { entries = noted records notes; pending = pending })
+  pub headline_at : (space rs : List ℕ) (records : List Record) (notes : List Note) (pending : Option NotedPending) (lines : List CallLine)
+      → Legal exec w.reports start (exchanges_of records) → AreEnded lines
+      → Point space rs records notes pending lines
+      → Headline T rs (take (length records) (asked_by lines)) lines (record { entries = noted records notes; pending = pending })
   headline_at space rs records notes pending lines legal ended p =
       let asks = p.asks in
       let asked : List (List ℕ) = take (length records) (asked_by lines) in
-      let n : length asks.answered ≡ length records = whole_length opening (exchanges_of records) asks.answered asks.whole ∙ length-map records exchange_of_record in
+      let n : length asks.answered ≡ length records = WholeHistory-length opening (exchanges_of records) asks.answered asks.whole ∙ length-map records exchange_of_record in
       let fits : length records ≤ length asks.answered = omega (arith, n) in
       let all : length asks.answered ≤ length records = omega (arith, n) in
       let same : asked ≡ asks.answered = ap (take (length records)) asks.parts ∙ take-append-le (length records) asks.answered asks.waiting fits ∙ take_all (length records) asks.answered all in

@@ -72,7 +72,7 @@ abbrev pub drained_by : Option Note → TraceLog → TraceLog
 drained_by None s = s
 drained_by (Some n) s = record s { taken = s.taken + 1; notes = s.notes ++ record n { done_at = s.taken } ∷ []; flight = None }
 
--- the command in flight is given up after so many looks
+-- the command in flight is given up after N looks
 abbrev pub given_up_after : ℕ → Option Note → Option Note
 given_up_after looks None = None
 given_up_after looks (Some n) = Some (record n { looks = looks })

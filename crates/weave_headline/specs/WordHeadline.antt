@@ -6,10 +6,10 @@ use Rattle.rate_limit.specs.declared.Limits.{Limits}
 use Rattle.pcc_journal.specs.declared.record.Record.{Record}
 use Rattle.pcc_journal.specs.Events.{noted, noted_pending}
 use Rattle.pcc_steps.specs.declared.wiring.Wiring.{Wiring}
-use Rattle.channel_plain.specs.declared.sent.Sent.{Sent}
+use Rattle.channel_core.specs.declared.sent.Sent.{Sent}
 use Rattle.channel_plain.specs.declared.trace.Asked.{Asked}
 use Rattle.channel_plain.specs.declared.trace.TraceLine.{TraceLine}
-use Rattle.channel_plain.specs.Picks.{command_in}
+use Rattle.channel_core.specs.Sendings.{command_of}
 use Rattle.channel_plain.specs.WordRuns.{asked_line}
 use Rattle.channel_headline.specs.Causes.{Terms}
 use Rattle.channel_headline.specs.Headline.{Headline, NotedJournal}
@@ -34,7 +34,7 @@ trace_log w calls trace = log_of w calls (filter (asked_line w.kind) trace)
 
 -- the records and the command in flight, with the notes of the log
 abbrev pub journal_of : TraceLog → List Record → Option Sent → NotedJournal
-journal_of s records sent = record { entries = noted records s.notes; pending = noted_pending (command_in sent) s.flight }
+journal_of s records sent = record { entries = noted records s.notes; pending = noted_pending (command_of sent) s.flight }
 
 -- The headline of a channel, by its wiring and limits, its calls, its trace with the readings that it took, and what is left of it. The lines and
 -- the notes are those of the trace. A post that is cut before its end has taken one reading more, which is last and is no command's. The bytes

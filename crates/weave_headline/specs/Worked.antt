@@ -1,23 +1,19 @@
 -- The log and the headline of worked traces: a space of eight bytes before a Bank, whose clock gives 0, 10, 20 ..
 use Rattle.std.specs.Prelude.{ℕ, false, List, [], ◌∷◌, ◌++◌, Option}
 use Rattle.pcc_history.specs.Devices.{bank_exec}
-use Rattle.pcc_journal.specs.declared.note.Note.{Note}
 use Rattle.pcc_journal.specs.declared.record.Record.{Record}
 use Rattle.pcc_steps.specs.declared.wiring.Action.TheVariants.{Load, Store, Swap}
 use Rattle.pcc_steps.specs.declared.wiring.Wiring.{Wiring}
-use Rattle.channel_plain.specs.declared.sent.Sent.{Sent}
+use Rattle.channel_core.specs.declared.sent.Sent.{Sent}
 use Rattle.channel_plain.specs.declared.trace.Asked.{Asked}
 use Rattle.channel_plain.specs.declared.trace.Side.TheVariants.{System, Platform}
 use Rattle.channel_plain.specs.declared.trace.TraceEnd.TheVariants.{Clear, Done, Late, Open, Posted, Served, StillPending, TimedOut}
 use Rattle.channel_plain.specs.declared.trace.TraceLine.{TraceLine}
-use Rattle.channel_plain.specs.WorkedPicks.{line, no_bytes, swap_call, wired}
+use Rattle.channel_plain.specs.WorkedPicks.{line, no_bytes, note_at, swap_call, wired}
 use Rattle.weave_headline.specs.WordHeadline.{WordHeadline}
 
 abbrev pub plain : Wiring
 plain = wired 0 false false
-
-abbrev pub note_at : ℕ → ℕ → ℕ → Note
-note_at post done looks = record { post_at = post; done_at = done; looks = looks }
 
 -- a command is posted, executed and drained
 abbrev pub one_call : List Asked
@@ -66,5 +62,5 @@ Keeps = WordHeadline bank_exec plain (record { turnaround = 0; per_minute = 0 })
 abbrev pub posted_command : Sent
 posted_command = record {
   command = record { caller = 0; code = 16; input = 1 ∷ 2 ∷ 0 ∷ 0 ∷ 0 ∷ 0 ∷ 0 ∷ 0 ∷ []; post = 0 };
-  late = false;
+  note = note_at 0 0 0;
 }

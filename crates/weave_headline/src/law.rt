@@ -7,7 +7,7 @@ ghost use Rattle.rate_limit.specs.declared.Limits.{Limits};
 ghost use Rattle.pcc_journal.specs.declared.record.Record.{Record};
 ghost use Rattle.pcc_journal.specs.Records.{exchanges_of};
 ghost use Rattle.pcc_steps.specs.declared.wiring.Wiring.{Wiring};
-ghost use Rattle.channel_plain.specs.declared.sent.Sent.{Sent};
+ghost use Rattle.channel_core.specs.declared.sent.Sent.{Sent};
 ghost use Rattle.channel_plain.specs.declared.trace.Side.{Side};
 ghost use Rattle.channel_plain.specs.declared.trace.Asked.{Asked};
 ghost use Rattle.channel_plain.specs.declared.trace.TraceLine.{TraceLine};

@@ -1,10 +1,10 @@
 //! The log of a trace and the headline, evaluated on worked traces and on wrong journals.
 ghost use Rattle.std.specs.Prelude.{◌≡◌, [], ◌∷◌, Some, None, false, true};
 ghost use Rattle.channel_turns.specs.Replies.{Done, StillPending, TimedOut};
-ghost use Rattle.channel_plain.specs.WorkedPicks.{kept, no_bytes, swap_call};
+ghost use Rattle.channel_plain.specs.WorkedPicks.{kept, no_bytes, note_at, swap_call};
 ghost use Rattle.weave_headline.specs.TraceLog.{line_of, lines_in};
 ghost use Rattle.weave_headline.specs.WordHeadline.{trace_log};
-ghost use Rattle.weave_headline.specs.Worked.{Keeps, cut_trace, late_trace, note_at, one_call, one_trace, plain, posted_command, posted_trace, three_calls};
+ghost use Rattle.weave_headline.specs.Worked.{Keeps, cut_trace, late_trace, one_call, one_trace, plain, posted_command, posted_trace, three_calls};
 
 /// What worked traces say of their lines and notes. It does nothing.
 pub fn worked_logs()
