@@ -1,21 +1,20 @@
 -- The asking machine's word steps, one after the other.
-use Rattle.std.proofs.Common.{◌≡◌, ◌≢◌, ℕ, zero, suc, ◌+◌, ◌-◌, ◌^◌, ◌<◌, ◌≤◌, Bool, true, false, cond, ltb, eqb, List, length, refl, sym, ap, ◌∙◌, subst, arith}
+use Rattle.std.proofs.Common.{◌≡◌, ◌≢◌, ℕ, zero, suc, ◌+◌, ◌-◌, ◌^◌, ◌<◌, ◌≤◌, Bool, true, false, List, length, refl, sym, ap, ◌∙◌, subst, arith}
 use Rattle.std.specs.Prelude.{Option, Some, None, get_or}
 use Rattle.pcc_history.specs.Channel.{Exchange}
 use Rattle.pcc_steps.specs.declared.wiring.Wiring.{Wiring}
 use Rattle.pcc_steps.specs.declared.wiring.Style.{Style}
 use Rattle.pcc_steps.specs.declared.wiring.Style.TheVariants.{Headed, Joined3, Separate3, Joined4, Separate4, Reduced5}
-use Rattle.pcc_steps.specs.declared.wiring.Action.{Action}
 use Rattle.pcc_steps.specs.declared.ask.AskStage.{AskStage}
 use Rattle.pcc_steps.specs.declared.ask.AskStage.TheVariants.{AskRest, PostBlock, PostHeader, PostUpdateLoad, PostUpdateStore, PostMarkLoad, PostMarkStore, PostBellLoad, PostBellStore, PostLine, LookWord, LookError, LookBlock, LookLine, LookLineStore, LookAckLoad, LookAckStore}
 use Rattle.pcc_steps.specs.declared.ask.AskOutcome.{AskOutcome}
 use Rattle.pcc_steps.specs.declared.ask.AskOutcome.TheVariants.{Posted, Clear, Drained}
 use Rattle.pcc_steps.specs.Wires.{style_of, block_of, sees_done, tells_error, acknowledges}
-use Rattle.pcc_steps.specs.Runs.{Run, ends, loads, stores, swaps, executes, Within}
-use Rattle.pcc_steps.specs.Walk.{ask_left, ask_after, Takes}
+use Rattle.pcc_steps.specs.Runs.{Within}
+use Rattle.pcc_steps.specs.Walk.{ask_left, ask_after}
 use Rattle.pcc_steps.specs.Asking.{Ask, AskOk, Flies, PostsLeft, ask_stepped, look_told, IsAskRunning, ask_begun, ask_looking, ask_next, ask_fed, ask_told, ask_fed_at, has_more, after_block, after_update, after_mark, after_bell, after_look, store_on, look_on, read_on, block_on, line_on, lowered_on}
 use Rattle.pcc_steps.specs.Moves.{AskMoves}
-use Rattle.pcc_steps.specs.Agree.{act, found, Finds, Agree, done_after, clears_after}
+use Rattle.pcc_steps.specs.Agree.{act, found, Finds, Agree, clears_after}
 use Rattle.pcc_steps.proofs.Agreement.{ask_step_agrees}
 use Rattle.pcc_steps.proofs.AskWalks.{asks_by_table, looks_by_table, posts_by_table}
 use Rattle.pcc_steps.proofs.Bounds.{looks_within, posts_within}

@@ -121,12 +121,12 @@ polls_spend exec polls block s t place flies none budget ew h = by s.state.histo
     by None p e f w k = absurd (cc f)
     by (Some d) None e f w k = let is = (kept_on exec polls s.state t.state d e w).1 in
         let looked : t.state.looks ≡ s.state.looks + polls = ap (λ (z : EndsState). z.looks) is in record {
-      counts = k;
-      looks = λ q. (omega (arith, looked, none), ap (λ (z : EndsState). z.budget) is ∙ budget);
-    }
+          counts = k;
+          looks = λ q. (omega (arith, looked, none), ap (λ (z : EndsState). z.budget) is ∙ budget);
+        }
     by (Some d) (Some n) e f w k = let hold : ℕ = s.state.hold in
         let lt : hold < polls = below_polls exec s.state d polls n e (ap (λ (a : Awaited exec). a.place) (sym w)) in record {
-      counts = subst (λ (o : Option Sent). SpentByEarlier true (flight_of o hold) polls block s.counts t.counts) (sym e)
-          (spent_as hold (hold + 1) (hold + (block + 6)) hold (hold + 1) (polls + (block + 6)) s.counts t.counts refl refl (omega (arith, lt)) k);
-      looks = λ q. absurd (cc q);
-    }
+          counts = subst (λ (o : Option Sent). SpentByEarlier true (flight_of o hold) polls block s.counts t.counts) (sym e)
+              (spent_as hold (hold + 1) (hold + (block + 6)) hold (hold + 1) (polls + (block + 6)) s.counts t.counts refl refl (omega (arith, lt)) k);
+          looks = λ q. absurd (cc q);
+        }

@@ -168,8 +168,8 @@ most_steps call block = 2 * call.polls + 3 * block + 24
 
 pub record HasWorked (call : Call) (old new : OpenChannel) (o : Outcome) : Type 0 where
   pub counts :
-    let earlier = old.now.in_flight in
-    Spent (clear_looks earlier call o) (turns_made earlier call o) (most_steps call (block_of old.wiring)) old.efforts.counts new.efforts.counts
+      let earlier = old.now.in_flight in
+      Spent (clear_looks earlier call o) (turns_made earlier call o) (most_steps call (block_of old.wiring)) old.efforts.counts new.efforts.counts
   pub looks : HasLooked call.polls new.efforts o
 
 -- what a call without an earlier command ends with: done, timed out, or too soon
@@ -207,7 +207,7 @@ noted_if false n = n
 -- whatever follows: a call is answered from what the polls left, by whether nothing is in flight then
 pub record HasAwaited (exec : Device) (polls : ℕ) (old new : EndsState) (free : Bool) : Type 0 where
   pub answered : (follows : ChannelState → Answered) → let now = now_of old in
-    after_earlier (start_of exec old) polls follows now now.in_flight ≡ answer_if free polls follows (now_of new)
+      after_earlier (start_of exec old) polls follows now now.in_flight ≡ answer_if free polls follows (now_of new)
   pub stays : Stays old new
   pub noted : noted_in new ≡ noted_if free (noted_in old)
   pub readings : new.taken ≤ old.taken + 1

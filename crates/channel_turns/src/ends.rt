@@ -178,8 +178,8 @@ impl<E: Executor> PlainEnds<E> {
         ensures state { MatchResult result
             (λ _. (earliest_post self.old.state ≤ reading_of self.old.state) × (self.new.state ≡ posted caller ready self.old.state))
             (λ e. (reading_of self.old.state < earliest_post self.old.state)
-                × (e ≡ refusal.TooSoon (reading_of self.old.state) (earliest_post self.old.state))
-                × (self.new.state ≡ read_once self.old.state)) }
+            × (e ≡ refusal.TooSoon (reading_of self.old.state) (earliest_post self.old.state))
+            × (self.new.state ≡ read_once self.old.state)) }
         ensures counts { Spent 0 0 (block_of self.old.state.wiring + 7) self.old.counts self.new.counts }
     {
         let at = self.caller.clock.now();
