@@ -97,8 +97,8 @@ impl DeviceChannel {
         requires polls { 0 < polls }
         requires most { polls ≤ MAX_POLLS }
         requires early { (channel_of self.old).now.taken < 2 ^ 63 }
-        ensures answered { let call = record { caller = caller; code = code; bytes = bytes.now; polls = polls; hold = hold } in
-            IfOk result (IsAnsweredBy (channel_of self.old) call (channel_of self.new)) }
+        ensures answered { IfOk result (IsAnsweredBy (channel_of self.old)
+            (record { caller = caller; code = code; bytes = bytes.now; polls = polls; hold = hold }) (channel_of self.new)) }
         ensures placed { IfOk result (IsPlaced (length (channel_of self.new).now.records)) }
         ensures readings { (channel_of self.new).now.taken ≤ (channel_of self.old).now.taken + 3 }
         ensures start { (channel_of self.new).start ≡ (channel_of self.old).start }
