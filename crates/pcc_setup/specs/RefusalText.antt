@@ -1,4 +1,4 @@
--- The one line that tells why an input is refused.
+-- The one line that reports why an input is refused.
 use Rattle.std.specs.Prelude.{ℕ, List, [], ◌∷◌, ◌++◌, codes}
 use Rattle.pcc_text.specs.Pieces.{Spelled, Words, Decimal, spelled}
 use Rattle.pcc_script.specs.declared.fault.ScriptKind.{ScriptKind}
@@ -97,7 +97,8 @@ refusal_pieces (refusal.TableText line wrong) = line_pieces line (kind_word wron
 refusal_pieces (refusal.Action line fault) = line_pieces line (action_word fault)
 refusal_pieces (refusal.Table fault) = Words (codes "table ") ∷ fault_pieces fault
 refusal_pieces (refusal.Trailing at) = Words (codes "table trailing ") ∷ Decimal at ∷ []
-refusal_pieces (refusal.Package fault) = Words (codes "package ") ∷ Words (kind_text fault.kind) ∷ Words (codes " ") ∷ Decimal fault.entry ∷ Words (codes " ") ∷ Decimal fault.at ∷ []
+refusal_pieces (refusal.Package fault) =
+    Words (codes "package ") ∷ Words (kind_text fault.kind) ∷ Words (codes " ") ∷ Decimal fault.entry ∷ Words (codes " ") ∷ Decimal fault.at ∷ []
 refusal_pieces (refusal.PackageTrailing at) = Words (codes "package trailing ") ∷ Decimal at ∷ []
 refusal_pieces (refusal.Open id fault) = Words (codes "open ") ∷ Decimal id ∷ Words (codes " ") ∷ open_pieces fault
 refusal_pieces (refusal.Meet found) = Words (codes "overlap ") ∷ Decimal found.a ∷ Words (codes " ") ∷ Decimal found.b ∷ []

@@ -26,16 +26,18 @@ use Rattle.pcc_setup.specs.Openings.{AllOpen, line_fault, memories_by, opened_by
 
 -- ---- the table
 
--- bytes are not those of a table and nothing else: the first check that fails on them, or the place behind the table with which they begin
+-- bytes are not those of a table and nothing else: the first check that fails on them, or the place after the table with which they begin
 pub data TableRefused (bytes : List ℕ) : Refusal → Type 0 where
   Wrong : (fault : TableFault) → decision true bytes ≡ Faulty fault → TableRefused bytes (refusal.Table fault)
-  Followed : (front rest : List ℕ) → (t : Table) → TableBytes front t → bytes ≡ front ++ rest → 1 ≤ length rest → TableRefused bytes (refusal.Trailing (length front))
+  Followed : (front rest : List ℕ) → (t : Table) → TableBytes front t → bytes ≡ front ++ rest → 1 ≤ length rest
+      → TableRefused bytes (refusal.Trailing (length front))
 
 -- ---- the `open` lines
 
 -- the first line that opens nothing, and its fault
 pub data OpenRefused (t : Table) (opens : List OpenLine) : Refusal → Type 0 where
-  FirstWrong : (i : ℕ) → (o : OpenLine) → (fault : OpenFault) → slice_get opens i ≡ Some o → AllOpen t opens i → line_fault t (take i opens) o ≡ Some fault → OpenRefused t opens (refusal.Open o.id fault)
+  FirstWrong : (i : ℕ) → (o : OpenLine) → (fault : OpenFault) → slice_get opens i ≡ Some o → AllOpen t opens i
+      → line_fault t (take i opens) o ≡ Some fault → OpenRefused t opens (refusal.Open o.id fault)
 
 -- ---- actions
 
@@ -58,7 +60,7 @@ action_fault s (line.Wait n) = None
 abbrev pub AllNamed : Scenario → ℕ → Type 0
 AllNamed s count = (i : ℕ) (l : Line) → i < count → slice_get s.actions i ≡ Some l → action_fault s l ≡ None
 
--- the number of the first action's line, from 1: a table, a clock and all other lines stand before it
+-- the number of the first action's line, from 1: a table, a clock and all other lines precede it
 abbrev pub first_action : Scenario → ℕ
 first_action s = 3 + length s.opens + length s.cpus + length s.caps
 
@@ -81,9 +83,10 @@ pub record Opens (s : Scenario) (opened : List Opened) : Type 0 where
 pub data SetUpRefused (s : Scenario) : Refusal → Type 0 where
   WrongTable : (r : Refusal) → TableRefused s.table r → SetUpRefused s r
   WrongOpen : (t : Table) → TableBytes s.table t → (r : Refusal) → OpenRefused t s.opens r → SetUpRefused s r
-  Meeting : (t : Table) → TableBytes s.table t → AllOpen t s.opens (length s.opens) → (found : Overlap) → IsFirstOverlap (memories_by t s.opens) found → SetUpRefused s (refusal.Meet found)
-  WrongAction : (t : Table) → TableBytes s.table t → AllOpen t s.opens (length s.opens) → AreApart (memories_by t s.opens) → (i : ℕ) → (l : Line) → (fault : ActionFault)
-      → slice_get s.actions i ≡ Some l → AllNamed s i → action_fault s l ≡ Some fault → SetUpRefused s (refusal.Action (first_action s + i) fault)
+  Meeting : (t : Table) → TableBytes s.table t → AllOpen t s.opens (length s.opens) → (found : Overlap)
+      → IsFirstOverlap (memories_by t s.opens) found → SetUpRefused s (refusal.Meet found)
+  WrongAction : (t : Table) → TableBytes s.table t → AllOpen t s.opens (length s.opens) → AreApart (memories_by t s.opens)
+      → (i : ℕ) → (l : Line) → (fault : ActionFault) → slice_get s.actions i ≡ Some l → AllNamed s i → action_fault s l ≡ Some fault → SetUpRefused s (refusal.Action (first_action s + i) fault)
 
 -- ---- right, or refused
 

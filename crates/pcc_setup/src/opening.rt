@@ -84,7 +84,8 @@ fn asks_on(_device: &Device, _kind: u8) -> Asks
 fn open_line(alloc: Global, table: &Table, opens: &Opens, place: usize) -> Result<Opened, OpenFault>
     requires { place < length opens.now }
     ensures { MatchResult result
-        (λ o. (line : OpenLine) × (slice_get opens.now place ≡ Some line) × (line_fault table.now (take place opens.now) line ≡ None) × (opened_with line.id table.now.flags (slice_get table.now.subspaces line.id) ≡ o ∷ []))
+        (λ o. (line : OpenLine) × (slice_get opens.now place ≡ Some line) × (line_fault table.now (take place opens.now) line ≡ None)
+            × (opened_with line.id table.now.flags (slice_get table.now.subspaces line.id) ≡ o ∷ []))
         (λ fault. (line : OpenLine) × (slice_get opens.now place ≡ Some line) × (line_fault table.now (take place opens.now) line ≡ Some fault)) }
 {
     let line = opens.at(place);
@@ -109,7 +110,8 @@ fn open_line(alloc: Global, table: &Table, opens: &Opens, place: usize) -> Resul
 /// What the lines open, or the first line that opens nothing.
 #[tactic(auto, using(crate::proofs::Opens::none_open, crate::proofs::Opens::one_more_open, crate::proofs::Opens::one_more_opened, crate::proofs::Opens::all_opened, crate::proofs::Opens::first_wrong))]
 pub fn open_all(alloc: Global, table: &Table, opens: &Opens) -> Result<OpenedList, InputError>
-    ensures { MatchResult result (λ os. (os ≡ opened_by table.now opens.now) × AllOpen table.now opens.now (length opens.now)) (IsRefusedFor (OpenRefused table.now opens.now)) }
+    ensures { MatchResult result (λ os. (os ≡ opened_by table.now opens.now) × AllOpen table.now opens.now (length opens.now))
+        (IsRefusedFor (OpenRefused table.now opens.now)) }
 {
     let mut opened = OpenedList::new(alloc);
     for place in 0..opens.len() {

@@ -1,4 +1,4 @@
-//! The one line that tells why an input is refused.
+//! The one line that reports why an input is refused.
 ghost use Rattle.std.specs.Prelude.{◌≡◌, ◌++◌, ◌∷◌, [], IfOk, OnOk};
 ghost use Rattle.pcc_text.specs.Pieces.{Decimal, Words, spelled};
 ghost use Rattle.pcct_codec.specs.declared.fault.TableFault.TheVariants.{SubspaceLength, SubspaceType};
@@ -17,7 +17,7 @@ use pcct_codec::TableFault;
 use pcct_table::BuildKind;
 use std::alloc::Global;
 
-fn put_number_behind(out: &mut Vec<u8>, word: &[u8], number: u32) -> Result<(), NoMemory>
+fn put_word_number(out: &mut Vec<u8>, word: &[u8], number: u32) -> Result<(), NoMemory>
     ensures { OnOk result (out.new.items ≡ out.old.items ++ spelled (Words word.now ∷ Decimal number ∷ [])) }
 {
     put_pieces(out, &[Piece::Text(word), Piece::Number(number as u64)])
@@ -58,15 +58,15 @@ fn put_fault(out: &mut Vec<u8>, fault: TableFault) -> Result<(), NoMemory>
     ensures { OnOk result (out.new.items ≡ out.old.items ++ spelled (fault_pieces fault)) }
 {
     match fault {
-        TableFault::Short { at } => put_number_behind(out, b"short ", at),
+        TableFault::Short { at } => put_word_number(out, b"short ", at),
         TableFault::Signature => put_pieces(out, &[Piece::Text(b"signature")]),
-        TableFault::LengthOutside { len } => put_number_behind(out, b"length ", len),
-        TableFault::Revision { found } => put_number_behind(out, b"revision ", u32::from(found)),
-        TableFault::TooMany { at } => put_number_behind(out, b"many ", at),
-        TableFault::Overrun { at } => put_number_behind(out, b"overrun ", at),
+        TableFault::LengthOutside { len } => put_word_number(out, b"length ", len),
+        TableFault::Revision { found } => put_word_number(out, b"revision ", u32::from(found)),
+        TableFault::TooMany { at } => put_word_number(out, b"many ", at),
+        TableFault::Overrun { at } => put_word_number(out, b"overrun ", at),
         TableFault::SubspaceType { at, kind } => put_type(out, at, kind),
         TableFault::SubspaceLength { at, kind, found } => put_size(out, at, kind, found),
-        TableFault::Checksum { sum } => put_number_behind(out, b"checksum ", u32::from(sum)),
+        TableFault::Checksum { sum } => put_word_number(out, b"checksum ", u32::from(sum)),
         TableFault::ReadFault | TableFault::NoMemory => unreachable!(),
     }
 }

@@ -1,8 +1,9 @@
 -- The bytes that words hold.
-use Rattle.std.proofs.Common.{◌≡◌, ◌↔◌, ◌<◌, ◌≤◌, ℕ, zero, suc, ◌+◌, ◌-◌, ◌*◌, ◌/◌, ◌==◌, ltb, nat_le, nat_lt, Bool, true, false, IsSome, refl, inl, inr, arith}
+use Rattle.std.proofs.Common.{◌≡◌, ◌↔◌, ◌<◌, ◌≤◌, ℕ, zero, suc, ◌+◌, ◌-◌, ◌*◌, ◌/◌, ◌==◌, nat_le, nat_lt, Bool, true, false, IsSome, refl, inl, inr, arith}
 use Rattle.std.proofs.lemmas.Bool.{cases_lt}
 use Rattle.std.proofs.lemmas.Bool.Decides.{nat_tests}
 use Rattle.pcc_steps.specs.declared.wiring.Wiring.{Wiring}
+use Rattle.pcc_steps.specs.Kinds.{is_headed}
 use Rattle.pcc_steps.specs.Wires.{IsRight, block_of, style_by, heads_of}
 use Rattle.pcc_wiring.specs.Places.{place_at, place_in}
 use Rattle.pcc_wiring.specs.Wirings.{header_len}
@@ -27,7 +28,7 @@ held_in false block number = elim (cases_lt number block) [
 ]
 
 -- the words of memory are those of the header and of the room
-words_of : (kind room : ℕ) (joined : Bool) → kind ≤ 5 → in_memory (ltb kind 3) (heads_of (style_by kind joined) + room / 8) * 8 ≡ header_len kind + room / 8 * 8
+words_of : (kind room : ℕ) (joined : Bool) → kind ≤ 5 → in_memory (is_headed kind) (heads_of (style_by kind joined) + room / 8) * 8 ≡ header_len kind + room / 8 * 8
 words_of zero room joined le = omega arith
 words_of (suc zero) room joined le = omega arith
 words_of (suc (suc zero)) room joined le = omega arith
@@ -50,7 +51,7 @@ held w right base address = elim (cases_lt address base) [
   | inl lt ↦ let z : nat_le base address ≡ false = grind (arith, nat_tests) in rw z ((λ h. absurd cc), (λ h. absurd (omega (arith, h.0))))
   | inr ge ↦
       let z : nat_le base address ≡ true = grind (arith, nat_tests) in
-      let e : in_memory (ltb w.kind 3) (block_of w) * 8 ≡ header_len w.kind + w.room / 8 * 8 = words_of w.kind w.room w.joined right.kind in
+      let e : in_memory (is_headed w.kind) (block_of w) * 8 ≡ header_len w.kind + w.room / 8 * 8 = words_of w.kind w.room w.joined right.kind in
       let whole : w.room / 8 * 8 ≡ w.room = let r = right.whole in omega (arith, r) in
-      rw z (both (held_in (ltb w.kind 3) (block_of w) ((address - base) / 8)) (within base address _ (header_len w.kind + w.room) (omega (arith, e, whole)) ge) (λ d. d.1) (λ c. (ge, c)))
+      rw z (both (held_in (is_headed w.kind) (block_of w) ((address - base) / 8)) (within base address _ (header_len w.kind + w.room) (omega (arith, e, whole)) ge) (λ d. d.1) (λ c. (ge, c)))
 ]

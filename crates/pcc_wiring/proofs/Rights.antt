@@ -1,7 +1,8 @@
 -- The wiring of a structure without a fault is right.
-use Rattle.std.proofs.Common.{◌≡◌, ◌≢◌, ℕ, suc, zero, ◌-◌, ◌*◌, ◌/◌, ◌%◌, ◌^◌, ◌<◌, ◌≤◌, ◌==◌, ◌&&◌, ◌||◌, not, ltb, min, Bool, true, false, [], ◌∷◌, Option, Some, None, Result, Ok, subst, bit_and, bit_or, refl, sym, arith}
+use Rattle.std.proofs.Common.{◌≡◌, ◌≢◌, ℕ, suc, zero, ◌-◌, ◌*◌, ◌/◌, ◌%◌, ◌^◌, ◌<◌, ◌≤◌, ◌==◌, ◌&&◌, ◌||◌, not, min, Bool, true, false, [], ◌∷◌, Option, Some, None, Result, Ok, subst, bit_and, bit_or, refl, sym, arith}
 use Rattle.std.proofs.lemmas.Bool.Decides.{nat_tests}
 use Rattle.std.proofs.Math.Nat.{mod-eq_of_lt, pow-le-pow_right}
+use Rattle.pcc_steps.specs.Kinds.{IsHeaded, is_headed, is_initiator, is_responder}
 use Rattle.pcc_steps.specs.Wires.{IsRight}
 use Rattle.pcc_steps.specs.declared.wiring.Wiring.{Wiring}
 use Rattle.pcct_table.specs.declared.subspace.Subspace.{Subspace}
@@ -63,17 +64,17 @@ then_nonzero false n e j = absurd cc
 -- what has no fault
 record IsSound (w : Wiring) : Type 0 where
   room : IsRoom w.room
-  check : (ltb w.kind 3 || not (w.check_mask == 0)) ≡ true
-  clears : (not (w.kind == 3 && w.joined) || bit_and (bit_or w.update.preserve w.update.set) w.check_mask == 0) ≡ true
-  sets : (not (w.kind == 4 && w.joined) || not (bit_and w.update.set w.check_mask == 0)) ≡ true
+  check : (is_headed w.kind || not (w.check_mask == 0)) ≡ true
+  clears : (not (is_initiator w.kind && w.joined) || bit_and (bit_or w.update.preserve w.update.set) w.check_mask == 0) ≡ true
+  sets : (not (is_responder w.kind && w.joined) || not (bit_and w.update.set w.check_mask == 0)) ≡ true
 
 is_sound : (id flags : ℕ) (asks : Asks) (s : Subspace) → fault_of asks s ≡ None → IsSound (wiring_with id flags s)
 is_sound id flags asks s none =
     let w = wiring_with id flags s in
     let h = none_holds (is_asked_by w.kind asks) (not (w.room == 0)) (registers_fault w.kind (roles_of s))
-    (ltb w.kind 3 || not (w.check_mask == 0))
-    (not (w.kind == 3 && w.joined) || bit_and (bit_or w.update.preserve w.update.set) w.check_mask == 0)
-    (not (w.kind == 4 && w.joined) || not (bit_and w.update.set w.check_mask == 0))
+    (is_headed w.kind || not (w.check_mask == 0))
+    (not (is_initiator w.kind && w.joined) || bit_and (bit_or w.update.preserve w.update.set) w.check_mask == 0)
+    (not (is_responder w.kind && w.joined) || not (bit_and w.update.set w.check_mask == 0))
     WrongRole (SpaceTooSmall (memory_len_of s)) NoCheckMask NeverClears NeverSets none in
     record {
       room = words_whole (memory_len_of s - header_len (kind_of s)) (nonzero _ h.is_roomy);
@@ -87,7 +88,7 @@ told : (absent : Bool) (n : ℕ) → (not absent && not (n == 0)) ≡ true → n
 told false n e = nonzero n e
 told true n e = absurd cc
 
-plain : (w : Wiring) → IsRoom w.room → w.kind ≤ 2 → w.reports ≡ true → w.joined ≡ false → IsRight w
+plain : (w : Wiring) → IsRoom w.room → IsHeaded w.kind → w.reports ≡ true → w.joined ≡ false → IsRight w
 plain w r kind reports joined = record {
   kind = omega arith;
   whole = r.whole;

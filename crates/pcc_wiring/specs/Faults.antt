@@ -61,7 +61,7 @@ registers_fault kind roles = first_of (
 
 -- ---- completion
 
--- completion of types 3 to 5 can be seen; on type 3 the asking side's write of a joined register clears it whatever stands there,
+-- completion of types 3 to 5 can be seen; on type 3 the asking side's write of a joined register clears it whatever it holds,
 -- on type 4 the answering side's write sets it
 abbrev pub masks_fault : Wiring → Option WiringFault
 masks_fault w = first_of (
@@ -90,7 +90,7 @@ abbrev pub opened_as : Wiring → Option WiringFault → Result Wiring WiringFau
 opened_as w None = Ok w
 opened_as w (Some fault) = Err fault
 
--- a test told this fault, or that there is none
+-- a test found this fault, or that there is none
 abbrev pub Tells : Result (Unit {0}) WiringFault → Option WiringFault → Type 0
 Tells (Ok u) fault = fault ≡ None
 Tells (Err e) fault = fault ≡ Some e

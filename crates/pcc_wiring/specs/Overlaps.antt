@@ -27,7 +27,7 @@ at opened i = slice_index_or opened i (0, 0, 0)
 abbrev pub AreApart : List (ℕ × ℕ × ℕ) → Type 0
 AreApart opened = (i j : ℕ) → i < j → j < length opened → Meet (at opened i) (at opened j) → ⊥
 
--- The first pair that meets: no pair meets whose second stands before this second, and none with this second whose first stands before this first.
+-- The first pair that meets: no pair meets whose second precedes this second, and none with this second whose first precedes this first.
 pub record IsFirstOverlap (opened : List (ℕ × ℕ × ℕ)) (found : Overlap) : Type 0 where
   pub a : ℕ
   pub b : ℕ

@@ -5,7 +5,7 @@ use Rattle.pcc_steps.specs.Kinds.{is_headed}
 use Rattle.pcc_steps.specs.Wires.{block_of}
 
 -- The place of the word with this number, counted from the base, where the block has so many words. The words of the block stand from
--- place 8 on; on types 0 to 2 the header stands before them in memory, and at place 0.
+-- place 8 on; on types 0 to 2 the header precedes them in memory, and has place 0.
 abbrev pub place_in : Bool → ℕ → ℕ → Option ℕ
 place_in true block number = if number == 0 then Some 0 else if nat_le number block then Some (7 + number) else None
 place_in false block number = if nat_lt number block then Some (8 + number) else None

@@ -21,7 +21,7 @@ room_limit = 4096
 abbrev pub header_len : ℕ → ℕ
 header_len kind = if is_extended kind then 16 else 8
 
--- the words of 8 bytes behind the header, in a shared memory of this length
+-- the words of 8 bytes after the header, in a shared memory of this length
 abbrev pub room_of : ℕ → ℕ → ℕ
 room_of kind len = min room_limit ((len - header_len kind) / 8 * 8)
 
@@ -50,7 +50,7 @@ abbrev pub are_joined : Option Watched → Option Written → Bool
 are_joined (Some check) (Some update) = check.gas.space == update.gas.space && check.gas.address == update.gas.address
 are_joined _ _ = false
 
--- types 0 to 2 report errors in their header, the others where an error register is there and some bit of it tells them
+-- types 0 to 2 report errors in their header, the others where an error register is there and some bit of it reports them
 abbrev pub reports_by : Option Watched → Bool
 reports_by None = true
 reports_by (Some r) = not (is_absent r.gas) && not (cut r.gas.width r.mask == 0)

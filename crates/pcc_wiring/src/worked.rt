@@ -28,10 +28,10 @@ pub fn worked_cases()
     ensures header { place_in true 2 0 ≡ Some 0 }
     ensures first_of_block { place_in true 2 1 ≡ Some 8 }
     ensures last_of_block { place_in true 2 2 ≡ Some 9 }
-    ensures behind { place_in true 2 3 ≡ None }
+    ensures after { place_in true 2 3 ≡ None }
     ensures header_in_block { place_in false 3 0 ≡ Some 8 }
     ensures last_in_block { place_in false 3 2 ≡ Some 10 }
-    ensures behind_block { place_in false 3 3 ≡ None }
+    ensures after_block { place_in false 3 3 ≡ None }
 
     // The last byte of one memory is the first of the other; they touch without a common byte; the second one lies at the end of all addresses.
     ensures one_byte { Meet (0, 4096, 16) (1, 4111, 16) }

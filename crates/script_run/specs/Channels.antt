@@ -52,7 +52,7 @@ id_of c = c.start.head.id
 abbrev pub ids_of : List Channel → List ℕ
 ids_of channels = map id_of channels
 
--- no number stands twice
+-- no number occurs twice
 abbrev pub AreDistinct : List ℕ → Type 0
 AreDistinct [] = Unit {0}
 AreDistinct (n ∷ ns) = AllByRecursion (λ m. n ≢ m) ns × AreDistinct ns

@@ -9,7 +9,8 @@ reply_pieces line (BadCode code) = Decimal line ∷ Words (codes " bad code ") �
 reply_pieces line (TooLong len room) = Decimal line ∷ Words (codes " too long ") ∷ Decimal len ∷ Words (codes " ") ∷ Decimal room ∷ Words (codes "\n") ∷ []
 reply_pieces line JournalFull = Decimal line ∷ Words (codes " journal full\n") ∷ []
 reply_pieces line (StillPending looks) = Decimal line ∷ Words (codes " still pending ") ∷ Decimal looks ∷ Words (codes "\n") ∷ []
-reply_pieces line (TooSoon reading earliest) = Decimal line ∷ Words (codes " too soon ") ∷ Decimal reading ∷ Words (codes " ") ∷ Decimal earliest ∷ Words (codes "\n") ∷ []
+reply_pieces line (TooSoon reading earliest) =
+    Decimal line ∷ Words (codes " too soon ") ∷ Decimal reading ∷ Words (codes " ") ∷ Decimal earliest ∷ Words (codes "\n") ∷ []
 reply_pieces line (TimedOut looks) = Decimal line ∷ Words (codes " timed out ") ∷ Decimal looks ∷ Words (codes "\n") ∷ []
 
 unfoldable pub reply_text : ℕ → Reply → List ℕ

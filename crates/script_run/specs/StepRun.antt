@@ -6,7 +6,7 @@ use Rattle.pcc_script.specs.declared.scenario.Line.TheVariants as line
 use Rattle.channel_turns.specs.ChannelRuns.{Call, Channel, answer_call}
 use Rattle.channel_turns.specs.Replies.{Reply}
 
--- the reply of a line, if it has one, and the channels behind it
+-- the reply of a line, if it has one, and the channels after it
 pub record Turn : Type 0 where
   pub reply : Option Reply
   pub channels : List Channel
@@ -35,7 +35,7 @@ turn_of (line.Wait n) cs = record { reply = None; channels = map (waited n) cs }
 turn_of (line.Read worker cpu polls hold) cs = record { reply = None; channels = cs }
 turn_of (line.Set worker wish polls hold) cs = record { reply = None; channels = cs }
 
--- the replies of the lines in their order, and the channels behind them
+-- the replies of the lines in their order, and the channels after them
 pub record Run : Type 0 where
   pub replies : List (Option Reply)
   pub channels : List Channel

@@ -58,8 +58,9 @@ count_pending channels = sum_by (λ c. count_in_flight c.now.in_flight) channels
 
 abbrev pub summary_pieces : ℕ → Counts → List Record → ℕ → List Spelled
 summary_pieces calls c records pending =
-    Words (codes "calls ") ∷ Decimal calls ∷ Words (codes "\nok ") ∷ Decimal c.ok ∷ Words (codes "\nerror ") ∷ Decimal c.error ∷ Words (codes "\ntimed out ") ∷ Decimal c.timed_out
-    ∷ Words (codes "\nstill pending ") ∷ Decimal c.still_pending ∷ Words (codes "\nother ") ∷ Decimal c.other ∷ Words (codes "\nrecords ") ∷ Decimal (length records)
+    Words (codes "calls ") ∷ Decimal calls ∷ Words (codes "\nok ") ∷ Decimal c.ok ∷ Words (codes "\nerror ") ∷ Decimal c.error
+    ∷ Words (codes "\ntimed out ") ∷ Decimal c.timed_out ∷ Words (codes "\nstill pending ") ∷ Decimal c.still_pending
+    ∷ Words (codes "\nother ") ∷ Decimal c.other ∷ Words (codes "\nrecords ") ∷ Decimal (length records)
     ∷ Words (codes "\npending ") ∷ Decimal pending ∷ Words (codes "\nsum ") ∷ Decimal (output_sum records) ∷ Words (codes "\n") ∷ []
 
 unfoldable pub summary_text : ℕ → Run → List ℕ

@@ -46,12 +46,14 @@ abbrev seen : Run → Seen
 seen r = record { replies = r.replies; records = map records_of r.channels; pending = map waiting_of r.channels }
 
 abbrev kept : ℕ → ℕ → List ℕ → List ℕ → ℕ → ℕ → Bool → Record
-kept caller code input output post done late = record { caller = caller; code = code; input = input; error = false; output = output; post = post; done = done; late = late }
+kept caller code input output post done late =
+    record { caller = caller; code = code; input = input; error = false; output = output; post = post; done = done; late = late }
 
 -- two swaps, a bad code, too many bytes, and a code that the Bank doesn't know
 abbrev pub replies_in_one_thread : Type 0
 replies_in_one_thread =
-    seen (step_run (swap 0 (1 ∷ 2 ∷ []) 3 0 ∷ swap 0 (3 ∷ []) 3 0 ∷ line.Call 0 0 256 [] 1 0 ∷ line.Call 0 0 17 (1 ∷ 2 ∷ 3 ∷ []) 1 0 ∷ line.Call 0 0 18 (9 ∷ []) 1 0 ∷ []) (bank 0 0 (every 10 0) ∷ []))
+    seen (step_run (swap 0 (1 ∷ 2 ∷ []) 3 0 ∷ swap 0 (3 ∷ []) 3 0 ∷ line.Call 0 0 256 [] 1 0
+        ∷ line.Call 0 0 17 (1 ∷ 2 ∷ 3 ∷ []) 1 0 ∷ line.Call 0 0 18 (9 ∷ []) 1 0 ∷ []) (bank 0 0 (every 10 0) ∷ []))
     ≡ record {
       replies = Some (Done false (0 ∷ 0 ∷ [])) ∷ Some (Done false (1 ∷ 2 ∷ [])) ∷ Some (BadCode 256) ∷ Some (TooLong 3 2) ∷ Some (Done true (9 ∷ 2 ∷ [])) ∷ [];
       records = (

@@ -1,5 +1,6 @@
 //! The channel of an opened subspace, by the device that answers its commands.
 ghost use Rattle.std.specs.Prelude.{◌≡◌, ◌≤◌, ◌<◌, ◌+◌, ◌^◌, length, IfOk};
+ghost use Rattle.pcc_script.specs.declared.limits.TheConstants.{MAX_POLLS};
 ghost use Rattle.std.specs.Option.{option_copied};
 ghost use Rattle.channel_turns.specs.ChannelRuns.{fresh, journal_limit, pending_of};
 ghost use Rattle.channel_turns.specs.Outcomes.{IsPlaced};
@@ -94,9 +95,10 @@ impl DeviceChannel {
         hold: u32,
     ) -> Result<Outcome, NoMemory>
         requires polls { 0 < polls }
-        requires most { polls ≤ 1000000 }
+        requires most { polls ≤ MAX_POLLS }
         requires early { (channel_of self.old).now.taken < 2 ^ 63 }
-        ensures answered { IfOk result (IsAnsweredBy (channel_of self.old) (record { caller = caller; code = code; bytes = bytes.now; polls = polls; hold = hold }) (channel_of self.new)) }
+        ensures answered { IfOk result (IsAnsweredBy (channel_of self.old)
+            (record { caller = caller; code = code; bytes = bytes.now; polls = polls; hold = hold }) (channel_of self.new)) }
         ensures placed { IfOk result (IsPlaced (length (channel_of self.new).now.records)) }
         ensures readings { (channel_of self.new).now.taken ≤ (channel_of self.old).now.taken + 3 }
         ensures start { (channel_of self.new).start ≡ (channel_of self.old).start }

@@ -1,5 +1,6 @@
 //! The channels of the opened subspaces, in the order of their lines. Each has a clock of its own.
 ghost use Rattle.std.specs.Prelude.{◌≡◌, ◌<◌, ◌+◌, ◌==◌, ℕ, true, IfOk, OnOk, Some, length, map, slice_get};
+ghost use Rattle.pcc_script.specs.declared.limits.TheConstants.{MAX_ACTIONS};
 ghost use Rattle.std.specs.List.{AllByRecursion, list_any};
 ghost use Rattle.pcc_setup.specs.SetUps.{Opens};
 ghost use Rattle.script_run.specs.Channels.{AreDistinct, CanRun, IsEarly, IsWired, bank_start, fresh_channel, id_of, ids_of, moved_up};
@@ -61,10 +62,11 @@ impl OpenedChannels {
     /// Runs a line. The outcome of its call, if it is one.
     pub fn run(&mut self, alloc: Global, action: &Line) -> Result<Option<LineOutcome>, NoMemory>
         requires line { CanRun (ids_of (channels_by self.old)) action.now }
-        requires early { AllByRecursion (IsEarly 65536) (channels_by self.old) }
+        requires early { AllByRecursion (IsEarly MAX_ACTIONS) (channels_by self.old) }
         ensures outcome { IfOk result (IsOutcomeOf (turn_of action.now (channels_by self.old)).reply self.new) }
         ensures channels { OnOk result ((turn_of action.now (channels_by self.old)).channels ≡ channels_by self.new) }
-        ensures readings { OnOk result ((count : ℕ) → AllByRecursion (IsEarly count) (channels_by self.old) → AllByRecursion (IsEarly (count + 1)) (channels_by self.new)) }
+        ensures readings { OnOk result ((count : ℕ) → AllByRecursion (IsEarly count) (channels_by self.old)
+            → AllByRecursion (IsEarly (count + 1)) (channels_by self.new)) }
     {
         run_line(alloc, &mut self.channels, action)
     }
@@ -120,11 +122,12 @@ fn run_line(
 ) -> Result<Option<LineOutcome>, NoMemory>
     requires line { CanRun (ids_of (channels_by channels.old.items)) action.now }
     requires distinct { AreDistinct (ids_of (channels_by channels.old.items)) }
-    requires early { AllByRecursion (IsEarly 65536) (channels_by channels.old.items) }
+    requires early { AllByRecursion (IsEarly MAX_ACTIONS) (channels_by channels.old.items) }
     ensures outcome { IfOk result (IsOutcomeOf (turn_of action.now (channels_by channels.old.items)).reply channels.new.items) }
     ensures channels { OnOk result ((turn_of action.now (channels_by channels.old.items)).channels ≡ channels_by channels.new.items) }
     ensures ids { ids_of (channels_by channels.new.items) ≡ ids_of (channels_by channels.old.items) }
-    ensures readings { OnOk result ((count : ℕ) → AllByRecursion (IsEarly count) (channels_by channels.old.items) → AllByRecursion (IsEarly (count + 1)) (channels_by channels.new.items)) }
+    ensures readings { OnOk result ((count : ℕ) → AllByRecursion (IsEarly count) (channels_by channels.old.items)
+        → AllByRecursion (IsEarly (count + 1)) (channels_by channels.new.items)) }
 {
     match action {
         Line::Call {

@@ -1,5 +1,6 @@
 //! How many calls got which reply.
 ghost use Rattle.std.specs.Prelude.{◌≡◌, Option, length};
+ghost use Rattle.pcc_script.specs.declared.limits.TheConstants.{MAX_ACTIONS};
 ghost use Rattle.channel_turns.specs.Outcomes.{IsPlaced, StandsFor};
 ghost use Rattle.channel_turns.specs.Replies.{Reply};
 ghost use Rattle.script_run.specs.Summaries.{IsUnder, added, counted, none_counted};
@@ -37,7 +38,7 @@ impl Counts {
     /// Counts the reply of a line, if it has one.
     pub fn count(&mut self, channels: &[DeviceChannel], outcome: Option<LineOutcome>)
         requires reply { HasReply channels.now outcome }
-        requires under { IsUnder 65536 self.old }
+        requires under { IsUnder MAX_ACTIONS self.old }
         ensures { (reply : Option Reply) → IsOutcomeOf reply channels.now outcome → self.new ≡ counted self.old reply }
     {
         match outcome {
@@ -49,7 +50,7 @@ impl Counts {
     // Counts the reply that an outcome stands for.
     fn add(&mut self, outcome: Outcome, records: &[Record])
         requires placed { IsPlaced (length records.now) outcome }
-        requires under { IsUnder 65536 self.old }
+        requires under { IsUnder MAX_ACTIONS self.old }
         ensures { (reply : Reply) → StandsFor records.now outcome reply → self.new ≡ added self.old reply }
     {
         match outcome {

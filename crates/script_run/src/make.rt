@@ -1,5 +1,6 @@
 //! The summary of `make N`: a made-up script of `N` calls is run as `step` runs one, and its replies and records are counted.
 ghost use Rattle.std.specs.Prelude.{◌≡◌, ◌≤◌, ◌<◌, ◌++◌, ◌*◌, ◌^◌, ℕ, true, length, map, sum, IfOk, OnOk};
+ghost use Rattle.pcc_script.specs.declared.limits.TheConstants.{MAX_ACTIONS};
 ghost use Rattle.std.specs.List.{AllByRecursion};
 ghost use Rattle.channel_turns.specs.ChannelRuns.{count_in_flight, journal_limit};
 ghost use Rattle.pcc_script.specs.Limits.{IsWithin};
@@ -32,7 +33,7 @@ fn count_lines(
     actions: &Actions,
 ) -> Result<Counts, NoMemory>
     requires lines { AllByRecursion (CanRun (ids_of (channels_by channels.old))) actions.now }
-    requires few { length actions.now ≤ 65536 }
+    requires few { length actions.now ≤ MAX_ACTIONS }
     requires early { AllByRecursion (IsEarly 0) (channels_by channels.old) }
     ensures counts { IfOk result (λ counts. counts ≡ counts_of (step_run actions.now (channels_by channels.old)).replies) }
     ensures channels { OnOk result ((step_run actions.now (channels_by channels.old)).channels ≡ channels_by channels.new) }
@@ -81,7 +82,8 @@ fn summary(
     counts: Counts,
     channel: &DeviceChannel,
 ) -> Result<Vec<u8>, NoMemory>
-    ensures { IfOk result (λ v. v.items ≡ spelled (summary_pieces calls counts (channel_of channel.now).now.records (count_in_flight (channel_of channel.now).now.in_flight))) }
+    ensures { let c = channel_of channel.now in
+        IfOk result (λ v. v.items ≡ spelled (summary_pieces calls counts c.now.records (count_in_flight c.now.in_flight))) }
 {
     let records = channel.records();
     let mut out = Vec::new(alloc);

@@ -1,5 +1,6 @@
 //! The text of `step`: the lines of a script are run in one thread, and their replies and the journals are printed.
 ghost use Rattle.std.specs.Prelude.{◌≡◌, ◌≤◌, ◌<◌, ◌++◌, ◌+◌, ◌^◌, [], ◌∷◌, ℕ, true, length, map, IfOk, OnOk};
+ghost use Rattle.pcc_script.specs.declared.limits.TheConstants.{MAX_ACTIONS};
 ghost use Rattle.std.specs.List.{AllByRecursion, flat_map};
 ghost use Rattle.pcc_script.specs.Limits.{IsWithin};
 ghost use Rattle.pcc_setup.specs.SetUps.{Opens};
@@ -29,7 +30,7 @@ fn run_lines(
     actions: &Actions,
 ) -> Result<(), NoMemory>
     requires lines { AllByRecursion (CanRun (ids_of (channels_by channels.old))) actions.now }
-    requires few { length actions.now ≤ 65536 }
+    requires few { length actions.now ≤ MAX_ACTIONS }
     requires low { first < 2 ^ 63 }
     requires early { AllByRecursion (IsEarly 0) (channels_by channels.old) }
     ensures replies { OnOk result (out.new.items ≡ out.old.items ++ replies_text first (step_run actions.now (channels_by channels.old)).replies) }
