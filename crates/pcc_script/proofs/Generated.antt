@@ -1,9 +1,6 @@
 -- A scenario that is made up is the one that its definition says, and within the limits.
-use Rattle.std.proofs.Common.{◌≡◌, ℕ, zero, suc, ◌+◌, ◌%◌, ◌<◌, ◌≤◌, Bool, true, false, cond, eqb, List, [], ◌∷◌, ◌++◌, length, map, slice_index, refl, ap, arith}
-use Rattle.std.specs.Prelude.{nat_lt}
-use Rattle.std.specs.Int.{byte_at, bytes_low_first}
-use Rattle.std.specs.List.{AllByRecursion, list_all, range_with_len}
-use Rattle.std.proofs.lemmas.Bool.{and_parts, ltb-true}
+use Rattle.std.proofs.Common.{◌≡◌, ℕ, zero, suc, ◌+◌, ◌%◌, ◌≤◌, Bool, true, false, cond, eqb, List, [], ◌∷◌, ◌++◌, length, map, refl, ap, arith}
+use Rattle.std.specs.List.{AllByRecursion, range_with_len}
 use Rattle.std.proofs.lemmas.List.FromFn.{length-map-range_with_len, map-range_with_len_more}
 use Rattle.pcc_bytes.specs.Bytes.{IsBytes}
 use Rattle.pcc_bytes.proofs.Bytes.{IsBytes-tested}

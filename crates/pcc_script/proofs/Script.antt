@@ -1,14 +1,14 @@
 -- A text is read to the lines of which it is the text, or to its first fault.
 use Rattle.std.proofs.Common.{◌≡◌, ℕ, suc, ◌≤◌, eqb, leb, Bool, true, false, cond, List, [], ◌∷◌, ◌++◌, length, map, refl, sym, ap, ◌∙◌, subst, arith}
 use Rattle.std.specs.Prelude.{Option, Some, None}
-use Rattle.std.specs.List.{flat_map, onto_first, join_with_byte}
+use Rattle.std.specs.List.{flat_map}
 use Rattle.std.proofs.lemmas.Bool.Decides.{nat_tests}
 use Rattle.std.proofs.lemmas.Bool.{and_parts, leb-true}
 use Rattle.std.proofs.lemmas.List.{append_assoc, append-nil}
 use Rattle.std.proofs.lemmas.List.Splits.{slice_split_none, slice_split_at}
 use Rattle.std.proofs.lemmas.Grind.{flat_map-append}
 use Rattle.pcc_bytes.specs.Fields.{front_of, last_in, last_of, line_text, lines_of, split_at}
-use Rattle.pcc_text.proofs.Laws.{lacks, EachLacks, text_of_parts, All-from_lacks}
+use Rattle.pcc_text.proofs.Laws.{lacks, EachLacks, All-from_lacks}
 use Rattle.pcc_script.specs.declared.fault.ScriptKind.{ScriptKind}
 use Rattle.pcc_script.specs.declared.fault.ScriptKind.TheVariants as kind
 use Rattle.pcc_script.specs.Text.{Statement, line_of, count_at, InOrder, IsWhole, statements_text}
@@ -53,7 +53,8 @@ end_case : (text : List ℕ) (rs : List Statement) (last : List ℕ) → InOrder
 end_case text rs [] h l is = missing_case (is_whole rs) text rs refl h (is ∙ append-nil (statements_text rs))
 end_case text rs (b ∷ bs) h l is = NoEnd rs (b ∷ bs) h l (omega arith) is
 
-fault_case : (o : Option ScriptKind) (text : List ℕ) (rs : List Statement) (lines : List (List ℕ)) (last : List ℕ) → InOrder [] rs → EndsSo o [] rs lines → EachLacks 10 (lines ++ last ∷ []) → text ≡ flat_map line_text lines ++ last → let e = ended_by o rs last in Ended text e.fault e.right
+fault_case : (o : Option ScriptKind) (text : List ℕ) (rs : List Statement) (lines : List (List ℕ)) (last : List ℕ) → InOrder [] rs
+    → EndsSo o [] rs lines → EachLacks 10 (lines ++ last ∷ []) → text ≡ flat_map line_text lines ++ last → let e = ended_by o rs last in Ended text e.fault e.right
 unfolding statements_text
 fault_case None text rs lines last h s l is =
     end_case text rs last h (each_front 10 lines last [] l) (is ∙ ap (λ (ls : List (List ℕ)). flat_map line_text ls ++ last) s)

@@ -1,8 +1,8 @@
 -- What is written is the text of a scenario.
-use Rattle.std.proofs.Common.{◌≡◌, ℕ, ◌+◌, ◌<◌, ◌≤◌, List, [], ◌∷◌, ◌++◌, length, map, drop, get_or, refl, sym, ap, ◌∙◌}
+use Rattle.std.proofs.Common.{◌≡◌, ℕ, List, [], ◌∷◌, ◌++◌, map, refl, sym, ap, ◌∙◌}
 use Rattle.std.specs.Prelude.{Option, Some, None}
 use Rattle.std.specs.List.{flat_map}
-use Rattle.std.proofs.lemmas.List.{append_assoc, append-nil, drop_more, drop_all, map-append}
+use Rattle.std.proofs.lemmas.List.{append_assoc, append-nil, map-append}
 use Rattle.std.proofs.lemmas.Grind.{flat_map-append}
 use Rattle.pcc_bytes.specs.Fields.{joined, line_text}
 use Rattle.pcc_script.specs.declared.scenario.Letter.{Letter}
@@ -67,9 +67,17 @@ text_cons : (r : Statement) (rs : List Statement) → statements_text (r ∷ rs)
 unfolding statements_text statement_text
 text_cons r rs = refl
 
--- the texts of its parts, one behind the other
-pub scenario_written : (s : Scenario)
-    → (((((statement_text (table_statement s.table) ++ statement_text (clock_statement s.start s.step)) ++ statements_text (map open_statement s.opens)) ++ statements_text (map cpu_statement s.cpus)) ++ statements_text (map cap_statement s.caps)) ++ statements_text (map action_statement s.actions)) ++ statements_text (pick_statements s.picks) ≡ script_text s
+-- the texts of its parts, one after the other
+abbrev pub parts_text : Scenario → List ℕ
+parts_text s =
+    (((((statement_text (table_statement s.table) ++ statement_text (clock_statement s.start s.step))
+    ++ statements_text (map open_statement s.opens))
+    ++ statements_text (map cpu_statement s.cpus))
+    ++ statements_text (map cap_statement s.caps))
+    ++ statements_text (map action_statement s.actions))
+    ++ statements_text (pick_statements s.picks)
+
+pub scenario_written : (s : Scenario) → parts_text s ≡ script_text s
 unfolding script_text
 scenario_written s =
     let o = map open_statement s.opens in let c = map cpu_statement s.cpus in let p = map cap_statement s.caps in let a = map action_statement s.actions in let k = pick_statements s.picks in

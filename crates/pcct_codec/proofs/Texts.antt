@@ -1,5 +1,5 @@
 -- The tables that have a text are those that some bytes spell.
-use Rattle.std.proofs.Common.{◌≡◌, ◌⊎◌, inl, inr, ℕ, ◌+◌, ◌*◌, ◌<◌, ◌≤◌, List, [], ◌∷◌, ◌++◌, length, take, drop, refl, sym, ap, ◌∙◌, subst, arith, lit<}
+use Rattle.std.proofs.Common.{◌≡◌, ◌⊎◌, ℕ, ◌+◌, ◌*◌, ◌<◌, ◌≤◌, List, [], ◌∷◌, ◌++◌, length, take, drop, refl, sym, ap, ◌∙◌, subst, arith, lit<}
 use Rattle.std.specs.Prelude.{◌%◌, codes, sum, Some}
 use Rattle.std.specs.List.{AllByRecursion, flat_map}
 use Rattle.std.proofs.lemmas.Bool.Decides.{nat_tests}
@@ -10,7 +10,7 @@ use Rattle.pcct_table.specs.declared.subspace.Subspace.{Subspace}
 use Rattle.pcct_table.specs.declared.table.Table.{Table}
 use Rattle.pcct_table.specs.Rows.{header_fields, size_of_kind}
 use Rattle.pcct_table.specs.Values.{Value, values_in}
-use Rattle.pcct_table.specs.Subspaces.{IsSubspace, SubspaceBytes, kind_of, subspace_bytes}
+use Rattle.pcct_table.specs.Subspaces.{IsSubspace, kind_of, subspace_bytes}
 use Rattle.pcct_table.specs.ShowText.{HasText}
 use Rattle.pcct_table.proofs.Laws.{own_bytes, own_fit}
 use Rattle.pcct_table.proofs.ShowHeader.{later_fit, revision_small}

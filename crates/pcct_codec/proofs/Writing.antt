@@ -4,7 +4,6 @@ use Rattle.std.specs.Prelude.{codes}
 use Rattle.std.specs.List.{flat_map}
 use Rattle.std.proofs.lemmas.List.{length-append, length-drop, set_at}
 use Rattle.std.proofs.lemmas.List.Sums.{sum_by-append, sum_by-cons}
-use Rattle.byteorder.specs.Numbers.{length-bytes_low_first}
 use Rattle.pcc_bytes.specs.Bytes.{IsBytes, number_at}
 use Rattle.pcc_bytes.proofs.Bytes.{IsBytes-drop}
 use Rattle.pcct_table.specs.declared.table.Table.{Table}

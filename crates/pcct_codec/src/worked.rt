@@ -50,7 +50,6 @@ pub fn worked_faults()
     ensures size_by_type { structure_size 48 (2 ∷ 62 ∷ []) ≡ Err (SubspaceLength 48 2 62) }
     ensures checksum { decision true (take 9 NO_SUBSPACES ++ 0x5b ∷ drop 10 NO_SUBSPACES) ≡ Faulty (Checksum 1) }
 
-
     // A table may have 256 structures. If only one is allowed, a byte after it begins one too many.
     ensures many { structures_decision 1 48 (drop 48 ONE_GENERIC_SUBSPACE ++ 0 ∷ []) ≡ Faulty (TooMany 110) }
     ensures most { most_structures ≡ 256 }

@@ -1,13 +1,12 @@
 -- The line of a structure is read to its bytes, and what is read is such a line.
-use Rattle.std.proofs.Common.{◌≡◌, ℕ, ◌+◌, ◌^◌, ◌<◌, ◌≤◌, eqb, ltb, not, cond, Bool, true, false, List, [], ◌∷◌, ◌++◌, length, drop, slice_index, refl, sym, ap, ◌∙◌, subst, arith, rules, lit<}
+use Rattle.std.proofs.Common.{◌≡◌, ℕ, ◌+◌, ◌^◌, ◌<◌, ◌≤◌, eqb, ltb, cond, Bool, true, false, List, [], ◌∷◌, ◌++◌, length, drop, slice_index, refl, sym, ap, ◌∙◌, subst, arith, lit<}
 use Rattle.std.specs.Prelude.{Option, Some, None, option_and_then, decimal, codes, bytes_eq}
 use Rattle.std.proofs.lemmas.Bool.{ltb-false, le-ltb}
 use Rattle.std.proofs.lemmas.Bool.Decides.{nat_tests}
 use Rattle.std.proofs.lemmas.List.{append-nil}
-use Rattle.std.proofs.lemmas.List.Folds.{list_all-append}
 use Rattle.pcc_bytes.proofs.Bytes.{IsBytes-cons}
 use Rattle.pcc_bytes.specs.Bytes.{IsBytes}
-use Rattle.pcc_bytes.specs.Fields.{joined, split_at}
+use Rattle.pcc_bytes.specs.Fields.{split_at}
 use Rattle.pcc_text.specs.Reading.{number_of}
 use Rattle.pcc_text.proofs.Lines.{lacks_joined}
 use Rattle.pcc_text.proofs.Laws.{EachLacks, bind_some, guard, lacks, number_again, number_reads, same_some, same_text, split_join, text_of_parts, text_same}

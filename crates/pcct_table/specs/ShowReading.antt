@@ -49,7 +49,7 @@ part parts i = slice_index_or parts i []
 abbrev pub read_parts : List (List ℕ) → Option (List ℕ)
 read_parts parts =
     if length parts == 5 then (read_number 1 255 (part parts 0) then (read_number 1 255 (part parts 1)
-      then (read_number 1 255 (part parts 2) then (read_number 1 255 (part parts 3) then read_number 8 18446744073709551615 (part parts 4)))))
+    then (read_number 1 255 (part parts 2) then (read_number 1 255 (part parts 3) then read_number 8 18446744073709551615 (part parts 4)))))
     else None
 
 unfoldable pub read_address : List ℕ → Option (List ℕ)
@@ -122,7 +122,7 @@ unfoldable pub read_line : ℕ → List (List ℕ) → Option (List ℕ)
 read_line place ws =
     if nat_lt (length ws) 4 then None
     else (if bytes_eq (part ws 0) (codes "subspace") then (if bytes_eq (part ws 1) (decimal place) then (
-      if bytes_eq (part ws 2) (codes "type") then read_kind (number_of 255 (part ws 3)) (drop 4 ws) else None) else None) else None)
+    if bytes_eq (part ws 2) (codes "type") then read_kind (number_of 255 (part ws 3)) (drop 4 ws) else None) else None) else None)
 
 -- the structure that was read of a line
 abbrev pub ReadsStructure : Option (List ℕ) → Option Subspace → Type 0
