@@ -1,11 +1,10 @@
 -- What a pick of the answering side keeps.
-use Rattle.std.proofs.Common.{◌≡◌, ◌⊎◌, inl, inr, ℕ, suc, ◌+◌, ◌^◌, ◌<◌, ◌≤◌, Bool, true, false, List, [], ◌∷◌, ◌++◌, length, map, refl, sym, ap, ◌∙◌, subst, arith, length-append}
+use Rattle.std.proofs.Common.{◌≡◌, ◌⊎◌, inl, inr, ℕ, ◌+◌, ◌^◌, ◌<◌, ◌≤◌, Bool, true, false, List, [], ◌∷◌, ◌++◌, length, map, refl, sym, ap, ◌∙◌, subst, arith, length-append}
 use Rattle.std.proofs.lemmas.List.{length-map, map-append}
 use Rattle.pcc_history.specs.Devices.{Device}
 use Rattle.pcc_history.specs.Channel.{Exchange}
 use Rattle.pcc_journal.specs.declared.command.Command.{Command}
-use Rattle.pcc_journal.specs.declared.record.Record.{Record}
-use Rattle.pcc_journal.specs.Records.{exchanges_of, exchanges_of_commands, exchange_of_command, exchange_of_record}
+use Rattle.pcc_journal.specs.Records.{exchanges_of_commands, exchange_of_command, exchange_of_record}
 use Rattle.pcc_steps.specs.declared.wiring.Action.{Action}
 use Rattle.pcc_steps.specs.declared.ask.AskStage.{AskStage}
 use Rattle.pcc_steps.specs.declared.ask.AskStage.TheVariants.{AskRest, PostBlock, PostHeader, PostUpdateLoad, PostUpdateStore, PostMarkLoad, PostMarkStore, PostBellLoad, PostBellStore, PostLine, LookWord, LookError, LookBlock, LookLine, LookLineStore, LookAckLoad, LookAckStore}

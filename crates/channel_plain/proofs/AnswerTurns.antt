@@ -20,7 +20,7 @@ use Rattle.pcc_steps.specs.Wires.{style_of, heads_of, block_of, tells_error, fou
 use Rattle.pcc_steps.specs.Runs.{Run, ends, loads, stores, swaps, executes, AnswerEnd, finds_none, serves, answer_run}
 use Rattle.pcc_steps.specs.Walk.{Takes, Gives, answer_left, answer_after}
 use Rattle.pcc_steps.specs.Asking.{has_more}
-use Rattle.pcc_steps.specs.Answering.{Answer, AnswerOk, answer_code, answer_next, answer_next_at, answer_fed, answer_fed_at, answer_told, answer_told_at, answer_begun, after_ack, after_take, after_error, after_reply, after_close, after_done, after_update, done_stage, asks_notify, served_at, take_on, take_told, load_on, reply_on, ran_with}
+use Rattle.pcc_steps.specs.Answering.{Answer, AnswerOk, answer_code, answer_next, answer_next_at, answer_fed, answer_fed_at, answer_told, answer_begun, after_ack, after_take, after_error, after_reply, after_close, after_done, after_update, done_stage, asks_notify, take_on, load_on, reply_on, ran_with}
 use Rattle.pcc_steps.specs.Agree.{act, Answerer, IsBetween, settle, settle_at, executed, found}
 use Rattle.pcc_steps.specs.Laws.{AnswersByTable, AnswerStepsByTable, ExecutesByTable}
 use Rattle.channel_core.specs.Executions.{command_by}

@@ -1,6 +1,6 @@
 -- What a command that is made ready says, and what is known of a post that nothing refuses.
-use Rattle.std.proofs.Common.{◌≡◌, ◌≤◌, ◌<◌, ℕ, ◌+◌, Bool, true, false, if◌then◌else◌, List, [], ◌∷◌, ◌++◌, drop, length, refl, sym, ap, ◌∙◌, subst, arith}
-use Rattle.std.specs.Prelude.{nat_lt, Option, Some, None, Result, Ok, Err}
+use Rattle.std.proofs.Common.{◌≡◌, ◌≤◌, ◌<◌, ℕ, Bool, true, false, if◌then◌else◌, List, [], ◌∷◌, drop, length, refl, sym, ap, subst, arith}
+use Rattle.std.specs.Prelude.{nat_lt, Option, Some, None, Ok, Err}
 use Rattle.std.proofs.lemmas.Bool.Decides.{nat_tests}
 use Rattle.std.proofs.lemmas.List.{append-nil, length-append, length-drop}
 use Rattle.rate_limit.specs.declared.Limits.{Limits}
@@ -18,11 +18,11 @@ use Rattle.channel_core.specs.declared.sent.Sent.{Sent}
 use Rattle.channel_core.specs.CommandHistory.{CommandHistory, marked_done, reserved}
 use Rattle.channel_core.specs.Readying.{ReadyCommand, ReadiedBy}
 use Rattle.channel_core.specs.Refusals.{soon_of}
-use Rattle.channel_core.specs.Sendings.{FliesWith, post_of, record_of}
+use Rattle.channel_core.specs.Sendings.{post_of, record_of}
 use Rattle.channel_core.specs.declared.caller.Reading.{Reading}
 use Rattle.channel_plain.specs.declared.trace.TraceEnd.{TraceEnd}
 use Rattle.channel_plain.specs.declared.trace.TraceEnd.TheVariants as end
-use Rattle.channel_plain.specs.Picks.{CallsState, drained, refused_end}
+use Rattle.channel_plain.specs.Picks.{drained, refused_end}
 use Rattle.channel_plain.specs.Holding.{calls_of}
 
 -- ---- a command that is made ready

@@ -22,7 +22,7 @@ use Rattle.channel_plain.specs.declared.trace.Asked.{Asked}
 use Rattle.channel_plain.specs.declared.trace.Side.{Side}
 use Rattle.channel_plain.specs.declared.trace.TraceLine.{TraceLine}
 use Rattle.channel_plain.specs.Picks.{CallsState, PlainState, Picked, answer_picked, ask_picked_at, asks_by, line_of, picked_by}
-use Rattle.channel_core.specs.Readings.{count_of, counted}
+use Rattle.channel_core.specs.Readings.{count_of}
 use Rattle.channel_plain.specs.Holding.{Takes}
 use Rattle.channel_plain.specs.News.{opening_of}
 use Rattle.pcc_steps.specs.Carrying.{carried, carried_at, is_rest}

@@ -1,8 +1,5 @@
-use Rattle.std.proofs.Common.{◌≡◌, ℕ, true, List, sym, ap, ◌∙◌, subst}
+use Rattle.std.proofs.Common.{◌≡◌, ℕ, true, sym, ap, ◌∙◌, subst}
 use Rattle.std.specs.Prelude.{Option, Some, None}
-use Rattle.rate_limit.specs.declared.Limits.{Limits}
-use Rattle.rate_limit.specs.declared.Times.{Times}
-use Rattle.pcc_journal.specs.declared.record.Record.{Record}
 use Rattle.pcc_journal.specs.Records.{times_of}
 use Rattle.channel_core.specs.CommandHistory.{CommandHistory, marked_post}
 use Rattle.channel_core.specs.Readings.{Reads, counted}

@@ -3,7 +3,6 @@ use Rattle.pcc_steps.specs.declared.wiring.Wiring.{Wiring}
 use Rattle.pcc_steps.specs.Wires.{style_of}
 use Rattle.pcc_steps.specs.Asking.{CodeFits}
 use Rattle.channel_plain.specs.Weaving.{Clocked}
-use Rattle.channel_plain.specs.Picks.{PlainState}
 use Rattle.channel_plain.proofs.AskPicks.{code_ok, code_serving}
 use Rattle.channel_plain.proofs.ends.Ends.from_rest.Goals as goal
 
