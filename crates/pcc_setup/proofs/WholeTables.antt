@@ -1,10 +1,10 @@
 -- Bytes are those of a table and nothing else, or are refused, by one line.
-use Rattle.std.proofs.Common.{◌≡◌, ◌⊎◌, inl, inr, ◌≤◌, ℕ, suc, true, List, [], ◌∷◌, ◌++◌, length, sym, ap, ◌∙◌, subst, arith, Ok}
+use Rattle.std.proofs.Common.{◌≡◌, ◌⊎◌, inl, inr, ◌≤◌, ℕ, true, List, [], ◌∷◌, ◌++◌, length, sym, ap, ◌∙◌, subst, arith, Ok}
 use Rattle.std.proofs.lemmas.List.{append-nil}
 use Rattle.pcct_table.specs.declared.table.Table.{Table}
 use Rattle.pcct_codec.specs.declared.fault.TableFault.{TableFault}
-use Rattle.pcct_codec.specs.Faults.{Decision, Faulty, HasFault, Right, decision, told_length}
-use Rattle.pcct_codec.specs.Tables.{BeginsTable, TableBytes}
+use Rattle.pcct_codec.specs.Faults.{Decision, Faulty, Right, decision, told_length}
+use Rattle.pcct_codec.specs.Tables.{TableBytes}
 use Rattle.pcct_codec.proofs.Decisions.{right_source}
 use Rattle.pcct_codec.proofs.Existing.{begins_or_faulty}
 use Rattle.pcct_codec.proofs.Headers.{told_more, told_table}

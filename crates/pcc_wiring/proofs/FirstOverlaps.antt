@@ -1,5 +1,5 @@
 -- Memories lie apart, or one pair of them is the first that meets.
-use Rattle.std.proofs.Common.{◌≡◌, ◌⊎◌, inl, inr, ◌<◌, ◌≤◌, ℕ, zero, suc, max, List, length, refl, sym, ap, ◌∙◌, subst, arith}
+use Rattle.std.proofs.Common.{◌≡◌, ◌⊎◌, inl, inr, ◌<◌, ℕ, zero, suc, max, List, length, refl, sym, ap, ◌∙◌, subst, arith}
 use Rattle.std.proofs.lemmas.Bool.{cases_lt}
 use Rattle.pcc_wiring.specs.declared.overlap.Overlap.{Overlap}
 use Rattle.pcc_wiring.specs.Overlaps.{AreApart, HasOverlap, IsFirstOverlap, Meet, at, base_of, end_of, id_of}

@@ -1,5 +1,5 @@
 -- The words and the input lead to one status and one text.
-use Rattle.std.proofs.Common.{◌≡◌, ◌≢◌, ◌⊎◌, inl, inr, ℕ, ◌+◌, ◌<◌, ◌≤◌, List, ◌++◌, length, refl, sym, ap, ◌∙◌, subst, arith}
+use Rattle.std.proofs.Common.{◌≡◌, ◌≢◌, ◌⊎◌, inl, inr, ℕ, ◌+◌, ◌<◌, ◌≤◌, List, length, refl, sym, ap, ◌∙◌, subst, arith}
 use Rattle.std.specs.Prelude.{Option, Some}
 use Rattle.std.proofs.lemmas.List.{length-append}
 use Rattle.pcc_script.specs.Made.{made_scenario_of}
@@ -15,7 +15,7 @@ use Rattle.pccrun_core.specs.declared.command.Command.TheVariants as command
 use Rattle.pccrun_core.specs.declared.command.Request.{Request}
 use Rattle.pccrun_core.specs.declared.command.Request.TheVariants as request
 use Rattle.pccrun_core.specs.Answers.{Answers, Asks, AsksFor, AsksToMake, Made, Makes, ReadMore, Refused, Summed, TooLong, Usage, input_limit, usage_line}
-use Rattle.pccrun_core.specs.Inputs.{Exceeds, IsAccepted, IsRefusedInput, Rejects, Within}
+use Rattle.pccrun_core.specs.Inputs.{Exceeds, IsRefusedInput, Rejects, Within}
 use Rattle.pccrun_core.specs.Refusals.{Refuses}
 use Rattle.pccrun_core.proofs.Headlined.{same_number}
 use Rattle.pccrun_core.proofs.OneLine.{accepted_kept, is_made, one_rejection, one_text}

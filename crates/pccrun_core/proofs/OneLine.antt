@@ -1,18 +1,13 @@
 -- Each input is made or refused by a command, by one line.
-use Rattle.std.proofs.Common.{◌≡◌, ◌≢◌, ◌⊎◌, inl, inr, ℕ, ◌+◌, ◌<◌, ◌≤◌, Bool, true, false, List, [], length, refl, sym, ap, ◌∙◌, subst, arith}
+use Rattle.std.proofs.Common.{◌≡◌, ◌≢◌, ◌⊎◌, inl, inr, ℕ, ◌≤◌, Bool, true, false, List, [], length, refl, sym, ap, ◌∙◌, subst, arith}
 use Rattle.std.specs.Prelude.{Option, Some, None}
 use Rattle.std.proofs.lemmas.Bool.{cases_lt}
-use Rattle.aml_pkg.specs.declared.item.Item.{Item}
-use Rattle.cpc_package.specs.Packages.{CpcBytes}
 use Rattle.cpc_package.specs.PackageText.{package_text}
 use Rattle.pcc_bytes.specs.Bytes.{IsBytes}
-use Rattle.pcc_script.specs.Faults.{HasFault as ScriptFault, HasScenario}
-use Rattle.pcc_script.specs.declared.fault.ScriptKind.{ScriptKind}
+use Rattle.pcc_script.specs.Faults.{HasFault as ScriptFault}
 use Rattle.pcc_script.specs.declared.scenario.Scenario.{Scenario}
 use Rattle.pcc_script.proofs.Telling.{text_not_both, text_one_fault, text_some}
-use Rattle.pcct_table.specs.declared.build.BuildKind.{BuildKind}
 use Rattle.pcct_table.specs.declared.table.Table.{Table}
-use Rattle.pcct_table.specs.ShowFaults.{HasFault as TableFault, HasTable}
 use Rattle.pcct_table.specs.ShowText.{show_text}
 use Rattle.pcct_table.proofs.Telling.{text_one_table, text_not_both as table_not_both, text_one_fault as table_one_fault, text_some as table_some}
 use Rattle.pcct_codec.specs.Tables.{IsTableValue, TableBytes}
@@ -27,11 +22,11 @@ use Rattle.pcc_setup.proofs.Checks.{set_up_kept}
 use Rattle.pcc_setup.proofs.OneFault.{one_refusal, one_set_up_table, set_up_or_refused}
 use Rattle.pcc_setup.proofs.WholeTables.{one_table_refusal, whole_or_refused}
 use Rattle.script_run.specs.Built.{is_built}
-use Rattle.script_run.specs.ScriptRuns.{IsStepText, run_of, step_text}
+use Rattle.script_run.specs.ScriptRuns.{step_text}
 use Rattle.script_run.proofs.Several.{set_up_headlines}
 use Rattle.pccrun_core.specs.declared.command.Command.{Command}
 use Rattle.pccrun_core.specs.declared.command.Command.TheVariants as command
-use Rattle.pccrun_core.specs.Answers.{IsMade, IsServedScript, IsTextOf, Makes, ServedBy, input_limit}
+use Rattle.pccrun_core.specs.Answers.{IsMade, IsServedScript, IsTextOf, Makes, input_limit}
 use Rattle.pccrun_core.specs.Inputs.{Exceeds, IsAccepted, IsRejected, Rejects, Within}
 use Rattle.pccrun_core.specs.Refusals.{BySetUp, ByUse, IsScript, IsSpelled, NotBuilt, NotServed, Refuses, ScriptRefused, TextRefused, Unserved, WrongLine, WrongScript}
 use Rattle.pccrun_core.specs.Uses.{use_fault}

@@ -1,16 +1,15 @@
 -- The journal of a run on one channel keeps the headline.
-use Rattle.std.proofs.Common.{◌≡◌, ℕ, ◌+◌, Bool, true, false, cond, List, [], ◌∷◌, ◌++◌, refl, sym, ap, ◌∙◌, subst}
-use Rattle.std.specs.Prelude.{Option, Some, None, ◌==◌}
+use Rattle.std.proofs.Common.{◌≡◌, ℕ, ◌+◌, Bool, true, false, cond, List, [], ◌∷◌, ◌++◌, refl, sym, ap, subst}
+use Rattle.std.specs.Prelude.{Some, None, ◌==◌}
 use Rattle.std.specs.List.{AllByRecursion}
 use Rattle.pcc_script.specs.declared.scenario.Line.{Line}
 use Rattle.pcc_script.specs.declared.scenario.Line.TheVariants as line
-use Rattle.channel_turns.specs.Replies.{Reply}
 use Rattle.channel_turns.specs.ChannelRuns.{Answered, Call, Channel, ChannelStart, ChannelState, answer_call, fresh}
 use Rattle.channel_headline.specs.ChannelLog.{ChannelLine, Called, Waited}
 use Rattle.channel_headline.specs.Runs.{Calls, ChannelRun, ChannelStep, HeadlineOf, Waits, run_from}
 use Rattle.channel_headline.proofs.WholeRuns.{headline_of_runs}
-use Rattle.script_run.specs.StepRun.{Run, Turn, step_run, turn_of}
-use Rattle.script_run.specs.Headlines.{AreHeadlines, KeepsHeadline, called_on, line_on, lines_on}
+use Rattle.script_run.specs.StepRun.{Run, Turn, step_run}
+use Rattle.script_run.specs.Headlines.{AreHeadlines, KeepsHeadline, called_on, lines_on}
 
 -- what a line does with the channel that has an ID
 abbrev step_on : ℕ → Line → List ChannelStep

@@ -20,7 +20,6 @@ use Rattle.pcct_codec.specs.Tables.{TableBytes}
 use Rattle.pcct_codec.specs.Worked.{one_generic}
 use Rattle.pcct_codec.specs.declared.worked.TheConstants.{ONE_GENERIC_SUBSPACE}
 use Rattle.pcct_table.specs.declared.subspace.Subspace.{Subspace}
-use Rattle.pcct_table.specs.declared.table.Table.{Table}
 use Rattle.channel_turns.specs.ChannelRuns.{Channel, count_in_flight}
 use Rattle.script_run.specs.DeviceChannels.{channel_of, channels_by}
 use Rattle.script_run.specs.declared.channel.DeviceChannel.{DeviceChannel}

@@ -1,5 +1,5 @@
 -- What a script opens: its channels, their IDs and its lines.
-use Rattle.std.proofs.Common.{◌≡◌, ℕ, zero, suc, ◌^◌, ◌<◌, ◌==◌, ◌&&◌, ◌||◌, Bool, true, false, cond, List, [], ◌∷◌, ◌++◌, length, map, take, refl, sym, ap, ◌∙◌, subst, arith}
+use Rattle.std.proofs.Common.{◌≡◌, ℕ, zero, suc, ◌<◌, ◌==◌, ◌&&◌, ◌||◌, Bool, true, false, cond, List, [], ◌∷◌, ◌++◌, length, map, refl, sym, ap, ◌∙◌, subst, arith}
 use Rattle.std.specs.Prelude.{Option, Some, None, slice_get}
 use Rattle.std.specs.List.{AllByRecursion, flat_map, list_all, list_any}
 use Rattle.pcct_table.specs.declared.subspace.Subspace.{Subspace}
@@ -14,7 +14,7 @@ use Rattle.pcc_script.specs.Limits.{IsAction, IsWithin}
 use Rattle.pcc_setup.specs.declared.action.ActionFault.TheVariants.{NotBank}
 use Rattle.pcc_setup.specs.declared.opening.Opened.{Opened}
 use Rattle.pcc_setup.specs.Openings.{AllOpen, asks_on, fault_by, head_of, opened_by, structure_fault}
-use Rattle.pcc_setup.specs.SetUps.{IsSetUp, Opens, action_fault, first_action, is_bank, opens_bank, opens_banks}
+use Rattle.pcc_setup.specs.SetUps.{Opens, action_fault, first_action, is_bank, opens_bank, opens_banks}
 use Rattle.pcc_steps.specs.Wires.{IsRight}
 use Rattle.pcc_wiring.specs.declared.fault.Asks.{Asks}
 use Rattle.pcc_wiring.specs.declared.fault.WiringFault.{WiringFault}
@@ -22,9 +22,9 @@ use Rattle.pcc_wiring.specs.Faults.{fault_of}
 use Rattle.pcc_wiring.specs.Wirings.{wiring_with}
 use Rattle.channel_turns.specs.ChannelRuns.{Channel}
 use Rattle.script_run.specs.Built.{is_built, is_built_line}
-use Rattle.script_run.specs.Channels.{AreDistinct, CanRun, IsEarly, IsOnOneOf, IsWired, id_of, ids_of}
+use Rattle.script_run.specs.Channels.{AreDistinct, CanRun, IsEarly, IsOnOneOf, IsWired, ids_of}
 use Rattle.script_run.specs.ReplyText.{replies_text}
-use Rattle.script_run.specs.ScriptRuns.{IsStepText, channel_journal, clock_of, run_of, run_text, set_up_of, step_text}
+use Rattle.script_run.specs.ScriptRuns.{IsStepText, channel_journal, clock_of, run_text, set_up_of, step_text}
 use Rattle.script_run.specs.StepRun.{step_run}
 use Rattle.script_run.proofs.Several.{open_rest, opened_channel, opens_apart, set_up_headlines, set_up_ids, set_up_opened}
 

@@ -1,5 +1,5 @@
 -- The channels of the opened subspaces, in the order of their lines.
-use Rattle.std.specs.Prelude.{◌≡◌, ◌≢◌, ◌≤◌, ℕ, ◌+◌, ◌-◌, ◌*◌, ◌^◌, min, ◌==◌, true, List, [], ◌∷◌, map, replicate}
+use Rattle.std.specs.Prelude.{◌≡◌, ◌≢◌, ◌≤◌, ℕ, ◌-◌, ◌*◌, ◌^◌, ◌==◌, true, List, [], ◌∷◌, map, replicate}
 use Rattle.std.specs.List.{AllByRecursion, list_any}
 use Rattle.pcc_history.specs.Devices.{bank_exec}
 use Rattle.pcc_journal.specs.declared.text.JournalHead.{JournalHead}

@@ -20,7 +20,7 @@ use Rattle.pcc_steps.specs.declared.wiring.Action.TheVariants.{Load, Store, Swap
 use Rattle.pcc_steps.specs.Runs.{AskEnd, Run, drains, ends, executes, loads, look_run, stores, swaps}
 use Rattle.channel_core.specs.Refusals as refusals
 use Rattle.channel_core.specs.declared.answers.CallRefusal.TheVariants as refusal
-use Rattle.channel_core.specs.Sendings.{count_flying, first_looks, given_up_after as given_up, is_late, record_of}
+use Rattle.channel_core.specs.Sendings.{count_flying, given_up_after as given_up, is_late, record_of}
 use Rattle.channel_core.specs.declared.sent.Sent.{Sent}
 use Rattle.channel_plain.specs.declared.trace.Asked.{Asked}
 use Rattle.channel_plain.specs.declared.trace.TraceEnd.{TraceEnd}
