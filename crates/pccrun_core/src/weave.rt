@@ -22,7 +22,7 @@ use pcc_wiring::right_wirings;
 use std::alloc::Global;
 
 // The calls of the lines.
-#[tactic(auto, using(script_run::proofs::Mapped::mapped_more, script_run::proofs::Mapped::mapped_all))]
+#[tactic(auto, using(pcc_text::proofs::Mapped::mapped_more, pcc_text::proofs::Mapped::mapped_all))]
 fn calls_of(alloc: Global, actions: &Actions) -> Result<Vec<Asked>, NoMemory>
     requires { AllByRecursion IsCall actions.now }
     ensures { IfOk result (λ v. v.items ≡ map asked_by actions.now) }
@@ -65,7 +65,7 @@ fn side_of(letter: Letter) -> Side
 }
 
 // The sides that the letters pick.
-#[tactic(auto, using(script_run::proofs::Mapped::mapped_more, script_run::proofs::Mapped::mapped_all))]
+#[tactic(auto, using(pcc_text::proofs::Mapped::mapped_more, pcc_text::proofs::Mapped::mapped_all))]
 fn sides_of(alloc: Global, picks: &Picks) -> Result<Vec<Side>, NoMemory>
     ensures { IfOk result (λ v. v.items ≡ map side_of picks.now) }
 {

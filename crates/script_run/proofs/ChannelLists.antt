@@ -22,7 +22,7 @@ use Rattle.script_run.specs.declared.channel.DeviceChannel.{DeviceChannel}
 use Rattle.script_run.specs.LineOutcomes.{IsOutcomeOf}
 use Rattle.script_run.specs.ScriptRuns.{channel_journal}
 use Rattle.script_run.specs.StepRun.{Turn, call_on, turn_of}
-use Rattle.script_run.proofs.Mapped.{mapped_more}
+use Rattle.pcc_text.proofs.Mapped.{mapped_more}
 use Rattle.script_run.proofs.Several.{call_at, channels_waited, turn_ids}
 
 -- what holds of all items holds of the one at a place

@@ -1,4 +1,3 @@
-pub mod Mapped
 mod Replies
 pub mod Steps
 pub mod Headlines

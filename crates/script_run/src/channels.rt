@@ -73,7 +73,7 @@ impl OpenedChannels {
 }
 
 // A channel for each opened subspace, which nothing was asked of.
-#[tactic(auto, using(crate::proofs::ChannelLists::opened_more, crate::proofs::Mapped::mapped_all, crate::proofs::ChannelLists::wired_at))]
+#[tactic(auto, using(crate::proofs::ChannelLists::opened_more, pcc_text::proofs::Mapped::mapped_all, crate::proofs::ChannelLists::wired_at))]
 fn open_each(
     alloc: Global,
     scenario: &Scenario,
