@@ -3,5 +3,10 @@
 
 mod tests_of_wishes;
 mod wish;
+mod worked;
 
 pub use wish::{SetRefusal, Wish, put_wish, wish_laws};
+pub use worked::worked_wishes;
+
+#[cfg(test)]
+mod tests;

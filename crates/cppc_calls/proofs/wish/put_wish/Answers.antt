@@ -1,6 +1,6 @@
 use Rattle.std.proofs.Common.{refl, sym}
 use Rattle.cppc_calls.proofs.Put.{three}
-use Rattle.cppc_calls.proofs.Tests.{can_put, no_truth, refused}
+use Rattle.cppc_calls.proofs.Refusals.{can_put, no_truth, refused}
 use Rattle.cppc_calls.proofs.wish.put_wish.Goals as goal
 
 pub returns-in-Some-clause-put : goal.returns-in-Some-clause-put

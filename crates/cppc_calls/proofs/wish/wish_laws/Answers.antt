@@ -1,4 +1,4 @@
-use Rattle.cppc_calls.proofs.Tests.{exactly}
+use Rattle.cppc_calls.proofs.Refusals.{exactly}
 use Rattle.cppc_calls.proofs.wish.wish_laws.Goals as goal
 
 pub returns : goal.returns
