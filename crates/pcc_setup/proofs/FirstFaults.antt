@@ -54,7 +54,7 @@ not_before test xs i n x f at wrong sound lt = some_none (test i x) f (sound i x
 same_number : (m n : ℕ) → (m < n → ⊥) → (n < m → ⊥) → m ≡ n
 same_number m n a b = elim (cases_lt m n) [
   | inl lt ↦ absurd (a lt)
-  | inr ge ↦ elim (cases_lt n m) [ | inl lt ↦ absurd (b lt) | inr le ↦ omega (arith, ge, le) ]
+  | inr ge ↦ elim (cases_lt n m) [ inl lt ↦ absurd (b lt) | inr le ↦ omega (arith, ge, le) ]
 ]
 
 pub record SameFault {X F : Type 0} (test : ℕ → X → Option F) (xs : List X) (p q : FirstFault test xs) : Type 0 where

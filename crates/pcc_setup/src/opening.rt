@@ -85,7 +85,7 @@ fn open_line(alloc: Global, table: &Table, opens: &Opens, place: usize) -> Resul
     requires { place < length opens.now }
     ensures { MatchResult result
         (λ o. (line : OpenLine) × (slice_get opens.now place ≡ Some line) × (line_fault table.now (take place opens.now) line ≡ None)
-            × (opened_with line.id table.now.flags (slice_get table.now.subspaces line.id) ≡ o ∷ []))
+        × (opened_with line.id table.now.flags (slice_get table.now.subspaces line.id) ≡ o ∷ []))
         (λ fault. (line : OpenLine) × (slice_get opens.now place ≡ Some line) × (line_fault table.now (take place opens.now) line ≡ Some fault)) }
 {
     let line = opens.at(place);

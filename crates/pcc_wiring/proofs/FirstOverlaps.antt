@@ -33,7 +33,7 @@ first_below P test (suc n) = elim (first_below P test n) [
 same_number : (m n : ℕ) → (m < n → ⊥) → (n < m → ⊥) → m ≡ n
 same_number m n a b = elim (cases_lt m n) [
   | inl lt ↦ absurd (a lt)
-  | inr ge ↦ elim (cases_lt n m) [ | inl lt ↦ absurd (b lt) | inr le ↦ omega (arith, ge, le) ]
+  | inr ge ↦ elim (cases_lt n m) [ inl lt ↦ absurd (b lt) | inr le ↦ omega (arith, ge, le) ]
 ]
 
 -- ---- memories that meet
@@ -72,18 +72,18 @@ module _ (opened : List (ℕ × ℕ × ℕ)) where
   pub apart_or_first : AreApart opened ⊎ HasOverlap opened
   apart_or_first = elim (first_below MeetsBefore before_test (length opened)) [
     | inl f ↦ let b : ℕ = f.0 in let m : MeetsBefore b = f.2 in inr (record {
-        found = record { a = id_of (at opened m.0); b = id_of (at opened b) };
-        first = record {
-          a = m.0;
-          b = b;
-          order = m.1;
-          within = f.1;
-          meet = m.2;
-          before_b = λ i j lt below meet. f.3 j below (meets_before i j lt meet);
-          before_a = m.3;
-          ids = (refl, refl);
-        };
-      })
+      found = record { a = id_of (at opened m.0); b = id_of (at opened b) };
+      first = record {
+        a = m.0;
+        b = b;
+        order = m.1;
+        within = f.1;
+        meet = m.2;
+        before_b = λ i j lt below meet. f.3 j below (meets_before i j lt meet);
+        before_a = m.3;
+        ids = (refl, refl);
+      };
+    })
     | inr none ↦ inl (λ i j lt below meet. none j below (meets_before i j lt meet))
   ]
 

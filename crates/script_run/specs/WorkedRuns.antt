@@ -53,7 +53,7 @@ kept caller code input output post done late =
 abbrev pub replies_in_one_thread : Type 0
 replies_in_one_thread =
     seen (step_run (swap 0 (1 ∷ 2 ∷ []) 3 0 ∷ swap 0 (3 ∷ []) 3 0 ∷ line.Call 0 0 256 [] 1 0
-        ∷ line.Call 0 0 17 (1 ∷ 2 ∷ 3 ∷ []) 1 0 ∷ line.Call 0 0 18 (9 ∷ []) 1 0 ∷ []) (bank 0 0 (every 10 0) ∷ []))
+    ∷ line.Call 0 0 17 (1 ∷ 2 ∷ 3 ∷ []) 1 0 ∷ line.Call 0 0 18 (9 ∷ []) 1 0 ∷ []) (bank 0 0 (every 10 0) ∷ []))
     ≡ record {
       replies = Some (Done false (0 ∷ 0 ∷ [])) ∷ Some (Done false (1 ∷ 2 ∷ [])) ∷ Some (BadCode 256) ∷ Some (TooLong 3 2) ∷ Some (Done true (9 ∷ 2 ∷ [])) ∷ [];
       records = (
