@@ -25,9 +25,9 @@ use Rattle.channel_turns.specs.declared.outcome.Outcome.{Outcome}
 use Rattle.channel_turns.specs.declared.outcome.Outcome.TheVariants as outcome
 use Rattle.channel_turns.specs.Replies.{Done, StillPending, TimedOut}
 use Rattle.channel_turns.specs.Outcomes.{StandsFor}
-use Rattle.channel_turns.specs.ChannelRuns.{Answered, Call, ChannelStart, ChannelState, after_earlier, answer_call, answer_unless, completed, count_in_flight, next_reading, post_call, refusal_of, replied}
+use Rattle.channel_turns.specs.ChannelRuns.{Answered, Call, ChannelStart, ChannelState, Polled, after_polls, answer_call, answer_unless, completed, count_in_flight, next_reading, polled_for, post_call, refusal_of, replied}
 use Rattle.channel_turns.specs.EndsStates.{Awaited, EndsState, awaited, budgeted, earliest_post, exchange_in, gave_up, next_sent, posted, reading_of, ready_with, start_of}
-use Rattle.channel_turns.specs.Calls.{EndsByPost, HasAwaited, IsAnswered, IsLate, IsPosted, Noted, OpenChannel, Stays, efforts_of, flight_of, note_in, noted_after, noted_earlier, noted_in, answer_if, noted_post, now_of, open_channel}
+use Rattle.channel_turns.specs.Calls.{EndsByPost, HasAwaited, IsAnswered, IsLate, IsPosted, Noted, OpenChannel, Stays, efforts_of, flight_of, note_in, noted_after, noted_earlier, noted_in, noted_post, now_of, open_channel}
 use Rattle.channel_turns.specs.Seeing.{EndsSeen}
 use Rattle.channel_turns.proofs.Polls.{above_polls, at_once, below_polls, completes, held_on}
 
@@ -195,7 +195,7 @@ module _ (exec : Device) (polls : ℕ) (s : EndsState) where
   pub free_awaited : is_flying s.history.sent ≡ false → HasAwaited exec polls s s true
   free_awaited e = let free : s.history.sent ≡ None = free_sent s.history.sent e in let start : ChannelStart = start_of exec s in
       record {
-        answered = λ follows. ap (λ (o : Option Sent). after_earlier start polls follows (now_of s) (flight_of o s.hold)) free;
+        polls_leave = ap (λ (o : Option Sent). polled_for start polls (now_of s) (flight_of o s.hold)) free;
         stays = record { head = refl; wiring = refl; clock = refl; first = refl; opening = refl };
         noted = ap (λ (o : Option Sent). noted_earlier (note_in o) (noted_in s)) (sym free);
         readings = omega arith;
@@ -230,10 +230,10 @@ module _ (exec : Device) (polls : ℕ) (s : EndsState) where
       ∙ ap (λ (o : Option Sent). noted_earlier (note_in o) (noted_in s)) (sym e)) in
       let below : nat_lt s.hold polls ≡ true = grind (arith, nat_tests) in
       let read : t.taken ≡ s.taken + 1 = ap (λ (z : EndsState). z.taken) em ∙ n in
-      let by : (follows : ChannelState → Answered) → after_earlier start polls follows now (flight_of (Some d) s.hold) ≡ follows (completed start d.command true now) = λ follows. rw below refl in
+      let by : polled_for start polls now (flight_of (Some d) s.hold) ≡ record { free = true; now = completed start d.command true now } = rw below refl in
       record {
-        answered = λ follows. ap (λ (o : Option Sent). after_earlier start polls follows now (flight_of o s.hold)) e
-            ∙ (by follows ∙ (ap follows drained_now ∙ ap (λ (z : EndsState). follows (now_of z)) (sym em)));
+        polls_leave = ap (λ (o : Option Sent). polled_for start polls now (flight_of o s.hold)) e
+            ∙ (by ∙ ap (λ (z : ChannelState). record { free = true; now = z }) (drained_now ∙ ap now_of (sym em)));
         stays = stays_for s t mid em (record { head = refl; wiring = refl; clock = refl; first = refl; opening = refl });
         noted = ap noted_in em ∙ noted;
         readings = omega (arith, read);
@@ -251,12 +251,12 @@ module _ (exec : Device) (polls : ℕ) (s : EndsState) where
       let held : nat_lt s.hold polls ≡ false = grind (arith, nat_tests) in
       let on : EndsState = record s { hold = s.hold - polls; looks = s.looks + polls } in
       let left : ChannelState = record now { in_flight = Some (record { command = d.command; left = s.hold - polls }) } in
-      let by : (follows : ChannelState → Answered) → after_earlier start polls follows now (flight_of (Some d) s.hold) ≡ record { reply = StillPending polls; now = left } = λ follows. rw held refl in
+      let by : polled_for start polls now (flight_of (Some d) s.hold) ≡ record { free = false; now = left } = rw held refl in
       let now_is : left ≡ now_of t = ap (λ (o : Option Sent). record now { in_flight = flight_of o (s.hold - polls) }) (sym e) ∙ ap now_of (sym k.1) in
       let read : t.taken ≡ s.taken = ap (λ (z : EndsState). z.taken) k.1 in
       record {
-        answered = λ follows. ap (λ (o : Option Sent). after_earlier start polls follows now (flight_of o s.hold)) e
-            ∙ (by follows ∙ ap (λ (z : ChannelState). record { reply = StillPending polls; now = z }) now_is);
+        polls_leave = ap (λ (o : Option Sent). polled_for start polls now (flight_of o s.hold)) e
+            ∙ (by ∙ ap (λ (z : ChannelState). record { free = false; now = z }) now_is);
         stays = stays_for s t on k.1 (record { head = refl; wiring = refl; clock = refl; first = refl; opening = refl });
         noted = ap noted_in k.1;
         readings = omega (arith, read);
@@ -347,9 +347,9 @@ module _ (exec : Device) (s0 new : EndsSeen) (s1 s2 : EndsState) (c : OpenChanne
 
   -- an answer after the polls for an earlier command
   answered_by : (mid : EndsState) (free : Bool) → refused_by s0.state code bytes ≡ None → HasAwaited exec polls big mid free
-      → answer_call (start_of exec s0.state) asked (now_of s0.state) ≡ answer_if free polls (post_call (start_of exec s0.state) asked) (now_of mid)
+      → answer_call (start_of exec s0.state) asked (now_of s0.state) ≡ after_polls (start_of exec s0.state) asked (record { free = free; now = now_of mid })
   answered_by mid free refused h = let start : ChannelStart = start_of exec s0.state in let now : ChannelState = now_of s0.state in
-      ap (answer_unless start asked now) (unrefused s0.state asked refused) ∙ h.answered (post_call start asked)
+      ap (answer_unless start asked now) (unrefused s0.state asked refused) ∙ ap (after_polls start asked) h.polls_leave
 
   -- where nothing is in flight then, it is that of the post
   through : (mid : EndsState) (o : Outcome) → refused_by s0.state code bytes ≡ None → HasAwaited exec polls big mid true

@@ -2,8 +2,7 @@
 use Rattle.std.specs.Prelude.{◌≡◌, ◌≤◌, ℕ, ◌+◌, ◌*◌, [], ◌∷◌, ◌++◌, Bool, true, false, List, length, Option, Some, None, Result, Ok, OnOk}
 use Rattle.pcc_history.specs.Devices.{Device}
 use Rattle.pcc_journal.specs.declared.text.JournalHead.{JournalHead}
-use Rattle.channel_turns.specs.ChannelRuns.{Answered, Call, ChannelStart, ChannelState, InFlight, ScriptClock, after_earlier, answer_call, fresh, post_call}
-use Rattle.channel_turns.specs.Replies.{StillPending}
+use Rattle.channel_turns.specs.ChannelRuns.{Answered, Call, ChannelStart, ChannelState, InFlight, ScriptClock, answer_call, fresh, polled, post_call}
 use Rattle.channel_turns.specs.EndsStates.{EndsState, start_of}
 use Rattle.channel_turns.specs.Outcomes.{IsPlaced, StandsFor}
 use Rattle.pcc_io.specs.declared.items.NoMemory.{NoMemory}
@@ -195,19 +194,13 @@ pub record Stays (old new : EndsState) : Type 0 where
 
 -- ---- the polls for an earlier command
 
--- the answer after them: what follows where nothing is in flight, else that the earlier command is still pending
-abbrev pub answer_if : Bool → ℕ → (ChannelState → Answered) → ChannelState → Answered
-answer_if true polls follows now = follows now
-answer_if false polls follows now = record { reply = StillPending polls; now = now }
-
 abbrev pub noted_if : Bool → Noted → Noted
 noted_if true n = noted_earlier n.flight n
 noted_if false n = n
 
--- whatever follows: a call is answered from what the polls left, by whether nothing is in flight then
+-- the polls leave the ends as they are now, and the answer is whether nothing is in flight
 pub record HasAwaited (exec : Device) (polls : ℕ) (old new : EndsState) (free : Bool) : Type 0 where
-  pub answered : (follows : ChannelState → Answered) → let now = now_of old in
-      after_earlier (start_of exec old) polls follows now now.in_flight ≡ answer_if free polls follows (now_of new)
+  pub polls_leave : polled (start_of exec old) polls (now_of old) ≡ record { free = free; now = now_of new }
   pub stays : Stays old new
   pub noted : noted_in new ≡ noted_if free (noted_in old)
   pub readings : new.taken ≤ old.taken + 1
