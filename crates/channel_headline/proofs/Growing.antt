@@ -6,7 +6,6 @@ use Rattle.std.proofs.lemmas.List.{append_assoc, append-nil, length-append, map-
 use Rattle.std.proofs.lemmas.List.Elements.{filter-append}
 use Rattle.std.proofs.lemmas.List.Concat.{flat_map-append}
 use Rattle.pcc_journal.specs.Events.{Event, Answered, Lost, Drained, Completed, is_call_of}
-use Rattle.cppc_calls.specs.declared.wish.SetRefusal.{SetRefusal}
 use Rattle.channel_turns.specs.Replies.{Done, BadCode, TooLong, JournalFull, StillPending, TooSoon, TimedOut}
 use Rattle.channel_headline.specs.After.{After, IsRead, IsReading, Rise, after_event, after_from, numbers_in, numbers_of}
 use Rattle.channel_headline.specs.Asked.{LineReply, Refused, Replied}

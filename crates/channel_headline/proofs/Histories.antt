@@ -19,10 +19,10 @@ use Rattle.channel_core.specs.declared.answers.CallRefusal.TheVariants as refusa
 use Rattle.cppc_calls.specs.Wishes.{wish_fault}
 use Rattle.cppc_calls.specs.declared.wish.SetRefusal.{SetRefusal}
 use Rattle.channel_turns.specs.Replies.{Reply, BadCode, TooLong, JournalFull, StillPending}
-use Rattle.channel_turns.specs.ChannelRuns.{Answered, Call, ChannelStart, ChannelState, InFlight, after_post, answer_call, answer_unless, completed, count_in_flight, exchange_with, fresh, journal_limit, next_reading, post_call, post_of, refusal_of, replied, after_earlier}
+use Rattle.channel_turns.specs.ChannelRuns.{Answered, Call, ChannelStart, ChannelState, InFlight, Polled, after_polls, after_post, answer_call, answer_unless, completed, count_in_flight, exchange_with, fresh, journal_limit, next_reading, polled, polled_for, post_call, post_of, refusal_of, replied}
 use Rattle.channel_headline.specs.Asked.{Asked, LineReply, Refused, Replied, These, Wishes, asked_bytes}
 use Rattle.channel_headline.specs.Lines.{asked_along, is_post, posts_line}
-use Rattle.channel_headline.specs.WishCalls.{call_after, Earlier, LineAnswer, WishCall, answer_wish, earlier_at, earlier_by, post_wish, whole_call, wish_after, wish_refusal, wish_unless, write_code}
+use Rattle.channel_headline.specs.WishCalls.{LineAnswer, WishCall, answer_wish, post_wish, whole_call, wish_after, wish_refusal, wish_unless, write_code}
 
 -- ---- histories that grow
 
@@ -165,10 +165,10 @@ post_call_keeps start call now asked a bytes none k =
     after_post_keeps start call command later asked a h (ap (over now.object.space) bytes) ((post_exact start.head.limits (times_of now.records) reading w).1 in_time))
 
 -- polls for an earlier command
-earlier_keeps : (start : ChannelStart) (polls : ℕ) (now : ChannelState) (o : Option InFlight) (asked : List Asked) → now.in_flight ≡ o → Kept start now asked
-    → let e = earlier_by start polls now o in Kept start e.now asked × (e.free ≡ true → e.now.in_flight ≡ None)
-earlier_keeps start polls now None asked e h = (h, λ _. e)
-earlier_keeps start polls now (Some p) asked e h =
+polls_keep : (start : ChannelStart) (polls : ℕ) (now : ChannelState) (o : Option InFlight) (asked : List Asked) → now.in_flight ≡ o → Kept start now asked
+    → let e = polled_for start polls now o in Kept start e.now asked × (e.free ≡ true → e.now.in_flight ≡ None)
+polls_keep start polls now None asked e h = (h, λ _. e)
+polls_keep start polls now (Some p) asked e h =
     let P : Option InFlight → Type 0 = λ o. IsWaiting now.object.space o h.waiting in
     let flight : IsWaiting now.object.space (Some p) h.waiting = subst P e h.flight in
     let all : asked ≡ h.answered ++ flight.0 ∷ [] = h.parts ∙ ap (λ (v : List Asked). h.answered ++ v) flight.1 in
@@ -176,7 +176,7 @@ earlier_keeps start polls now (Some p) asked e h =
     let W : Option InFlight → Type 0 = λ o. WithinLimits start.head.limits (times_of now.records) (post_of o) in
     let w : WithinLimits start.head.limits (times_of now.records) (Some p.command.post) = subst W e h.limits in
     let rest : ChannelState = record now { in_flight = Some (record p { left = p.left - polls }) } in
-    let G : Earlier → Type 0 = λ r. Kept start r.now asked × (r.free ≡ true → r.now.in_flight ≡ None) in
+    let G : Polled → Type 0 = λ r. Kept start r.now asked × (r.free ≡ true → r.now.in_flight ≡ None) in
     choose G (nat_lt p.left polls) (record { free = true; now = next }) (record { free = false; now = rest })
     (record { limits = completed_within start p.command true now w; answered = h.answered ++ flight.0 ∷ []; waiting = []; parts = all ∙ sym (append-nil (h.answered ++ flight.0 ∷ [])); recorded = completed_records start p.command true now h.answered flight.0 h.recorded flight.2; flight = refl }, λ _. refl)
     (record { limits = w; answered = h.answered; waiting = flight.0 ∷ []; parts = all; recorded = h.recorded; flight = (flight.0, refl, flight.2) }, λ no. absurd cc)
@@ -189,18 +189,8 @@ unposted_keeps start now asked reply a e h =
     let Q : List Asked → Type 0 = Kept start now in
     subst P (sym e) (subst Q (sym (append-nil asked)) h)
 
--- @@TEMP
-pub temp_same : (start : ChannelStart) (call : Call) (now : ChannelState) (o : Option InFlight) → call_after start call (earlier_by start call.polls now o) ≡ after_earlier start call.polls (post_call start call) now o
-temp_same start call now None = refl
-temp_same start call now (Some p) = temp_b (nat_lt p.left call.polls)
-  where
-    temp_b : (b : Bool) → call_after start call (cond b (record { free = true; now = completed start p.command true now }) (record { free = false; now = record now { in_flight = Some (record p { left = p.left - call.polls }) } })) ≡ cond b (post_call start call (completed start p.command true now)) (record { reply = StillPending call.polls; now = record now { in_flight = Some (record p { left = p.left - call.polls }) } })
-    temp_b true = refl
-    temp_b false = refl
--- @@END
-
-after_keeps : (start : ChannelStart) (call : Call) (e : Earlier) (asked : List Asked) → Kept start e.now asked → (e.free ≡ true → e.now.in_flight ≡ None)
-    → let r = call_after start call e in Kept start r.now (asked ++ added_by (Replied r.reply) (These call.bytes))
+after_keeps : (start : ChannelStart) (call : Call) (e : Polled) (asked : List Asked) → Kept start e.now asked → (e.free ≡ true → e.now.in_flight ≡ None)
+    → let r = after_polls start call e in Kept start r.now (asked ++ added_by (Replied r.reply) (These call.bytes))
 after_keeps start call e asked h none =
     let G : Answered → Type 0 = λ r. Kept start r.now (asked ++ added_by (Replied r.reply) (These call.bytes)) in
     decide G e.free _ _ (λ free. post_call_keeps start call e.now asked (These call.bytes) refl (none free) h)
@@ -210,7 +200,7 @@ unless_keeps : (start : ChannelStart) (call : Call) (now : ChannelState) (o : Op
     → let r = answer_unless start call now o in Kept start r.now (asked ++ added_by (Replied r.reply) (These call.bytes))
 unless_keeps start call now (Some r) asked e h = unposted_keeps start now asked (Replied r) (These call.bytes) e h
 unless_keeps start call now None asked e h =
-    let k = earlier_keeps start call.polls now now.in_flight asked refl h in subst (λ (r : Answered). Kept start r.now (asked ++ added_by (Replied r.reply) (These call.bytes))) (temp_same start call now now.in_flight) (after_keeps start call (earlier_at start call.polls now) asked k.0 k.1)
+    let k = polls_keep start call.polls now now.in_flight asked refl h in after_keeps start call (polled start call.polls now) asked k.0 k.1
 
 pub no_post : (a b c : Bool) (code len room : ℕ) → IfSome (cond a (Some (BadCode code)) (cond b (Some (TooLong len room)) (cond c (Some JournalFull) None))) (λ r. is_post r ≡ false)
 no_post true b c code len room = refl
@@ -255,17 +245,7 @@ put_keeps : (start : ChannelStart) (w : WishCall) (now : ChannelState) (o : Opti
 put_keeps start w now (Some why) asked none h = unposted_keeps start now asked (Refused why) (wish_asked w) refl h
 put_keeps start w now None asked none h = post_call_keeps start (whole_call w now.object.space) now asked (wish_asked w) refl none h
 
-wish_-- @@TEMP
-pub temp_same : (start : ChannelStart) (call : Call) (now : ChannelState) (o : Option InFlight) → call_after start call (earlier_by start call.polls now o) ≡ after_earlier start call.polls (post_call start call) now o
-temp_same start call now None = refl
-temp_same start call now (Some p) = temp_b (nat_lt p.left call.polls)
-  where
-    temp_b : (b : Bool) → call_after start call (cond b (record { free = true; now = completed start p.command true now }) (record { free = false; now = record now { in_flight = Some (record p { left = p.left - call.polls }) } })) ≡ cond b (post_call start call (completed start p.command true now)) (record { reply = StillPending call.polls; now = record now { in_flight = Some (record p { left = p.left - call.polls }) } })
-    temp_b true = refl
-    temp_b false = refl
--- @@END
-
-after_keeps : (start : ChannelStart) (w : WishCall) (e : Earlier) (asked : List Asked) → Kept start e.now asked → (e.free ≡ true → e.now.in_flight ≡ None)
+wish_after_keeps : (start : ChannelStart) (w : WishCall) (e : Polled) (asked : List Asked) → Kept start e.now asked → (e.free ≡ true → e.now.in_flight ≡ None)
     → let r = wish_after start w e in Kept start r.now (asked ++ added_by r.reply (wish_asked w))
 wish_after_keeps start w e asked h none =
     let G : LineAnswer → Type 0 = λ r. Kept start r.now (asked ++ added_by r.reply (wish_asked w)) in
@@ -276,7 +256,7 @@ wish_unless_keeps : (start : ChannelStart) (w : WishCall) (now : ChannelState) (
     → let r = wish_unless start w now o in Kept start r.now (asked ++ added_by r.reply (wish_asked w))
 wish_unless_keeps start w now (Some r) asked e h = unposted_keeps start now asked (Replied r) (wish_asked w) e h
 wish_unless_keeps start w now None asked e h =
-    let k = earlier_keeps start w.polls now now.in_flight asked refl h in wish_after_keeps start w (earlier_at start w.polls now) asked k.0 k.1
+    let k = polls_keep start w.polls now now.in_flight asked refl h in wish_after_keeps start w (polled start w.polls now) asked k.0 k.1
 
 pub wish_keeps : (start : ChannelStart) (w : WishCall) (now : ChannelState) (asked : List Asked) → Kept start now asked
     → let r = answer_wish start w now in Kept start r.now (asked ++ added_by r.reply (wish_asked w))

@@ -20,7 +20,7 @@ use Rattle.channel_core.specs.declared.answers.CallRefusal.TheVariants as refusa
 use Rattle.cppc_calls.specs.Wishes.{wish_fault}
 use Rattle.cppc_calls.specs.declared.wish.SetRefusal.{SetRefusal}
 use Rattle.channel_turns.specs.Replies.{Reply, Done, BadCode, TooLong, JournalFull, StillPending, TooSoon, TimedOut}
-use Rattle.channel_turns.specs.ChannelRuns.{Answered, Call, ChannelStart, ChannelState, InFlight, answer_call, answer_unless, completed, count_in_flight, exchange_with, journal_limit, next_reading, post_call, refusal_of, replied}
+use Rattle.channel_turns.specs.ChannelRuns.{Answered, Call, ChannelStart, ChannelState, InFlight, Polled, after_polls, answer_call, answer_unless, completed, count_in_flight, exchange_with, journal_limit, next_reading, polled, polled_for, post_call, refusal_of, replied}
 use Rattle.channel_headline.specs.After.{After, IsReading, after_event, after_events, before_all, numbers_in}
 use Rattle.channel_headline.specs.Causes.{AllCaused, IsBlocked, IsFull, IsTooSoon, IsUnfit, Past, Terms}
 use Rattle.channel_headline.specs.Asked.{Asked, LineReply, Refused, Replied, These, asked_bytes, asked_fault, asked_length}
@@ -28,9 +28,9 @@ use Rattle.channel_headline.specs.ChannelLog.{ChannelLog, LineCall, drained, lin
 use Rattle.channel_headline.specs.Lines.{CallLine, mine_of, soon_lines, soon_numbers}
 use Rattle.channel_headline.specs.Matches.{Placed, own_calls, placed}
 use Rattle.channel_headline.specs.Runs.{terms_of}
-use Rattle.channel_headline.specs.WishCalls.{call_after, Earlier, LineAnswer, WishCall, answer_wish, earlier_at, earlier_by, post_wish, whole_call, wish_after, wish_refusal, wish_unless}
+use Rattle.channel_headline.specs.WishCalls.{LineAnswer, WishCall, answer_wish, post_wish, whole_call, wish_after, wish_refusal, wish_unless}
 use Rattle.channel_headline.proofs.Growing.{after-append, all_last, all_read, match_more, match_quiet, one_match, reading_first, reading_second, rise_events, rise_higher, soon_count, soon_more, soon_other}
-use Rattle.channel_headline.proofs.Histories.{choose, decide, refusal_is, temp_same, wish_asked}
+use Rattle.channel_headline.proofs.Histories.{choose, decide, refusal_is, wish_asked}
 use Rattle.channel_headline.proofs.Owned.{own_length}
 use Rattle.channel_headline.proofs.Points.{Point, both_none, both_some, causes_last, causes_more, drained_at, ends_last, from_zero, line_point, next_is, rest_point}
 
@@ -247,17 +247,17 @@ post_reached start call asked now s events none passes makes room h =
 -- ---- polls for an earlier command
 
 -- nothing is in flight after them, or the events are the same and a command is in flight
-record Polled (start : ChannelStart) (s : ChannelLog) (events : List Event) (e : Earlier) : Type 0 where
+record AfterPolls (start : ChannelStart) (s : ChannelLog) (events : List Event) (e : Polled) : Type 0 where
   free : e.free ≡ true → (grown : List Event) × (e.now.in_flight ≡ None) × (post_count grown < MAX_ITEMS) × Point start (drained start.clock s) e.now None grown
   blocked : e.free ≡ false → (post : ℕ) × ((after_events start.opening events).flight ≡ Some post) × Point start s e.now e.now.in_flight events
 
-polled : (start : ChannelStart) (polls : ℕ) (now : ChannelState) (o : Option InFlight) (s : ChannelLog) (events : List Event) → now.in_flight ≡ o → post_count events < MAX_ITEMS
-    → Point start s now o events → Polled start s events (earlier_by start polls now o)
-polled start polls now None s events is room h =
+polls_reached : (start : ChannelStart) (polls : ℕ) (now : ChannelState) (o : Option InFlight) (s : ChannelLog) (events : List Event) → now.in_flight ≡ o → post_count events < MAX_ITEMS
+    → Point start s now o events → AfterPolls start s events (polled_for start polls now o)
+polls_reached start polls now None s events is room h =
     let P : Option Note → Type 0 = λ f. Point start (with_drained start.clock s f) now None events in
     let none : s.flight ≡ None = both_none s.flight h.pair in
     record { free = λ _. (events, is, room, subst P (sym none) h); blocked = λ no. absurd cc }
-polled start polls now (Some p) s events is room h =
+polls_reached start polls now (Some p) s events is room h =
     let some : (n : Note) × (s.flight ≡ Some n) = both_some p s.flight h.pair in
     let next : ChannelState = completed start p.command true now in
     let all = drained_at start s now p some.0 events some.1 h in
@@ -266,7 +266,7 @@ polled start polls now (Some p) s events is room h =
     let counted : post_count grown ≡ post_count events + 0 = post_count-append events (Drained all.0 ∷ []) in
     let fits : post_count grown < MAX_ITEMS = omega (arith, counted, room) in
     let q : InFlight = record p { left = p.left - polls } in
-    choose (Polled start s events) (nat_lt p.left polls) (record { free = true; now = next }) (record { free = false; now = record now { in_flight = Some q } })
+    choose (AfterPolls start s events) (nat_lt p.left polls) (record { free = true; now = next }) (record { free = false; now = record now { in_flight = Some q } })
     (record { free = λ _. (grown, refl, fits, subst P (sym some.1) all.1); blocked = λ no. absurd cc })
     (record { free = λ no. absurd cc; blocked = λ _. (p.command.post, ap (λ (a : After). a.flight) h.after, rest_point start now p (p.left - polls) s events h) })
 
@@ -279,8 +279,8 @@ blocked_reached start call asked now s events passes b =
     let cause : IsBlocked start.opening events s.calls l = record { moment = now_past start s now now.in_flight events l b.2; post = b.0; flies = b.1 } in
     record { events = events; point = line_point start (says call asked) (Replied (StillPending call.polls)) now now.in_flight s events refl refl (passes, refl, cause) b.2 }
 
-after_reached : (start : ChannelStart) (call : Call) (e : Earlier) (s : ChannelLog) (events : List Event) → Passes start call (These call.bytes) → Polled start s events e
-    → let a = call_after start call e in Reached start (logged start.clock (of_call call) (Replied a.reply) s) a.now a.now.in_flight
+after_reached : (start : ChannelStart) (call : Call) (e : Polled) (s : ChannelLog) (events : List Event) → Passes start call (These call.bytes) → AfterPolls start s events e
+    → let a = after_polls start call e in Reached start (logged start.clock (of_call call) (Replied a.reply) s) a.now a.now.in_flight
 after_reached start call e s events passes p =
     let Good : Answered → Type 0 = λ a. Reached start (logged start.clock (of_call call) (Replied a.reply) s) a.now a.now.in_flight in
     decide Good e.free _ _
@@ -348,7 +348,7 @@ unless_reached : (start : ChannelStart) (call : Call) (now : ChannelState) (s : 
     → let a = answer_unless start call now o in Reached start (logged start.clock (of_call call) (Replied a.reply) s) a.now a.now.in_flight
 unless_reached start call now s events (Some reply) t h = t.refused
 unless_reached start call now s events None t h =
-    subst (λ (a : Answered). Reached start (logged start.clock (of_call call) (Replied a.reply) s) a.now a.now.in_flight) (temp_same start call now now.in_flight) (after_reached start call (earlier_at start call.polls now) s events (t.passes refl) (polled start call.polls now now.in_flight s events refl (t.room refl) h))
+    after_reached start call (polled start call.polls now) s events (t.passes refl) (polls_reached start call.polls now now.in_flight s events refl (t.room refl) h)
 
 pub call_reached : (start : ChannelStart) (call : Call) (now : ChannelState) (s : ChannelLog) → Reached start s now now.in_flight
     → let a = answer_call start call now in Reached start (logged start.clock (of_call call) (Replied a.reply) s) a.now a.now.in_flight
@@ -374,7 +374,7 @@ put_reached start w now s events (Some why) fault none passes room h =
 put_reached start w now s events None fault none passes room h =
     post_reached start (whole_call w now.object.space) (wish_asked w) now s events none passes (record { bytes = refl; fits = fault }) room h
 
-wish_after_reached : (start : ChannelStart) (w : WishCall) (e : Earlier) (s : ChannelLog) (events : List Event) → Passes start (whole_call w e.now.object.space) (wish_asked w) → Polled start s events e
+wish_after_reached : (start : ChannelStart) (w : WishCall) (e : Polled) (s : ChannelLog) (events : List Event) → Passes start (whole_call w e.now.object.space) (wish_asked w) → AfterPolls start s events e
     → let a = wish_after start w e in Reached start (logged start.clock (of_wish w) a.reply s) a.now a.now.in_flight
 wish_after_reached start w e s events passes p =
     let Good : LineAnswer → Type 0 = λ a. Reached start (logged start.clock (of_wish w) a.reply s) a.now a.now.in_flight in
@@ -386,7 +386,7 @@ wish_unless_reached : (start : ChannelStart) (w : WishCall) (now : ChannelState)
     → Point start s now now.in_flight events → let a = wish_unless start w now o in Reached start (logged start.clock (of_wish w) a.reply s) a.now a.now.in_flight
 wish_unless_reached start w now s events (Some reply) t h = t.refused
 wish_unless_reached start w now s events None t h =
-    wish_after_reached start w (earlier_at start w.polls now) s events (t.passes refl) (polled start w.polls now now.in_flight s events refl (t.room refl) h)
+    wish_after_reached start w (polled start w.polls now) s events (t.passes refl) (polls_reached start w.polls now now.in_flight s events refl (t.room refl) h)
 
 pub wish_reached : (start : ChannelStart) (w : WishCall) (now : ChannelState) (s : ChannelLog) → Reached start s now now.in_flight
     → let a = answer_wish start w now in Reached start (logged start.clock (of_wish w) a.reply s) a.now a.now.in_flight

@@ -13,7 +13,7 @@ use Rattle.pcc_journal.specs.Records.{exchanges_of, times_of}
 use Rattle.pcc_journal.specs.Events.{Event, Noted, noted, noted_pending, post_count, records_of}
 use Rattle.pcc_journal.proofs.EventsGrow.{noted_records}
 use Rattle.channel_turns.specs.Replies.{Done, BadCode, TooLong, JournalFull, StillPending, TooSoon, TimedOut}
-use Rattle.channel_turns.specs.ChannelRuns.{Answered, Call, ChannelStart, ChannelState, InFlight, answer_call, count_in_flight, fresh, pending_of, post_of}
+use Rattle.channel_turns.specs.ChannelRuns.{Answered, ChannelStart, ChannelState, InFlight, answer_call, count_in_flight, fresh, pending_of, post_of}
 use Rattle.channel_headline.specs.After.{IsRead, Rise, numbers_in}
 use Rattle.channel_headline.specs.Asked.{Asked, LineReply, Refused, Replied}
 use Rattle.channel_headline.specs.Causes.{AllCaused, Terms}

@@ -5,12 +5,11 @@ use Rattle.pcc_journal.specs.declared.record.Record.{Record}
 use Rattle.pcc_journal.specs.declared.record.Pending.{Pending}
 use Rattle.pcc_journal.specs.declared.note.Note.{Note}
 use Rattle.pcc_journal.specs.Events.{noted, noted_pending}
-use Rattle.cppc_calls.specs.declared.wish.Wish.{Wish}
 use Rattle.cppc_device.specs.Worked.{half_bytes}
 use Rattle.channel_turns.specs.Replies.{Reply, Done, TimedOut}
 use Rattle.channel_turns.specs.ChannelRuns.{Call, ChannelStart, InFlight, fresh}
 use Rattle.channel_headline.specs.ChannelLog.{ChannelLine, Called, Wished, log_of}
-use Rattle.channel_headline.specs.Asked.{LineReply, Replied, These}
+use Rattle.channel_headline.specs.Asked.{LineReply, These}
 use Rattle.channel_headline.specs.Headline.{Headline}
 use Rattle.channel_headline.specs.Lines.{CallLine}
 use Rattle.channel_headline.specs.Runs.{Calls, ChannelRun, HeadlineOf, Sets, Waits, run_from, terms_of}

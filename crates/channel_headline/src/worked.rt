@@ -3,7 +3,7 @@ ghost use Rattle.std.specs.Prelude.{◌≡◌, [], ◌∷◌, Some, None, false,
 ghost use Rattle.channel_turns.specs.Replies.{BadCode, Done, JournalFull, StillPending, TimedOut, TooLong, TooSoon};
 ghost use Rattle.cppc_calls.specs.declared.wish.SetRefusal.TheVariants.{BelowLowest, TooWide};
 ghost use Rattle.channel_headline.specs.Asked.{Refused, Replied};
-ghost use Rattle.channel_headline.specs.ChannelLog.{Called, Waited, Wished, line_of, log_of, of_call, of_wish};
+ghost use Rattle.channel_headline.specs.ChannelLog.{Called, Waited, line_of, log_of, of_call, of_wish};
 ghost use Rattle.channel_headline.specs.Worked.{Keeps, KeepsNoted, KeepsOpen, KeepsWith, bank, desires, first_line, first_record, kept, late_run, lost_command, lost_line, note_at, ok, open_line, soon_run, swap, swapped, wish_record, wish_run, wished};
 
 /// What the lines of two runs say of their readings and notes. It does nothing.
@@ -16,14 +16,16 @@ pub fn worked_logs()
       readings = 0 ∷ 10 ∷ 20 ∷ 30 ∷ [];
       notes = note_at 0 1 3 ∷ note_at 2 3 0 ∷ [];
       flight = None;
-      calls = line_of (of_call (swap 0 (1 ∷ []) 3)) (Replied (TimedOut 3)) 0 ∷ line_of (of_call (swap 1 (2 ∷ []) 0)) (Replied (ok (1 ∷ 0 ∷ []))) 0 ∷ [];
+      calls = line_of (of_call (swap 0 (1 ∷ []) 3)) (Replied (TimedOut 3)) 0
+          ∷ line_of (of_call (swap 1 (2 ∷ []) 0)) (Replied (ok (1 ∷ 0 ∷ []))) 0 ∷ [];
     } }
     ensures soon_log { log_of (bank 500).clock soon_run.lines ≡ record {
       added = 480;
       readings = 0 ∷ 10 ∷ 20 ∷ 510 ∷ 520 ∷ [];
       notes = note_at 0 1 0 ∷ note_at 3 4 0 ∷ [];
       flight = None;
-      calls = line_of (of_call (swap 0 (1 ∷ []) 0)) (Replied (ok (0 ∷ 0 ∷ []))) 0 ∷ line_of (of_call (swap 0 (2 ∷ []) 0)) (Replied (TooSoon 20 510)) 2
+      calls = line_of (of_call (swap 0 (1 ∷ []) 0)) (Replied (ok (0 ∷ 0 ∷ []))) 0
+          ∷ line_of (of_call (swap 0 (2 ∷ []) 0)) (Replied (TooSoon 20 510)) 2
           ∷ line_of (of_call (swap 0 (3 ∷ []) 0)) (Replied (ok (1 ∷ 0 ∷ []))) 0 ∷ [];
     } }
 {}
@@ -110,5 +112,6 @@ pub fn worked_lies()
     // a wish that was put and doesn't fit into its field
     ensures wide_wish { Keeps (wished 16 (Replied (Done true (0 ∷ 0 ∷ []))) ∷ []) (wish_record (0 ∷ 0 ∷ []) ∷ []) None → ⊥ }
     // a refusal of a wish while a command was in flight
-    ensures refused_blocked { Keeps (lost_line ∷ wished 16 (Refused (TooWide 7)) ∷ []) [] (Some lost_command) → ⊥ }
+    ensures refused_blocked { KeepsOpen (line_of (of_call (swap 0 (1 ∷ []) 0)) (Replied (TimedOut 3)) 0
+        ∷ line_of (of_wish (desires 16)) (Refused (TooWide 7)) 0 ∷ []) (Some lost_command) (Some (note_at 0 0 3)) → ⊥ }
 {}
