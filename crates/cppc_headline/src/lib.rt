@@ -1,0 +1,7 @@
+//! The headline of a channel of a controller of processor performance (Collaborative Processor Performance Control, ACPI 6.5, 8.4.6): no request
+//! leaves a range, and none changes another field than those of its wish.
+#![tactic(auto)]
+
+mod law;
+
+pub use law::headline_of_performance;
