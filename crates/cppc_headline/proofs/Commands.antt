@@ -1,9 +1,9 @@
 -- What the two commands of a controller and a wish make of its registers.
-use Rattle.std.proofs.Common.{◌≡◌, ◌<◌, ◌≤◌, ℕ, zero, suc, ◌+◌, List, [], ◌∷◌, ◌++◌, All, length, get_or, Option, Some, None, inl, inr, refl, sym, ap, ◌∙◌, subst, arith}
+use Rattle.std.proofs.Common.{◌≡◌, ◌<◌, ◌≤◌, ℕ, zero, suc, ◌+◌, List, [], ◌∷◌, ◌++◌, length, get_or, Option, Some, None, inl, inr, refl, sym, ap, ◌∙◌, subst, arith}
 use Rattle.std.specs.Prelude.{Contains, bit_or, flat_map}
 use Rattle.std.specs.List.{AllByRecursion, slice_get}
 use Rattle.std.proofs.lemmas.Bool.{cases_lt}
-use Rattle.std.proofs.lemmas.Option.{get_or_from_slice_get, same_Some, slice_get-get_or}
+use Rattle.std.proofs.lemmas.Option.{get_or_from_slice_get, same_Some, slice_get-get_or, slice_get_read}
 use Rattle.pcc_bytes.specs.Bytes.{IsBytes}
 use Rattle.pcc_gas.specs.Changes.{IsApartFrom, IsOutside, TakeFrom, with_changes}
 use Rattle.pcc_gas.specs.Fields.{AreApart, InField, bit_of, field_value}
@@ -19,11 +19,11 @@ use Rattle.cpc_package.specs.Bindings.{number_in}
 use Rattle.cppc_device.specs.Ranges.{InRange, Rises, performances}
 use Rattle.cppc_device.proofs.Apart.{AllOf, Of, all_of-append, all_of-wider, put_by}
 use Rattle.cppc_device.proofs.Sampling.{same_in, same_number}
-use Rattle.cppc_calls.specs.Wishes.{CanPut, wish_changes, wish_fault, wished, with_wish}
+use Rattle.cppc_calls.specs.Wishes.{wish_changes, wish_fault, wished, with_wish}
 use Rattle.cppc_calls.specs.declared.wish.Wish.{Wish}
 use Rattle.cppc_calls.proofs.Put.{wished_of}
 use Rattle.cppc_calls.proofs.Refusals.{can_put}
-use Rattle.cppc_headline.specs.Journals.{AreInRange, DifferInWish, IsWishBit}
+use Rattle.cppc_headline.specs.Journals.{AreInRange, DifferInWish}
 
 -- ---- lists
 
@@ -177,7 +177,7 @@ in_range_other len cpus cpu b i j wish space processors at_i at_j other h =
     in_range_same cpu (wish_changes b wish) space (λ n field lt at.
     apart_from len cpus cpu b i j n 7 10 field (wish_changes b wish) processors at_i at_j (λ same. absurd (other same)) at (wish_entries b wish)) h
 
-pub in_range_wish : (cpus : List Binding) (b : Binding) (j : ℕ) (wish : Wish) (space : List ℕ) → AreProcessors (length space) cpus → slice_get cpus j ≡ Some b
+in_range_wish : (cpus : List Binding) (b : Binding) (j : ℕ) (wish : Wish) (space : List ℕ) → AreProcessors (length space) cpus → slice_get cpus j ≡ Some b
     → wish_fault b space wish ≡ None → AreInRange cpus space → AreInRange cpus (with_wish b wish space)
 in_range_wish cpus b j wish space processors at_j fault h k x lt =
     let cpu : Binding = get_or cpus k x in
@@ -194,6 +194,13 @@ in_range_wish cpus b j wish space processors at_j fault h k x lt =
             subst Q (same_Some b cpu (sym at_j ∙ ap (slice_get cpus) same ∙ at)) own
       ]
     ]
+
+pub at_place : (cpus : List Binding) (b : Binding) → (one : Contains cpus b) → slice_get cpus one.0 ≡ Some b
+at_place cpus b one = slice_get_read cpus (length cpus) one.0 b refl one.1 (sym one.2)
+
+pub in_range_put : (cpus : List Binding) (b : Binding) (wish : Wish) (space : List ℕ) → AreProcessors (length space) cpus → Contains cpus b
+    → wish_fault b space wish ≡ None → AreInRange cpus space → AreInRange cpus (with_wish b wish space)
+in_range_put cpus b wish space processors one fault h = in_range_wish cpus b one.0 wish space processors (at_place cpus b one) fault h
 
 pub wish-length : (b : Binding) (wish : Wish) (space : List ℕ) → length (with_wish b wish space) ≡ length space
 unfolding with_wish
@@ -250,9 +257,13 @@ written_outside d space bit b k wish at out =
     (one_outside bit space wish.max (source_at b 9) (part_of P f written_entries 2 9 refl all)))
 
 -- registers into which a wish is written are the space with the wish put
-pub wish_written : (d : Cppc) (b : Binding) (k : ℕ) (wish : Wish) → slice_get d.cpus k ≡ Some b
+wish_written : (d : Cppc) (b : Binding) (k : ℕ) (wish : Wish) → slice_get d.cpus k ≡ Some b
     → with_changes (written d (with_wish b wish d.registers)) d.registers ≡ with_wish b wish d.registers
 wish_written d b k wish at =
     let space : List ℕ = with_wish b wish d.registers in
     changes-taken (written d space) d.registers space (wish-bytes b wish d.registers) (sym (wish-length b wish d.registers)) (written_takes d space)
     (λ bit out. sym (wish_outside b wish d.registers bit (written_outside d space bit b k wish at out)))
+
+pub written_is : (d : Cppc) (b : Binding) (wish : Wish) → Contains d.cpus b
+    → with_changes (written d (with_wish b wish d.registers)) d.registers ≡ with_wish b wish d.registers
+written_is d b wish one = wish_written d b one.0 wish (at_place d.cpus b one)

@@ -1,12 +1,10 @@
 -- A channel of a controller of performance keeps its ranges, whatever is read, set and waited.
-use Rattle.std.proofs.Common.{◌≡◌, ◌<◌, ◌≤◌, ℕ, zero, suc, ◌+◌, Bool, true, false, List, [], ◌∷◌, ◌++◌, All, drop, length, eqb, Option, Some, None, refl, sym, ap, ◌∙◌, subst, arith}
+use Rattle.std.proofs.Common.{◌≡◌, ℕ, ◌+◌, Bool, true, false, List, [], ◌∷◌, ◌++◌, length, Option, Some, None, refl, sym, ap, ◌∙◌, subst, arith}
 use Rattle.std.specs.Prelude.{◌-◌, Contains, IfSome, nat_lt}
-use Rattle.std.specs.List.{AllByRecursion, slice_get}
+use Rattle.std.specs.List.{AllByRecursion}
 use Rattle.std.proofs.lemmas.List.{append-nil, drop_all, map-append}
-use Rattle.std.proofs.lemmas.Option.{slice_get_read}
 use Rattle.pcc_gas.specs.Changes.{with_changes}
 use Rattle.pcc_gas.specs.declared.change.Change.{Change}
-use Rattle.pcc_gas.proofs.Changes.{changes-length}
 use Rattle.pcc_history.specs.Devices.{Device, Executed}
 use Rattle.pcc_history.specs.Channel.{Exchange, over}
 use Rattle.pcc_history.specs.Histories.{space_after}
@@ -25,14 +23,14 @@ use Rattle.cppc_calls.specs.declared.wish.Wish.{Wish}
 use Rattle.cppc_calls.specs.declared.wish.SetRefusal.{SetRefusal}
 use Rattle.channel_core.specs.Sendings.{recorded}
 use Rattle.channel_turns.specs.Replies.{Reply}
-use Rattle.channel_turns.specs.ChannelRuns.{Answered, Call, ChannelStart, ChannelState, InFlight, Polled, after_polls, after_post, answer_call, answer_unless, completed, exchange_with, fresh, next_reading, pending_of, polled, polled_for, post_call, refusal_of}
+use Rattle.channel_turns.specs.ChannelRuns.{Answered, Call, ChannelStart, ChannelState, InFlight, Polled, after_polls, answer_call, answer_unless, completed, exchange_with, fresh, next_reading, pending_of, polled, polled_for, post_call, refusal_of}
 use Rattle.channel_headline.specs.Runs.{Calls, ChannelRun, ChannelStep, Sets, Waits, run_from}
 use Rattle.channel_headline.specs.WishCalls.{LineAnswer, WishCall, answer_wish, post_wish, whole_call, wish_after, wish_refusal, wish_unless}
 use Rattle.channel_headline.proofs.Histories.{choose, decide, space_after-more}
 use Rattle.channel_headline.proofs.WholeRuns.{headline_of_runs}
-use Rattle.cppc_headline.specs.Journals.{AreInRange, DifferInWish, InRangeAll, IsUntouched, Untouched}
+use Rattle.cppc_headline.specs.Journals.{AreInRange, DifferInWish, IsUntouched, Untouched}
 use Rattle.cppc_headline.specs.PerformanceHeadline.{IsPerformance, IsRequest, PerformanceHeadline}
-use Rattle.cppc_headline.proofs.Commands.{in_range_read, in_range_wish, wish-bytes, wish-length, wish_differs, wish_written}
+use Rattle.cppc_headline.proofs.Commands.{in_range_put, in_range_read, wish-length, wish_differs, written_is}
 
 -- ---- a command that is posted
 
@@ -41,9 +39,6 @@ data IsSound (cpus : List Binding) (space : List ℕ) (code : ℕ) (input : List
   Reads : code ≡ 0 → input ≡ space → IsSound cpus space code input
   Puts : code ≡ 1 → (b : Binding) (wish : Wish) → Contains cpus b → wish_fault b space wish ≡ None → input ≡ with_wish b wish space → IsSound cpus space code input
 
-at_place : (cpus : List Binding) (b : Binding) → (one : Contains cpus b) → slice_get cpus one.0 ≡ Some b
-at_place cpus b one = slice_get_read cpus (length cpus) one.0 b refl one.1 (sym one.2)
-
 zero_one : (n : ℕ) → n ≡ 0 → n ≡ 1 → ⊥
 zero_one n a b = omega arith
 
@@ -51,7 +46,7 @@ sound_in_range : (cpus : List Binding) (space : List ℕ) (code : ℕ) (input : 
     → IsSound cpus space code input → code ≡ 1 → AreInRange cpus input
 sound_in_range cpus space code input processors h (Reads is_code is) one = absurd (zero_one code is_code one)
 sound_in_range cpus space code input processors h (Puts is_code b wish in_cpus fault is) one =
-    subst (AreInRange cpus) (sym is) (in_range_wish cpus b in_cpus.0 wish space processors (at_place cpus b in_cpus) fault h)
+    subst (AreInRange cpus) (sym is) (in_range_put cpus b wish space processors in_cpus fault h)
 
 sound_untouched : (cpus : List Binding) (space : List ℕ) (code : ℕ) (input : List ℕ) → IsSound cpus space code input → IsUntouched cpus space code input
 sound_untouched cpus space code input (Reads is_code is) = record { reads = λ _. is; writes = λ one. absurd (zero_one code is_code one) }
@@ -94,8 +89,8 @@ executes d cpus code input x same right h (Puts is_code b wish in_cpus fault is)
     let space : List ℕ = with_wish b wish d.registers in
     let place : Contains d.cpus b = subst (λ (v : List Binding). Contains v b) (sym same) in_cpus in
     let processors : AreProcessors (length d.registers) cpus = subst (AreProcessors (length d.registers)) same right.cpus in
-    let put : AreInRange cpus space = in_range_wish cpus b in_cpus.0 wish d.registers processors (at_place cpus b in_cpus) fault h in
-    let all : with_changes (written d space) d.registers ≡ space = wish_written d b place.0 wish (at_place d.cpus b place) in
+    let put : AreInRange cpus space = in_range_put cpus b wish d.registers processors in_cpus fault h in
+    let all : with_changes (written d space) d.registers ≡ space = written_is d b wish place in
     after_good d cpus (written d space) x same right
     (e ∙ exec_is d code input ∙ ap (λ (c : ℕ). executed d (cppc_state d) c input) is_code ∙ ap (λ (v : List ℕ). good_of d (written d v)) is)
     (subst (AreInRange cpus) (sym all) put)

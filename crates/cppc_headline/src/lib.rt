@@ -3,5 +3,7 @@
 #![tactic(auto)]
 
 mod law;
+mod worked;
 
-pub use law::headline_of_performance;
+pub use law::{headline_of_performance, new_performance, request_laws};
+pub use worked::worked_journals;

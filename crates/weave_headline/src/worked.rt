@@ -41,7 +41,8 @@ pub fn worked_logs()
       notes = note_at 0 1 1 ∷ [];
       flight = Some (note_at 2 0 0);
       unended = true;
-      calls = line_of (swap_call 0 (1 ∷ 2 ∷ []) 1) (Some (Replied (TimedOut 1))) 0 ∷ line_of (swap_call 1 [] 2) (Some (Replied (StillPending 2))) 0 ∷ [];
+      calls = line_of (swap_call 0 (1 ∷ 2 ∷ []) 1) (Some (Replied (TimedOut 1))) 0
+          ∷ line_of (swap_call 1 [] 2) (Some (Replied (StillPending 2))) 0 ∷ [];
       run = [];
     } }
 {}
