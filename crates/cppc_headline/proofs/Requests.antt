@@ -6,7 +6,7 @@ use Rattle.std.proofs.lemmas.List.{append-nil, drop_all, map-append}
 use Rattle.pcc_gas.specs.Changes.{with_changes}
 use Rattle.pcc_gas.specs.declared.change.Change.{Change}
 use Rattle.pcc_history.specs.Devices.{Device, Executed}
-use Rattle.pcc_history.specs.Channel.{Exchange, over}
+use Rattle.pcc_history.specs.Channel.{Exchange, both, over}
 use Rattle.pcc_history.specs.Histories.{space_after}
 use Rattle.pcc_journal.specs.declared.record.Record.{Record}
 use Rattle.pcc_journal.specs.declared.record.Pending.{Pending}
@@ -65,6 +65,7 @@ record Leaves (cpus : List Binding) (x : Executed) : Type 0 where
   state : x.state ≡ cppc_state after
   space : x.space ≡ after.registers
   ranges : AreInRange cpus after.registers
+  good : x.bad ≡ false
 
 after_good : (d : Cppc) (cpus : List Binding) (changes : List Change) (x : Executed) → d.cpus ≡ cpus → IsDevice d → x ≡ good_of d changes
     → AreInRange cpus (with_changes changes d.registers) → Leaves cpus x
@@ -75,6 +76,7 @@ after_good d cpus changes x same right is ranges = record {
   state = ap (λ (e : Executed). e.state) is;
   space = ap (λ (e : Executed). e.space) is;
   ranges = ranges;
+  good = ap (λ (e : Executed). e.bad) is;
 }
 
 executes : (d : Cppc) (cpus : List Binding) (code : ℕ) (input : List ℕ) (x : Executed) → d.cpus ≡ cpus → IsDevice d → AreInRange cpus d.registers
@@ -97,10 +99,9 @@ executes d cpus code input x same right h (Puts is_code b wish in_cpus fault is)
 
 -- ---- the records
 
-records_more : (cpus : List Binding) (records : List Record) (r : Record) → AllByRecursion (λ r. r.code ≡ 1 → AreInRange cpus r.input) records
-    → (r.code ≡ 1 → AreInRange cpus r.input) → AllByRecursion (λ r. r.code ≡ 1 → AreInRange cpus r.input) (records ++ r ∷ [])
-records_more cpus [] r h k = (k, tt)
-records_more cpus (x ∷ records) r h k = (h.0, records_more cpus records r h.1 k)
+records_more : (P : Record → Type 0) (records : List Record) (r : Record) → AllByRecursion P records → P r → AllByRecursion P (records ++ r ∷ [])
+records_more P [] r h k = (k, tt)
+records_more P (x ∷ records) r h k = (h.0, records_more P records r h.1 k)
 
 untouched_more : (cpus : List Binding) (before : List ℕ) (records : List Record) (r : Record) → Untouched cpus before records None
     → IsUntouched cpus (space_after before (exchanges_of records)) r.code r.input → Untouched cpus before (records ++ r ∷ []) None
@@ -124,6 +125,7 @@ record Keeping (start : ChannelStart) (cpus : List Binding) (now : ChannelState)
   ranges : AreInRange cpus device.registers
   in_range : AllByRecursion (λ r. r.code ≡ 1 → AreInRange cpus r.input) now.records
   untouched : Untouched cpus start.opening now.records None
+  good : AllByRecursion (λ r. r.error ≡ false) now.records
   last : space_after start.opening (exchanges_of now.records) ≡ now.object.space
 
 -- so is the command in flight
@@ -147,6 +149,7 @@ moved start cpus now o taken added k = record {
   ranges = k.ranges;
   in_range = k.in_range;
   untouched = k.untouched;
+  good = k.good;
   last = k.last;
 }
 
@@ -159,6 +162,10 @@ shown_processors start cpus now k =
 
 shown_ranges : (start : ChannelStart) (cpus : List Binding) (now : ChannelState) → Keeping start cpus now → AreInRange cpus now.object.space
 shown_ranges start cpus now k = subst (AreInRange cpus) (sym k.space) k.ranges
+
+no_error : (reports bad : Bool) → bad ≡ false → both reports bad ≡ false
+no_error true bad h = h
+no_error false bad h = refl
 
 completes : (start : ChannelStart) (cpus : List Binding) (command : Pending) (late : Bool) (now : ChannelState) → start.device ≡ cppc_exec → Keeping start cpus now
     → IsSound cpus now.object.space command.code command.input → Keeping start cpus (completed start command late now)
@@ -178,9 +185,10 @@ completes start cpus command late now exec k sound =
       state = left.state;
       space = left.space;
       ranges = left.ranges;
-      in_range = records_more cpus now.records r k.in_range (sound_in_range cpus now.object.space command.code command.input (shown_processors start cpus now k) (shown_ranges start cpus now k) sound);
+      in_range = records_more (λ v. v.code ≡ 1 → AreInRange cpus v.input) now.records r k.in_range (sound_in_range cpus now.object.space command.code command.input (shown_processors start cpus now k) (shown_ranges start cpus now k) sound);
       untouched = untouched_more cpus start.opening now.records r k.untouched
           (subst (λ (v : List ℕ). IsUntouched cpus v command.code command.input) (sym k.last) (sound_untouched cpus now.object.space command.code command.input sound));
+      good = records_more (λ v. v.error ≡ false) now.records r k.good (no_error start.head.reports x.bad left.good);
       last = ap (space_after start.opening) (exchanges_more now.records r) ∙ space_after-more start.opening (exchanges_of now.records) (exchange_of_record r);
     }
 
@@ -279,6 +287,7 @@ begins start device is = record {
     ranges = subst (AreInRange device.cpus) is.opening is.in_range;
     in_range = tt;
     untouched = tt;
+    good = tt;
     last = refl;
   };
   flight = tt;
@@ -305,4 +314,5 @@ performance_of_runs start device steps is own =
       in_range = (k.keeping.in_range, pending_in_range cpus r.now.object.space r.now.in_flight (shown_processors start cpus r.now k.keeping) (shown_ranges start cpus r.now k.keeping) k.flight);
       untouched = untouched_pending cpus start.opening r.now.records (pending_of r.now.in_flight) k.keeping.untouched
           (subst (λ (v : List ℕ). IfSome (pending_of r.now.in_flight) (λ p. IsUntouched cpus v p.code p.input)) (sym k.keeping.last) here);
+      good = k.keeping.good;
     }
