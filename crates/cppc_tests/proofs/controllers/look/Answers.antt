@@ -1,7 +1,7 @@
 use Rattle.std.proofs.Common.{ℕ, length, subst, sym}
 use Rattle.cpc_package.specs.Bindings.{LiesIn}
-use Rattle.cppc_device.proofs.Alone.{all_fit}
-use Rattle.cppc_device.proofs.tests.look.Goals as goal
+use Rattle.cppc_tests.proofs.Alone.{all_fit}
+use Rattle.cppc_tests.proofs.controllers.look.Goals as goal
 
 pub start_inside-requires-clause-fit : goal.start_inside-requires-clause-fit
 start_inside-requires-clause-fit c =
