@@ -1,5 +1,5 @@
 -- A processor alone.
-use Rattle.std.proofs.Common.{◌≡◌, ℕ, zero, suc, ◌<◌, ◌≤◌, List, [], ◌∷◌, All, length, refl, arith}
+use Rattle.std.proofs.Common.{◌≡◌, ℕ, zero, suc, [], ◌∷◌, All, refl, arith}
 use Rattle.cpc_package.specs.Bindings.{AreProcessors, CanRead, IsRight, LiesIn, source_at}
 use Rattle.cpc_package.specs.declared.binding.Binding.{Binding}
 use Rattle.cpc_package.specs.declared.binding.Source1.{Source1}
