@@ -7,6 +7,3 @@ mod worked;
 
 pub use wish::{SetRefusal, Wish, put_wish, wish_laws};
 pub use worked::worked_wishes;
-
-#[cfg(test)]
-mod tests;
