@@ -29,7 +29,7 @@ use Rattle.channel_headline.specs.WishCalls.{LineAnswer, WishCall, answer_wish, 
 use Rattle.channel_headline.proofs.Histories.{choose, decide, space_after-more}
 use Rattle.channel_headline.proofs.WholeRuns.{headline_of_runs}
 use Rattle.cppc_headline.specs.Journals.{AreInRange, DifferInWish, IsUntouched, Untouched}
-use Rattle.cppc_headline.specs.PerformanceHeadline.{IsPerformance, IsRequest, PerformanceHeadline}
+use Rattle.cppc_headline.specs.PerformanceHeadline.{IsPerformance, IsRequest, KeepsRanges, PerformanceHeadline}
 use Rattle.cppc_headline.proofs.Commands.{in_range_put, in_range_read, wish-length, wish_differs, written_is}
 
 -- ---- a command that is posted
@@ -302,17 +302,20 @@ pending_untouched : (cpus : List Binding) (space : List ℕ) (o : Option InFligh
 pending_untouched cpus space None f = tt
 pending_untouched cpus space (Some p) f = sound_untouched cpus space p.command.code p.command.input f
 
-pub performance_of_runs : (start : ChannelStart) (device : Cppc) (steps : List ChannelStep) → IsPerformance start device → AllByRecursion (IsRequest device.cpus) steps
-    → let r = run_from start (fresh start) steps in PerformanceHeadline start device.cpus r.lines r.now
-performance_of_runs start device steps is own =
+pub ranges_of_runs : (start : ChannelStart) (device : Cppc) (steps : List ChannelStep) → IsPerformance start device → AllByRecursion (IsRequest device.cpus) steps
+    → KeepsRanges device.cpus start.opening (run_from start (fresh start) steps).now
+ranges_of_runs start device steps is own =
     let r : ChannelRun = run_from start (fresh start) steps in
     let k : Kept start device.cpus r.now = run_keeps start device.cpus steps (fresh start) is.exec own (begins start device is) in
     let cpus : List Binding = device.cpus in
     let here = pending_untouched cpus r.now.object.space r.now.in_flight k.flight in
     record {
-      kept = headline_of_runs start steps;
       in_range = (k.keeping.in_range, pending_in_range cpus r.now.object.space r.now.in_flight (shown_processors start cpus r.now k.keeping) (shown_ranges start cpus r.now k.keeping) k.flight);
       untouched = untouched_pending cpus start.opening r.now.records (pending_of r.now.in_flight) k.keeping.untouched
           (subst (λ (v : List ℕ). IfSome (pending_of r.now.in_flight) (λ p. IsUntouched cpus v p.code p.input)) (sym k.keeping.last) here);
       good = k.keeping.good;
     }
+
+pub performance_of_runs : (start : ChannelStart) (device : Cppc) (steps : List ChannelStep) → IsPerformance start device → AllByRecursion (IsRequest device.cpus) steps
+    → let r = run_from start (fresh start) steps in PerformanceHeadline start device.cpus r.lines r.now
+performance_of_runs start device steps is own = record { kept = headline_of_runs start steps; ranges = ranges_of_runs start device steps is own }

@@ -1,5 +1,5 @@
 -- A channel of a controller of performance that is called in one thread, and the headline of its journal.
-use Rattle.std.specs.Prelude.{◌≡◌, false, List, [], Contains}
+use Rattle.std.specs.Prelude.{◌≡◌, ℕ, false, List, [], Contains}
 use Rattle.std.specs.List.{AllByRecursion}
 use Rattle.cpc_package.specs.declared.binding.Binding.{Binding}
 use Rattle.cppc_device.specs.Devices.{Cppc, IsDevice}
@@ -23,10 +23,14 @@ IsRequest cpus (Calls c) = (c.code ≡ 0) × (c.bytes ≡ [])
 IsRequest cpus (Sets w) = Contains cpus w.binding
 IsRequest cpus (Waits n) = Unit {0}
 
--- Journal and replies keep the headline. No command that writes leaves a range, none changes another field than those of one wish, and none is
--- reported as an error.
+-- The journal and the pending command of a channel in such a state: no command that writes leaves a range, none changes another field than those
+-- of one wish, and none is reported as an error.
+pub record KeepsRanges (cpus : List Binding) (opening : List ℕ) (now : ChannelState) : Type 0 where
+  pub in_range : InRangeAll cpus now.records (pending_of now.in_flight)
+  pub untouched : Untouched cpus opening now.records (pending_of now.in_flight)
+  pub good : AllByRecursion (λ r. r.error ≡ false) now.records
+
+-- journal and replies keep the headline, and the ranges are kept
 pub record PerformanceHeadline (start : ChannelStart) (cpus : List Binding) (lines : List ChannelLine) (now : ChannelState) : Type 0 where
   pub kept : HeadlineOf start lines now
-  pub in_range : InRangeAll cpus now.records (pending_of now.in_flight)
-  pub untouched : Untouched cpus start.opening now.records (pending_of now.in_flight)
-  pub good : AllByRecursion (λ r. r.error ≡ false) now.records
+  pub ranges : KeepsRanges cpus start.opening now
