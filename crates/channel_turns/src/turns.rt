@@ -5,22 +5,8 @@ ghost use Rattle.std.specs.Option.{option_copied};
 ghost use Rattle.pcc_steps.specs.Wires.{IsRight, block_of};
 ghost use Rattle.channel_turns.specs.ChannelRuns.{call_by, journal_limit, pending_of};
 ghost use Rattle.channel_core.specs.Sendings.{count_flying};
-ghost use Rattle.channel_turns.specs.Calls.{
-  HasMemory,
-  HasPolled,
-  HasPosted,
-  HasWorked,
-  IsAnswered,
-  IsLate,
-  IsPosted,
-  IsRefused,
-  MakesReady,
-  WorksEarlier,
-  new_channel,
-  open_channel,
-  ready_for,
-  waited,
-};
+ghost use Rattle.channel_turns.specs.Calls.{HasMemory, HasPolled, HasPosted, HasWorked, IsAnswered, IsLate, IsPosted, MakesReady, WorksEarlier};
+ghost use Rattle.channel_turns.specs.Calls.{new_channel, open_channel, ready_for, waited};
 ghost use Rattle.channel_turns.specs.Counts.{SpentByPoll, SpentByPolls};
 ghost use Rattle.channel_turns.specs.EndsStates.{awaited, rings};
 ghost use Rattle.channel_turns.specs.Outcomes.{IsPlaced};
@@ -136,7 +122,7 @@ impl<E: Executor> TurnChannel<E> {
     {
         let ready = match self.ready(alloc, code, bytes) {
             Ok(ready) => ready,
-            Err(refusal) => return refused(refusal),
+            Err(refusal) => return Outcome::of_refusal(refusal),
         };
         if !self.await_earlier(polls) {
             return Ok(Outcome::StillPending { looks: polls });
@@ -280,20 +266,5 @@ fn poll<E: Executor>(ends: &mut PlainEnds<E>) -> Option<u32>
     match ends.look() {
         Look::Drained { place, .. } => Some(place),
         Look::Clear { .. } => None,
-    }
-}
-
-// The outcome of a call whose command is refused.
-fn refused(refusal: CallRefusal) -> Result<Outcome, NoMemory>
-    ensures { IsRefused refusal result }
-{
-    match refusal {
-        CallRefusal::BadCode { code } => Ok(Outcome::BadCode { code }),
-        CallRefusal::TooLong { len, room } => Ok(Outcome::TooLong { len, room }),
-        CallRefusal::JournalFull => Ok(Outcome::JournalFull),
-        CallRefusal::NoMemory => Err(NoMemory),
-        CallRefusal::StillPending { looks } => Ok(Outcome::StillPending { looks }),
-        CallRefusal::TooSoon { now, earliest } => Ok(Outcome::TooSoon { now, earliest }),
-        CallRefusal::TimedOut { looks } => Ok(Outcome::TimedOut { looks }),
     }
 }
