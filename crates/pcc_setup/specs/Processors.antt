@@ -87,6 +87,10 @@ pub record IsFirstSharing (cpus : List Binding) (b : Binding) (cpu : ℕ) : Type
   pub shares : (d : Binding) → ShareBit (slice_index_or cpus cpu d) b
   pub before : (k : ℕ) (d : Binding) → k < cpu → ShareBit (slice_index_or cpus k d) b → ⊥
 
+-- a processor shares a bit with one of these, and this is the first
+abbrev pub IsShared : List Binding → Binding → CpuFault → Type 0
+IsShared before b f = (cpu : ℕ) × (f ≡ fault.Shares cpu) × IsFirstSharing before b cpu
+
 -- why a `cpu` line after bound ones isn't bound
 pub data CpuWrong (os : List Opened) (before : List Binding) (bytes : List ℕ) : CpuFault → Type 0 where
   Alone : (wrong : CpuFault) → Unbound os bytes wrong → CpuWrong os before bytes wrong
