@@ -1,17 +1,16 @@
 -- Processors, caps and ranges, one after the other.
-use Rattle.std.proofs.Common.{◌≡◌, ◌≢◌, ℕ, zero, suc, ◌+◌, ◌<◌, ◌≤◌, ◌==◌, Bool, true, false, cond, List, [], ◌∷◌, ◌++◌, length, get_or, map, set, take, drop, refl, sym, ap, ◌∙◌, subst, inl, inr, arith}
-use Rattle.std.specs.Prelude.{All, Result, Ok, Err, MatchBool, MatchResult, Option, Some, None, IfSome, filter, find, slice_get}
+use Rattle.std.proofs.Common.{◌≡◌, ◌≢◌, ℕ, zero, suc, ◌+◌, ◌<◌, ◌≤◌, ◌==◌, Bool, true, false, cond, List, [], ◌∷◌, ◌++◌, length, get_or, map, set, take, drop, refl, sym, ap, ◌∙◌, subst, arith}
+use Rattle.std.specs.Prelude.{All, Result, Ok, Err, MatchBool, MatchResult, Option, Some, None, IfSome, filter, slice_get}
 use Rattle.std.specs.List.{AllByRecursion}
 use Rattle.std.proofs.lemmas.Bool.{eq-eqb, ne_eqb}
 use Rattle.std.proofs.lemmas.List.{append-nil, append_assoc, drop_all, drop_more, get_or_default, length-drop, length-map, length-take, map-append, take-append-drop, take_all, take_more}
 use Rattle.std.proofs.lemmas.List.Elements.{filter-append}
-use Rattle.std.proofs.lemmas.Option.{get_or_from_slice_get, slice_get-get_or, slice_get_within}
+use Rattle.std.proofs.lemmas.Option.{slice_get_within}
 use Rattle.std.proofs.Math.Seq.{get_or-append_seam, set-append_seam}
 use Rattle.aml_pkg.specs.declared.item.Item.{Item}
 use Rattle.cpc_package.specs.Bindings.{ShareBit, bind_fault, binding_of}
 use Rattle.cpc_package.specs.Entries.{entries_of}
 use Rattle.cpc_package.specs.Packages.{CpcBytes}
-use Rattle.cpc_package.specs.declared.binding.BindFault.{BindFault}
 use Rattle.cpc_package.specs.declared.binding.Binding.{Binding}
 use Rattle.cpc_package.specs.declared.entry.Entry.{Entry}
 use Rattle.cppc_device.specs.Ranges.{Fits, InRange, IsStartOutside}
@@ -23,10 +22,9 @@ use Rattle.pcc_setup.specs.declared.processor.CpuError.{CpuError}
 use Rattle.pcc_setup.specs.declared.processor.CpuError.TheVariants as error
 use Rattle.pcc_setup.specs.declared.refusal.CpuFault.{CpuFault}
 use Rattle.pcc_setup.specs.declared.refusal.CpuFault.TheVariants as fault
-use Rattle.pcc_setup.specs.declared.refusal.Refusal.{Refusal}
 use Rattle.pcc_setup.specs.declared.refusal.Refusal.TheVariants as refusal
 use Rattle.pcc_setup.specs.Processors.{Alone, AreBound, Binds, CpuRefused, CpuWrong, FirstUnbound, FollowedBy, IfFault, IsShared, Misfit, Sharing, Unbound, controller_on, controls, entries_fault, fault_on, named_subspace, unfit}
-use Rattle.pcc_setup.specs.Equipment.{AreCapsRight, CanLook, IsStarting, CapRefused, FirstCap, FirstOutside, StartInside, StartRefused, StartsInside, cap_of, caps_on, cpus_on, equipped, is_cap_right, registers_of}
+use Rattle.pcc_setup.specs.Equipment.{AreCapsRight, CanLook, IsStarting, CapRefused, FirstCap, FirstOutside, StartInside, StartRefused, StartsInside, cap_of, caps_on, cpus_on, is_cap_right, registers_of}
 use Rattle.pcc_setup.proofs.Bound.{BindsBeside, bound_more}
 use Rattle.pcc_setup.proofs.FirstFaults.{some_same}
 use Rattle.pcc_setup.proofs.Opens.{all_more, found}

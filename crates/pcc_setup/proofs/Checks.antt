@@ -16,8 +16,6 @@ use Rattle.pcc_setup.specs.declared.action.ActionFault.{ActionFault}
 use Rattle.pcc_setup.specs.declared.opening.Opened.{Opened}
 use Rattle.pcc_setup.specs.declared.places.CpuPlace.{CpuPlace}
 use Rattle.pcc_setup.specs.declared.refusal.InputError.{InputError}
-use Rattle.pcc_setup.specs.declared.refusal.InputError.TheVariants as error
-use Rattle.pcc_setup.specs.declared.refusal.Refusal.{Refusal}
 use Rattle.pcc_setup.specs.declared.refusal.Refusal.TheVariants as refusal
 use Rattle.pcc_setup.specs.Equipment.{AreCapsRight, ArePlaces, CapRefused, IsHoused, StartInside, StartRefused, equipped}
 use Rattle.pcc_setup.specs.Openings.{AllOpen, memories_by, opened_by}

@@ -1,6 +1,6 @@
 -- What is opened has controllers that can begin: each processor is bound to the one controller with its ID.
-use Rattle.std.proofs.Common.{◌≡◌, ◌≢◌, ◌⊎◌, inl, inr, ℕ, zero, suc, ◌+◌, ◌<◌, ◌≤◌, ◌==◌, ◌&&◌, ◌||◌, not, Bool, true, false, cond, leb, ltb, List, [], ◌∷◌, ◌++◌, length, get_or, map, take, refl, sym, ap, ◌∙◌, subst, arith}
-use Rattle.std.specs.Prelude.{All, AllPairs, Option, Some, None, IfSome, filter, find, slice_get}
+use Rattle.std.proofs.Common.{◌≡◌, ◌≢◌, ◌⊎◌, inl, inr, ℕ, zero, suc, ◌+◌, ◌<◌, ◌≤◌, ◌==◌, ◌||◌, not, Bool, true, false, cond, leb, ltb, List, [], ◌∷◌, ◌++◌, length, map, take, refl, sym, ap, ◌∙◌, subst, arith}
+use Rattle.std.specs.Prelude.{All, AllPairs, Option, Some, None, filter, slice_get}
 use Rattle.std.specs.List.{AllByRecursion, AllZip, list_all, list_any}
 use Rattle.std.proofs.lemmas.Bool.{and_parts, cond_both, eqb-false, eqb-true, leb-true, ltb-true, lt-ltb}
 use Rattle.std.proofs.lemmas.List.{length-map}
@@ -24,21 +24,20 @@ use Rattle.cpc_package.specs.declared.binding.BindFault.{BindFault}
 use Rattle.cpc_package.specs.declared.binding.Binding.{Binding}
 use Rattle.cpc_package.specs.declared.entry.Entry.{Entry}
 use Rattle.cpc_package.proofs.Bound.{is_binding, is_right, lies_in}
-use Rattle.cppc_device.specs.Openings.{cap_order, device_fault, opening, order_after, order_fault}
-use Rattle.cppc_device.specs.Ranges.{Fits, InRange}
-use Rattle.cppc_device.specs.declared.cap.Cap.{Cap}
+use Rattle.cppc_device.specs.Openings.{cap_order, device_fault, order_after, order_fault}
+use Rattle.cppc_device.specs.Ranges.{InRange}
 use Rattle.cppc_device.specs.declared.device.DeviceFault.{DeviceFault}
 use Rattle.cppc_device.specs.declared.device.DeviceFault.TheVariants.{ImageTooLong}
 use Rattle.cppc_device.proofs.Alone.{one_fits}
 use Rattle.pcc_setup.specs.declared.opening.Opened.{Opened}
 use Rattle.pcc_setup.specs.declared.opening.OpenFault.{OpenFault}
 use Rattle.pcc_setup.specs.declared.opening.OpenFault.TheVariants.{ImageLong}
-use Rattle.pcc_setup.specs.Openings.{AllOpen, asks_on, image_fault, image_of, line_fault, opened_by, opened_with, opens_id, structure_fault, wired_fault}
-use Rattle.pcc_setup.specs.Processors.{AreBound, Binds, channel_of, controller_named, controller_on, controls, entries_fault, fault_on, named_subspace, unfit}
-use Rattle.pcc_setup.specs.Equipment.{AreCapsRight, CanBegin, CanLook, IsStarting, StartInside, StartsInside, cap_of, caps_on, cpus_on, equipped, is_cap_right, is_elsewhere, registers_of}
+use Rattle.pcc_setup.specs.Openings.{AllOpen, asks_on, image_fault, image_of, opened_by, opened_with, opens_id, structure_fault, wired_fault}
+use Rattle.pcc_setup.specs.Processors.{AreBound, Binds, channel_of, controller_named, controller_on, controls, fault_on, named_subspace, unfit}
+use Rattle.pcc_setup.specs.Equipment.{AreCapsRight, CanBegin, CanLook, IsStarting, StartInside, StartsInside, cap_of, caps_on, cpus_on, equipped, is_elsewhere, registers_of}
 use Rattle.pcc_setup.specs.SetUps.{IsSetUp, Opens}
 use Rattle.pcc_setup.proofs.Checking.{if_some, of_some}
-use Rattle.pcc_setup.proofs.FirstFaults.{some_none, some_same}
+use Rattle.pcc_setup.proofs.FirstFaults.{some_same}
 
 split : (b : Bool) → (b ≡ true) ⊎ (b ≡ false)
 split true = inl refl

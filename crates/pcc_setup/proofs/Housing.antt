@@ -1,19 +1,18 @@
 -- The place of each processor among the opened subspaces.
 use Rattle.std.proofs.Common.{◌≡◌, ℕ, zero, suc, ◌+◌, ◌*◌, ◌^◌, ◌<◌, ◌≤◌, ◌≢◌, ◌==◌, ◌||◌, Bool, true, false, cond, eqb, List, [], ◌∷◌, ◌++◌, length, get_or, map, take, refl, sym, ap, ◌∙◌, subst, arith}
 use Rattle.std.specs.Prelude.{AllPairs, Option, Some, None, filter, slice_get}
-use Rattle.std.specs.List.{AllByRecursion, AllZip, IsDistinct, list_any}
+use Rattle.std.specs.List.{AllByRecursion, IsDistinct, list_any}
 use Rattle.std.proofs.lemmas.Bool.{cond_both, eq-eqb, eqb-true, ne_eqb}
 use Rattle.std.proofs.lemmas.List.{get_or_default, length-map, take_all, take_more}
 use Rattle.std.proofs.lemmas.List.Kept.{AllPairs-filter}
 use Rattle.std.proofs.lemmas.Map.Steps.{length-le_from_distinct_below}
-use Rattle.std.proofs.lemmas.Option.{get_or_from_slice_get, slice_get-get_or, slice_get_within}
+use Rattle.std.proofs.lemmas.Option.{slice_get_within}
 use Rattle.pcct_codec.specs.Tables.{TableBytes}
 use Rattle.pcct_table.specs.declared.subspace.Subspace.{Subspace}
 use Rattle.pcct_table.specs.declared.table.Table.{Table}
 use Rattle.pcc_gas.specs.declared.field.Field.{Field}
 use Rattle.pcc_script.specs.declared.scenario.CapLine.{CapLine}
 use Rattle.pcc_script.specs.declared.scenario.OpenLine.{OpenLine}
-use Rattle.pcc_script.specs.declared.scenario.Scenario.{Scenario}
 use Rattle.pcct_table.specs.Subspaces.{kind_of, memory_len_of}
 use Rattle.pcc_wiring.specs.Wirings.{room_of}
 use Rattle.cpc_package.specs.Bindings.{HasWidth, IsRight, LiesIn, ShareBit, source_at}

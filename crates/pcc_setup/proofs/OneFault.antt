@@ -1,6 +1,6 @@
 -- Each script is set up or refused, by one line.
 use Rattle.std.proofs.Common.{◌≡◌, ◌⊎◌, inl, inr, ◌≤◌, ℕ, ◌+◌, Bool, true, false, List, [], ◌∷◌, length, map, take, refl, sym, ap, ◌∙◌, subst, arith}
-use Rattle.std.specs.Prelude.{Option, Some, None, IfSome, slice_get}
+use Rattle.std.specs.Prelude.{Option, Some, None, IfSome}
 use Rattle.std.specs.List.{AllByRecursion}
 use Rattle.std.proofs.lemmas.Bool.{cases_lt}
 use Rattle.std.proofs.lemmas.Option.{slice_get_within}
@@ -14,8 +14,7 @@ use Rattle.pcc_script.specs.declared.scenario.OpenLine.{OpenLine}
 use Rattle.pcc_script.specs.declared.scenario.Scenario.{Scenario}
 use Rattle.cpc_package.specs.declared.binding.Binding.{Binding}
 use Rattle.cppc_device.specs.Ranges.{InRange, Rises, performances}
-use Rattle.pcc_wiring.specs.declared.overlap.Overlap.{Overlap}
-use Rattle.pcc_wiring.specs.Overlaps.{AreApart, IsFirstOverlap}
+use Rattle.pcc_wiring.specs.Overlaps.{AreApart}
 use Rattle.pcc_wiring.proofs.FirstOverlaps.{apart_or_first, one_overlap}
 use Rattle.pcc_setup.specs.declared.action.ActionFault.{ActionFault}
 use Rattle.pcc_setup.specs.declared.opening.Opened.{Opened}

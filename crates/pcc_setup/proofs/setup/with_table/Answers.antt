@@ -1,4 +1,4 @@
-use Rattle.std.proofs.Common.{length, map, sym, ap, ◌∙◌, subst}
+use Rattle.std.proofs.Common.{length, map, sym, ◌∙◌, subst}
 use Rattle.pcc_setup.specs.Equipment.{AreCapsRight, ArePlaces, CapRefused, IsStarting, StartInside, StartRefused, equipped}
 use Rattle.pcc_setup.specs.Processors.{AreBound, CpuRefused}
 use Rattle.pcc_setup.specs.RefusalText.{IsRefusedFor}
