@@ -91,7 +91,7 @@ pub data Fails {X : Type 0} (Passes : X → Type 0) (Refuses : Refusal → Type 
 abbrev pub FailsOr : Type 0 → (Refusal → Type 0) → (Refusal → Type 0) → Refusal → Type 0
 FailsOr Passes Refuses later = Fails {X = Unit {0}} (λ ok. Passes) Refuses (λ ok. later)
 
--- the checks behind each other, from the last to the first
+-- the checks in their order, from the last to the first
 abbrev pub AfterCaps : Scenario → List Opened → List Binding → Refusal → Type 0
 AfterCaps s os cpus = FailsOr (StartInside os cpus (length cpus)) (StartRefused os cpus) (ActionRefused s)
 
