@@ -41,8 +41,6 @@ record 1 caller 1 code 17 ok post 20 done 30 timely in 0000000000000000000000000
 pending caller 0 code 17 post 40 in 01000000000000000000000000000000\n\
 end 0\n";
 
-const UNBUILT: &[u8] = b"refused unbuilt\n";
-
 fn script(alloc: Global, rest: &[u8]) -> Result<Vec<u8>, NoMemory> {
     let mut text = Vec::from_slice(alloc, TABLE)?;
     text.extend_from_slice(rest)?;
@@ -53,12 +51,15 @@ fn script(alloc: Global, rest: &[u8]) -> Result<Vec<u8>, NoMemory> {
 fn texts_of_scripts(rt: HostRuntime) -> Result<(), Fail> {
     let alloc = rt.alloc();
     let words = words_of(alloc, "step")?;
-    let rows: [(&[u8], u8, &[u8]); 9] = [
+    let rows: [(&[u8], u8, &[u8]); 8] = [
         (SWAPS, 0, SWAPPED),
         (REFUSALS, 0, REFUSED),
         (HOLDS, 0, HELD),
-        (b"clock 0 10\nopen 0 bank\nread 0 0 1 0\n", 3, UNBUILT),
-        (b"clock 0 10\nopen 0 cppc -\n", 3, UNBUILT),
+        (
+            b"clock 0 10\nopen 0 bank\nread 0 0 1 0\n",
+            3,
+            b"refused line 4 no cpu\n",
+        ),
         (
             b"clock 0 10\nopen 1 bank\n",
             3,

@@ -6,6 +6,8 @@ mod calls;
 #[cfg(test)]
 mod commands;
 #[cfg(test)]
+mod controllers;
+#[cfg(test)]
 mod packages;
 #[cfg(test)]
 mod subspaces;
