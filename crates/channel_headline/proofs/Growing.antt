@@ -6,9 +6,10 @@ use Rattle.std.proofs.lemmas.List.{append_assoc, append-nil, length-append, map-
 use Rattle.std.proofs.lemmas.List.Elements.{filter-append}
 use Rattle.std.proofs.lemmas.List.Concat.{flat_map-append}
 use Rattle.pcc_journal.specs.Events.{Event, Answered, Lost, Drained, Completed, is_call_of}
-use Rattle.channel_turns.specs.Replies.{Reply, Done, BadCode, TooLong, JournalFull, StillPending, TooSoon, TimedOut}
+use Rattle.channel_turns.specs.Replies.{Done, BadCode, TooLong, JournalFull, StillPending, TooSoon, TimedOut}
 use Rattle.channel_headline.specs.After.{After, IsRead, IsReading, Rise, after_event, after_from, numbers_in, numbers_of}
-use Rattle.channel_headline.specs.Causes.{EachAfter, HasCause, IsBlocked, IsFull, IsTooSoon, Past, Terms}
+use Rattle.channel_headline.specs.Asked.{LineReply, Refused, Replied}
+use Rattle.channel_headline.specs.Causes.{EachAfter, HasCause, IsBlocked, IsFull, IsTooSoon, IsUnfit, Past, Terms}
 use Rattle.channel_headline.specs.Lines.{CallLine, was_posted, was_too_soon, mine_of, soon_lines, soon_numbers}
 use Rattle.channel_headline.specs.Matches.{AllMatch, Matches, Placed, own_calls, placed}
 
@@ -161,31 +162,37 @@ abbrev past-append : (es fs : List Event) (earlier : List CallLine) (l : CallLin
 past-append es fs earlier l m =
     record { past = m.past; later = m.later ++ fs; parts = ap (λ (v : List Event). v ++ fs) m.parts ∙ append_assoc m.past m.later fs; own = m.own }
 
-pub cause-append : (t : Terms) (rs qs : List ℕ) (es fs : List Event) (earlier : List CallLine) (l : CallLine) (r : Option Reply) → HasCause t rs es earlier l r → HasCause t (rs ++ qs) (es ++ fs) earlier l r
+pub cause-append : (t : Terms) (rs qs : List ℕ) (es fs : List Event) (earlier : List CallLine) (l : CallLine) (r : Option LineReply)
+    → HasCause t rs es earlier l r → HasCause t (rs ++ qs) (es ++ fs) earlier l r
 cause-append t rs qs es fs earlier l None h = h
-cause-append t rs qs es fs earlier l (Some (Done error output)) h = h
-cause-append t rs qs es fs earlier l (Some (BadCode code)) h = h
-cause-append t rs qs es fs earlier l (Some (TooLong len room)) h = h
-cause-append t rs qs es fs earlier l (Some JournalFull) h =
+cause-append t rs qs es fs earlier l (Some (Replied (Done error output))) h = h
+cause-append t rs qs es fs earlier l (Some (Replied (BadCode code))) h = h
+cause-append t rs qs es fs earlier l (Some (Replied (TooLong len room))) h = h
+cause-append t rs qs es fs earlier l (Some (Replied JournalFull)) h =
     let old : IsFull es earlier l = h.1 in
     let new : IsFull (es ++ fs) earlier l = record { moment = past-append es fs earlier l old.moment; full = old.full } in
     (h.0, new)
-cause-append t rs qs es fs earlier l (Some (StillPending looks)) h =
+cause-append t rs qs es fs earlier l (Some (Replied (StillPending looks))) h =
     let old : IsBlocked t.opening es earlier l = h.2 in
     let new : IsBlocked t.opening (es ++ fs) earlier l = record { moment = past-append es fs earlier l old.moment; post = old.post; flies = old.flies } in
     (h.0, h.1, new)
-cause-append t rs qs es fs earlier l (Some (TooSoon now earliest)) h =
+cause-append t rs qs es fs earlier l (Some (Replied (TooSoon now earliest))) h =
     let old : IsTooSoon t rs es earlier l now earliest = h.1 in
     let new : IsTooSoon t (rs ++ qs) (es ++ fs) earlier l now earliest = record {
       moment = past-append es fs earlier l old.moment;
       quiet = old.quiet;
+      fits = old.fits;
       earliest_is = old.earliest_is;
       soon = old.soon;
       read = reading-append rs qs l.number now old.read;
       above = old.above;
     } in
     (h.0, new)
-cause-append t rs qs es fs earlier l (Some (TimedOut looks)) h = h
+cause-append t rs qs es fs earlier l (Some (Replied (TimedOut looks))) h = h
+cause-append t rs qs es fs earlier l (Some (Refused why)) h =
+    let old : IsUnfit t.opening es earlier l why = h.1 in
+    let new : IsUnfit t.opening (es ++ fs) earlier l why = record { moment = past-append es fs earlier l old.moment; quiet = old.quiet; fault = old.fault } in
+    (h.0, new)
 
 pub each_as : (P Q : List CallLine → CallLine → Type 0) → ((b : List CallLine) (l : CallLine) → P b l → Q b l) → (b ls : List CallLine) → EachAfter P b ls → EachAfter Q b ls
 each_as P Q f b [] h = tt

@@ -13,12 +13,12 @@ use Rattle.pcc_journal.specs.Events.{Event, Drained, Completed, Noted, NotedPend
 use Rattle.pcc_journal.proofs.EventsGrow.{drained as events_drained, noted_last, post_count-append}
 use Rattle.pcc_history.specs.Channel.{Exchange}
 use Rattle.channel_core.specs.Sendings.{recorded}
-use Rattle.channel_turns.specs.ChannelRuns.{Call, ChannelStart, ChannelState, InFlight, completed, count_in_flight, exchange_with, next_reading, pending_of, post_of}
-use Rattle.channel_turns.specs.Replies.{Reply}
+use Rattle.channel_turns.specs.ChannelRuns.{ChannelStart, ChannelState, InFlight, completed, count_in_flight, exchange_with, next_reading, pending_of, post_of}
 use Rattle.channel_headline.specs.After.{After, IsRead, IsReading, Rise, after_event, after_events, before_all, numbers_in}
+use Rattle.channel_headline.specs.Asked.{LineReply}
 use Rattle.channel_headline.specs.Causes.{AllCaused, HasCause, Terms}
-use Rattle.channel_headline.specs.ChannelLog.{ChannelLog, line_of, reading_at, with_drained}
-use Rattle.channel_headline.specs.Lines.{CallLine, HasReply, is_post, is_too_soon, mine_of, soon_lines, soon_numbers}
+use Rattle.channel_headline.specs.ChannelLog.{ChannelLog, LineCall, line_of, reading_at, with_drained}
+use Rattle.channel_headline.specs.Lines.{CallLine, HasReply, mine_of, posts_line, soon_lines, soon_numbers, was_too_soon}
 use Rattle.channel_headline.specs.Matches.{AllMatch, own_calls, placed}
 use Rattle.channel_headline.specs.Runs.{terms_of}
 use Rattle.channel_headline.proofs.Growing.{after-append, all_last, all_read, cause-append, each_as, each_last, match_drained, match_quiet, reading_first, rise_events, rise_higher, soon_count, soon_other}
@@ -132,8 +132,8 @@ drained_at start s now p n events flight h =
 
 -- ---- nothing was posted and no reading was taken
 
-pub line_point : (start : ChannelStart) (call : Call) (reply : Reply) (now : ChannelState) (o : Option InFlight) (s : ChannelLog) (events : List Event) → is_post reply ≡ false → is_too_soon reply ≡ false
-    → HasCause (terms_of start) s.readings events s.calls (line_of call reply 0) (Some reply) → Point start s now o events
+pub line_point : (start : ChannelStart) (call : LineCall) (reply : LineReply) (now : ChannelState) (o : Option InFlight) (s : ChannelLog) (events : List Event)
+    → posts_line reply ≡ false → was_too_soon (Some reply) ≡ false → HasCause (terms_of start) s.readings events s.calls (line_of call reply 0) (Some reply) → Point start s now o events
     → Point start (record s { calls = s.calls ++ line_of call reply 0 ∷ [] }) now o events
 line_point start call reply now o s events unposted unsoon cause h =
     let l : CallLine = line_of call reply 0 in
@@ -157,7 +157,7 @@ line_point start call reply now o s events unposted unsoon cause h =
       count = h.count ∙ ap (λ (m : ℕ). 2 * length now.records + count_in_flight o + m) (sym same);
     }
   where
-    none_soon : (r : Reply) (l : CallLine) → is_too_soon r ≡ false → length (soon_lines (record l { reply = Some r } ∷ [])) ≡ 0
+    none_soon : (r : LineReply) (l : CallLine) → was_too_soon (Some r) ≡ false → length (soon_lines (record l { reply = Some r } ∷ [])) ≡ 0
     none_soon r l e = rw e refl
 
 -- less is left of the hold of a command in flight

@@ -1,5 +1,7 @@
 pub mod After
+pub mod Asked
 pub mod Lines
+pub mod WishCalls
 pub mod Matches
 pub mod Causes
 pub mod Headline

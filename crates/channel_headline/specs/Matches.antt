@@ -3,8 +3,9 @@ use Rattle.std.specs.Prelude.{◌≡◌, ℕ, List, [], ◌∷◌, Option, Some,
 use Rattle.std.specs.List.{filter}
 use Rattle.pcc_history.specs.Channel.{over}
 use Rattle.pcc_journal.specs.Events.{Event, Answered, Lost, Posted, is_call_of}
-use Rattle.channel_turns.specs.Replies.{Reply, Done, TimedOut}
+use Rattle.channel_turns.specs.Replies.{Done, TimedOut}
 use Rattle.channel_headline.specs.After.{After, after_event, before_all}
+use Rattle.channel_headline.specs.Asked.{LineReply, Replied, asked_bytes, asked_fault}
 use Rattle.channel_headline.specs.Lines.{CallLine, mine_of}
 
 -- an event, and the last output before it
@@ -21,15 +22,16 @@ placed a (e ∷ es) = record { event = e; before = a.space } ∷ placed (after_e
 abbrev pub own_calls : ℕ → List Placed → List Placed
 own_calls caller ps = filter (λ p. is_call_of caller p.event) ps
 
--- the posted command is that of the line: its caller, its code, and its bytes laid over the last output before it
+-- the posted command is that of the line: its caller, its code, and what it asks of the last output before it, laid over that; a wish could be put there
 abbrev pub IsPostOf : CallLine → List ℕ → Posted → Type 0
-IsPostOf l before p = (p.caller ≡ l.caller) × (p.code ≡ l.code) × (p.input ≡ over before l.bytes)
+IsPostOf l before p =
+    (p.caller ≡ l.caller) × (p.code ≡ l.code) × (p.input ≡ over before (asked_bytes l.asked before)) × (asked_fault l.asked before ≡ None)
 
 -- `ok` or `error` matches an answer with that error and output; `timed out` matches a loss after as many looks as the line has polls; no reply
 -- matches a loss that nobody has given up
-abbrev pub Matches : CallLine → List ℕ → Option Reply → Event → Type 0
-Matches l before (Some (Done error output)) (Answered p c) = IsPostOf l before p × (c.error ≡ error) × (c.output ≡ output)
-Matches l before (Some (TimedOut looks)) (Lost p n) = IsPostOf l before p × (looks ≡ l.polls) × (n ≡ looks)
+abbrev pub Matches : CallLine → List ℕ → Option LineReply → Event → Type 0
+Matches l before (Some (Replied (Done error output))) (Answered p c) = IsPostOf l before p × (c.error ≡ error) × (c.output ≡ output)
+Matches l before (Some (Replied (TimedOut looks))) (Lost p n) = IsPostOf l before p × (looks ≡ l.polls) × (n ≡ looks)
 Matches l before None (Lost p n) = IsPostOf l before p × (n ≡ 0)
 Matches l before _ _ = ⊥
 

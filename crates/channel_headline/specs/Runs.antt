@@ -1,15 +1,18 @@
 -- A channel that is called in one thread, one call after the other, with waits between, and the headline of its journal.
-use Rattle.std.specs.Prelude.{ℕ, ◌+◌, List, [], ◌∷◌, length, take}
+use Rattle.std.specs.Prelude.{ℕ, ◌+◌, List, [], ◌∷◌}
 use Rattle.pcc_journal.specs.Events.{noted, noted_pending}
+use Rattle.pcc_journal.specs.Records.{exchanges_of}
 use Rattle.channel_turns.specs.ChannelRuns.{Call, ChannelStart, ChannelState, answer_call, pending_of}
 use Rattle.channel_headline.specs.Causes.{Terms}
-use Rattle.channel_headline.specs.ChannelLog.{ChannelLine, ChannelLog, Called, Waited, log_of}
+use Rattle.channel_headline.specs.ChannelLog.{ChannelLine, ChannelLog, Called, Waited, Wished, log_of}
 use Rattle.channel_headline.specs.Headline.{Headline, NotedJournal}
-use Rattle.channel_headline.specs.Lines.{asked_by}
+use Rattle.channel_headline.specs.Lines.{asked_along, asked_by}
+use Rattle.channel_headline.specs.WishCalls.{WishCall, answer_wish}
 
--- what is done with a channel: it is called, or its clock is moved up
+-- what is done with a channel: it is called, a wish is set, or its clock is moved up
 pub data ChannelStep : Type 0 where
   Calls : Call → ChannelStep
+  Sets : WishCall → ChannelStep
   Waits : ℕ → ChannelStep
 
 -- the lines with their replies, and how the channel is left
@@ -25,6 +28,10 @@ run_from start now (Calls c ∷ steps) =
     let a = answer_call start c now in
     let r = run_from start a.now steps in
     record { lines = Called c a.reply ∷ r.lines; now = r.now }
+run_from start now (Sets w ∷ steps) =
+    let a = answer_wish start w now in
+    let r = run_from start a.now steps in
+    record { lines = Wished w a.reply ∷ r.lines; now = r.now }
 
 abbrev pub terms_of : ChannelStart → Terms
 terms_of start = record {
@@ -43,8 +50,8 @@ abbrev pub journal_of : ChannelLog → ChannelState → NotedJournal
 journal_of s now = record { entries = noted now.records s.notes; pending = noted_pending (pending_of now.in_flight) s.flight }
 
 -- The headline of a channel in one thread, by its start, its lines with their replies, and what is left of it. The bytes asked are those of the
--- lines that were posted, as far as there are records.
+-- lines that were posted, each made along the records.
 abbrev pub HeadlineOf : ChannelStart → List ChannelLine → ChannelState → Type 0
 HeadlineOf start lines now =
     let s = log_of start.clock lines in
-    Headline (terms_of start) s.readings (take (length now.records) (asked_by s.calls)) s.calls (journal_of s now)
+    Headline (terms_of start) s.readings (asked_along start.opening (exchanges_of now.records) (asked_by s.calls)) s.calls (journal_of s now)

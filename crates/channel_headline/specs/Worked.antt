@@ -5,12 +5,15 @@ use Rattle.pcc_journal.specs.declared.record.Record.{Record}
 use Rattle.pcc_journal.specs.declared.record.Pending.{Pending}
 use Rattle.pcc_journal.specs.declared.note.Note.{Note}
 use Rattle.pcc_journal.specs.Events.{noted, noted_pending}
+use Rattle.cppc_device.specs.Worked.{half_bytes}
 use Rattle.channel_turns.specs.Replies.{Reply, Done, TimedOut}
 use Rattle.channel_turns.specs.ChannelRuns.{Call, ChannelStart, InFlight, fresh}
-use Rattle.channel_headline.specs.ChannelLog.{ChannelLine, Called, log_of}
+use Rattle.channel_headline.specs.ChannelLog.{ChannelLine, Called, Wished, log_of}
+use Rattle.channel_headline.specs.Asked.{LineReply, These}
 use Rattle.channel_headline.specs.Headline.{Headline}
 use Rattle.channel_headline.specs.Lines.{CallLine}
-use Rattle.channel_headline.specs.Runs.{Calls, ChannelRun, HeadlineOf, Waits, run_from, terms_of}
+use Rattle.channel_headline.specs.Runs.{Calls, ChannelRun, HeadlineOf, Sets, Waits, run_from, terms_of}
+use Rattle.channel_headline.specs.WishCalls.{WishCall}
 
 abbrev pub bank : ℕ → ChannelStart
 bank turnaround = record {
@@ -71,10 +74,24 @@ note_at post done looks = record { post_at = post; done_at = done; looks = looks
 
 -- a call that was posted and hasn't ended, and the headline with such lines
 abbrev pub open_line : CallLine
-open_line = record { caller = 0; code = 16; bytes = 1 ∷ []; polls = 3; reply = None; number = 0 }
+open_line = record { caller = 0; code = 16; asked = These (1 ∷ []); polls = 3; reply = None; number = 0 }
 
 abbrev pub KeepsOpen : List CallLine → Option Pending → Option Note → Type 0
 KeepsOpen calls pending note = Headline (terms_of (bank 0)) (0 ∷ []) [] calls (record { entries = []; pending = noted_pending pending note })
+
+-- ---- wishes
+
+-- a desired performance of the first processor, whose desired performance is the low half of the first byte
+abbrev pub desires : ℕ → WishCall
+desires number =
+    record { caller = 0; binding = half_bytes 0; wish = record { cpu = 0; min = None; desired = number; max = None }; polls = 3; hold = 0 }
+
+abbrev pub wished : ℕ → LineReply → ChannelLine
+wished number reply = Wished (desires number) reply
+
+-- the record of a wish
+abbrev pub wish_record : List ℕ → Record
+wish_record input = record { caller = 0; code = 1; input = input; error = true; output = input; post = 0; done = 10; late = false }
 
 -- ---- runs
 
@@ -86,3 +103,7 @@ late_run = run_from (bank 0) (fresh (bank 0)) (Calls (swap 0 (1 ∷ []) 3) ∷ C
 abbrev pub soon_run : ChannelRun
 soon_run =
     run_from (bank 500) (fresh (bank 500)) (Calls (swap 0 (1 ∷ []) 0) ∷ Calls (swap 0 (2 ∷ []) 0) ∷ Waits 480 ∷ Calls (swap 0 (3 ∷ []) 0) ∷ [])
+
+-- a wish that is put, and one that doesn't fit into its field
+abbrev pub wish_run : ChannelRun
+wish_run = run_from (bank 0) (fresh (bank 0)) (Sets (desires 5) ∷ Sets (desires 16) ∷ [])

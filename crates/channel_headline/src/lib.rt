@@ -5,4 +5,4 @@ mod law;
 mod worked;
 
 pub use law::{headline_of_calls, tied_calls};
-pub use worked::{worked_lies, worked_logs, worked_open};
+pub use worked::{worked_lies, worked_logs, worked_open, worked_wishes};

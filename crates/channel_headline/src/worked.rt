@@ -1,8 +1,10 @@
 //! The log of a run and the headline, evaluated on worked journals and on wrong ones.
 ghost use Rattle.std.specs.Prelude.{◌≡◌, [], ◌∷◌, Some, None, false, true};
-ghost use Rattle.channel_turns.specs.Replies.{BadCode, JournalFull, StillPending, TimedOut, TooLong, TooSoon};
-ghost use Rattle.channel_headline.specs.ChannelLog.{Called, Waited, line_of, log_of};
-ghost use Rattle.channel_headline.specs.Worked.{Keeps, KeepsNoted, KeepsOpen, KeepsWith, bank, first_line, first_record, kept, late_run, lost_command, lost_line, note_at, ok, open_line, soon_run, swap, swapped};
+ghost use Rattle.channel_turns.specs.Replies.{BadCode, Done, JournalFull, StillPending, TimedOut, TooLong, TooSoon};
+ghost use Rattle.cppc_calls.specs.declared.wish.SetRefusal.TheVariants.{BelowLowest, TooWide};
+ghost use Rattle.channel_headline.specs.Asked.{Refused, Replied};
+ghost use Rattle.channel_headline.specs.ChannelLog.{Called, Waited, line_of, log_of, of_call, of_wish};
+ghost use Rattle.channel_headline.specs.Worked.{Keeps, KeepsNoted, KeepsOpen, KeepsWith, bank, desires, first_line, first_record, kept, late_run, lost_command, lost_line, note_at, ok, open_line, soon_run, swap, swapped, wish_record, wish_run, wished};
 
 /// What the lines of two runs say of their readings and notes. It does nothing.
 pub fn worked_logs()
@@ -14,15 +16,31 @@ pub fn worked_logs()
       readings = 0 ∷ 10 ∷ 20 ∷ 30 ∷ [];
       notes = note_at 0 1 3 ∷ note_at 2 3 0 ∷ [];
       flight = None;
-      calls = line_of (swap 0 (1 ∷ []) 3) (TimedOut 3) 0 ∷ line_of (swap 1 (2 ∷ []) 0) (ok (1 ∷ 0 ∷ [])) 0 ∷ [];
+      calls = line_of (of_call (swap 0 (1 ∷ []) 3)) (Replied (TimedOut 3)) 0
+          ∷ line_of (of_call (swap 1 (2 ∷ []) 0)) (Replied (ok (1 ∷ 0 ∷ []))) 0 ∷ [];
     } }
     ensures soon_log { log_of (bank 500).clock soon_run.lines ≡ record {
       added = 480;
       readings = 0 ∷ 10 ∷ 20 ∷ 510 ∷ 520 ∷ [];
       notes = note_at 0 1 0 ∷ note_at 3 4 0 ∷ [];
       flight = None;
-      calls = line_of (swap 0 (1 ∷ []) 0) (ok (0 ∷ 0 ∷ [])) 0 ∷ line_of (swap 0 (2 ∷ []) 0) (TooSoon 20 510) 2
-          ∷ line_of (swap 0 (3 ∷ []) 0) (ok (1 ∷ 0 ∷ [])) 0 ∷ [];
+      calls = line_of (of_call (swap 0 (1 ∷ []) 0)) (Replied (ok (0 ∷ 0 ∷ []))) 0
+          ∷ line_of (of_call (swap 0 (2 ∷ []) 0)) (Replied (TooSoon 20 510)) 2
+          ∷ line_of (of_call (swap 0 (3 ∷ []) 0)) (Replied (ok (1 ∷ 0 ∷ []))) 0 ∷ [];
+    } }
+{}
+
+/// What the lines of a run with wishes say. It does nothing.
+#[tactic(auto, unfolding(cppc_calls::specs::Wishes::with_wish, pcc_gas::specs::Changes::with_changes, pcc_gas::specs::Fields::field_value))]
+pub fn worked_wishes()
+    ensures lines { wish_run.lines ≡ wished 5 (Replied (Done true (5 ∷ 0 ∷ []))) ∷ wished 16 (Refused (TooWide 7)) ∷ [] }
+    ensures records { wish_run.now.records ≡ wish_record (5 ∷ 0 ∷ []) ∷ [] }
+    ensures log { log_of (bank 0).clock wish_run.lines ≡ record {
+      added = 0;
+      readings = 0 ∷ 10 ∷ [];
+      notes = note_at 0 1 0 ∷ [];
+      flight = None;
+      calls = line_of (of_wish (desires 5)) (Replied (Done true (5 ∷ 0 ∷ []))) 0 ∷ line_of (of_wish (desires 16)) (Refused (TooWide 7)) 0 ∷ [];
     } }
 {}
 
@@ -86,4 +104,14 @@ pub fn worked_lies()
 
     // a post that is not the clock's reading
     ensures invented_post { Keeps (first_line ∷ []) (kept 0 (1 ∷ 2 ∷ []) (0 ∷ 0 ∷ []) 5 10 false ∷ []) None → ⊥ }
+
+    // a set whose record has other bytes than the space with the wish put
+    ensures other_wish { Keeps (wished 5 (Replied (Done true (6 ∷ 0 ∷ []))) ∷ []) (wish_record (6 ∷ 0 ∷ []) ∷ []) None → ⊥ }
+    // a refusal of a wish that could be put
+    ensures refused_wish { Keeps (wished 5 (Refused (BelowLowest 5 10)) ∷ []) [] None → ⊥ }
+    // a wish that was put and doesn't fit into its field
+    ensures wide_wish { Keeps (wished 16 (Replied (Done true (0 ∷ 0 ∷ []))) ∷ []) (wish_record (0 ∷ 0 ∷ []) ∷ []) None → ⊥ }
+    // a refusal of a wish while a command was in flight
+    ensures refused_blocked { KeepsOpen (line_of (of_call (swap 0 (1 ∷ []) 0)) (Replied (TimedOut 3)) 0
+        ∷ line_of (of_wish (desires 16)) (Refused (TooWide 7)) 0 ∷ []) (Some lost_command) (Some (note_at 0 0 3)) → ⊥ }
 {}

@@ -1,13 +1,14 @@
 -- A channel that is called in one thread, and what a call makes of it.
-use Rattle.std.specs.Prelude.{◌≡◌, ◌≤◌, ℕ, ◌+◌, ◌*◌, [], ◌∷◌, ◌++◌, Bool, true, false, List, length, Option, Some, None, Result, Ok, OnOk}
+use Rattle.std.specs.Prelude.{◌≡◌, ◌≤◌, ◌<◌, ℕ, ◌+◌, ◌*◌, max, [], ◌∷◌, ◌++◌, Bool, true, false, List, length, Option, Some, None, Result, Ok, OnOk, IsErrOf, MatchResult}
 use Rattle.pcc_history.specs.Devices.{Device}
 use Rattle.pcc_journal.specs.declared.text.JournalHead.{JournalHead}
-use Rattle.channel_turns.specs.ChannelRuns.{Answered, Call, ChannelStart, ChannelState, InFlight, ScriptClock, after_earlier, answer_call, fresh, post_call}
-use Rattle.channel_turns.specs.Replies.{StillPending}
-use Rattle.channel_turns.specs.EndsStates.{EndsState, start_of}
-use Rattle.channel_turns.specs.Outcomes.{IsPlaced, StandsFor}
+use Rattle.channel_turns.specs.ChannelRuns.{Call, ChannelStart, ChannelState, InFlight, ScriptClock, answer_call, count_in_flight, fresh, journal_limit, polled, post_call}
+use Rattle.channel_turns.specs.EndsStates.{EndsState}
+use Rattle.channel_turns.specs.Outcomes.{StandsFor}
 use Rattle.pcc_io.specs.declared.items.NoMemory.{NoMemory}
 use Rattle.channel_core.specs.Readings.{more_time}
+use Rattle.channel_core.specs.Readying.{ReadyCommand}
+use Rattle.channel_core.specs.Refusals as refusals
 use Rattle.channel_core.specs.Sendings.{is_late}
 use Rattle.channel_core.specs.declared.answers.CallRefusal.{CallRefusal}
 use Rattle.channel_core.specs.declared.answers.CallRefusal.TheVariants as refusal
@@ -30,6 +31,8 @@ pub record Efforts : Type 0 where
   -- the notes beside the records, and that of the command in flight
   pub notes : List Note
   pub note : Option Note
+  -- the records, with their notes, for which the memory is taken
+  pub spare : ℕ
 
 -- what stays of an opened subspace, but for the meaning of its device, and what changes
 pub record OpenChannel : Type 0 where
@@ -54,7 +57,9 @@ note_in (Some c) = Some c.note
 
 abbrev pub efforts_of : EndsSeen → Efforts
 efforts_of e =
-    let s = e.state in record { counts = e.counts; looks = s.looks; budget = s.budget; notes = s.history.notes; note = note_in s.history.sent }
+    let s = e.state in
+    let h = s.history in
+    record { counts = e.counts; looks = s.looks; budget = s.budget; notes = h.notes; note = note_in h.sent; spare = h.spare }
 
 abbrev pub open_channel : EndsSeen → OpenChannel
 open_channel e =
@@ -81,9 +86,6 @@ pub record Noted : Type 0 where
   pub notes : List Note
   pub flight : Option Note
   pub taken : ℕ
-
-abbrev pub noted_in : EndsState → Noted
-noted_in s = record { notes = s.history.notes; flight = note_in s.history.sent; taken = s.taken }
 
 abbrev pub noted_of : OpenChannel → Noted
 noted_of c = record { notes = c.efforts.notes; flight = c.efforts.note; taken = c.now.taken }
@@ -172,6 +174,56 @@ pub record HasWorked (call : Call) (old new : OpenChannel) (o : Outcome) : Type 
       Spent (clear_looks earlier call o) (turns_made earlier call o) (most_steps call (block_of old.wiring)) old.efforts.counts new.efforts.counts
   pub looks : HasLooked call.polls new.efforts o
 
+-- ---- a call is made ready
+
+-- a command of this code with these bytes for a channel
+abbrev pub ready_for : OpenChannel → ℕ → List ℕ → ReadyCommand
+ready_for c code bytes = record { kind = c.head.kind; room = c.head.room; code = code; bytes = bytes }
+
+-- the commands that were posted
+abbrev pub posts_in : ChannelState → ℕ
+posts_in now = length now.records + count_in_flight now.in_flight
+
+-- with the memory of one more record, beside that of a command in flight
+abbrev pub with_memory : OpenChannel → OpenChannel
+with_memory c = record c { efforts = record c.efforts { spare = max c.efforts.spare (count_in_flight c.now.in_flight + 1) } }
+
+-- it is refused and nothing changes, or its memory is taken, or that ran out and nothing changes
+abbrev pub MakesReadyBy : Option CallRefusal → OpenChannel → ReadyCommand → OpenChannel → Result ReadyCommand CallRefusal → Type 0
+MakesReadyBy (Some e) old r new result = IsErrOf result e × (new ≡ old)
+MakesReadyBy None old r new result = MatchResult result (λ made. (made ≡ r) × (new ≡ with_memory old)) (λ e. (e ≡ refusal.NoMemory) × (new ≡ old))
+
+abbrev pub MakesReady : OpenChannel → ReadyCommand → OpenChannel → Result ReadyCommand CallRefusal → Type 0
+MakesReady old r new result = MakesReadyBy (refusals.refusal_of r.kind r.room r.code (length r.bytes) (posts_in old.now)) old r new result
+
+-- the memory of one more record is taken, beside that of a command in flight, and the journal has the place
+pub record HasMemory (c : OpenChannel) : Type 0 where
+  pub taken : count_in_flight c.now.in_flight < c.efforts.spare
+  pub few : length c.now.records + c.efforts.spare ≤ journal_limit
+
+-- ---- the polls for an earlier command
+
+abbrev pub noted_if : Bool → Noted → Noted
+noted_if true n = noted_earlier n.flight n
+noted_if false n = n
+
+-- the polls leave the channel as it is now, but for its efforts, and report whether nothing is in flight; and their notes
+pub record HasPolled (exec : Device) (polls : ℕ) (old new : OpenChannel) (free : Bool) : Type 0 where
+  pub polls_leave : polled (start_by exec old) polls old.now ≡ record { free = free; now = new.now }
+  pub left : new ≡ record old { now = new.now; efforts = new.efforts }
+  pub noted : noted_of new ≡ noted_if free (noted_of old)
+
+abbrev pub SpentByEarlier : Bool → Option InFlight → ℕ → ℕ → Counts → Counts → Type 0
+SpentByEarlier true earlier polls block = Spent (earlier_looks earlier) (earlier_turns earlier) (polls + (block + 6))
+SpentByEarlier false earlier polls block = Spent polls polls polls
+
+-- the looks and the counts of these polls
+pub record WorksEarlier (polls : ℕ) (old new : OpenChannel) (free : Bool) : Type 0 where
+  pub counts : SpentByEarlier free old.now.in_flight polls (block_of old.wiring) old.efforts.counts new.efforts.counts
+  pub looks : free ≡ false → (new.efforts.looks ≡ polls) × (new.efforts.budget ≡ polls)
+
+-- ---- a post, where nothing is in flight
+
 -- what a call without an earlier command ends with: done, timed out, or too soon
 abbrev pub EndsByPost : Outcome → Type 0
 EndsByPost (outcome.Done place) = Unit {0}
@@ -179,59 +231,17 @@ EndsByPost (outcome.TimedOut looks) = Unit {0}
 EndsByPost (outcome.TooSoon now earliest) = Unit {0}
 EndsByPost _ = ⊥
 
--- nothing was in flight
-pub record HasPosted (call : Call) (old new : EndsSeen) (o : Outcome) : Type 0 where
-  pub counts : Spent (own_looks call o) (own_turns call o) (call.polls + 2 * block_of old.state.wiring + 13) old.counts new.counts
-  pub looks : HasLooked call.polls (efforts_of new) o
-  pub ends : EndsByPost o
-
--- what stays
-pub record Stays (old new : EndsState) : Type 0 where
-  pub head : new.head ≡ old.head
-  pub wiring : new.wiring ≡ old.wiring
-  pub clock : new.clock ≡ old.clock
-  pub first : new.first ≡ old.first
-  pub opening : new.opening ≡ old.opening
-
--- ---- the polls for an earlier command
-
--- the answer after them: what follows where nothing is in flight, else that the earlier command is still pending
-abbrev pub answer_if : Bool → ℕ → (ChannelState → Answered) → ChannelState → Answered
-answer_if true polls follows now = follows now
-answer_if false polls follows now = record { reply = StillPending polls; now = now }
-
-abbrev pub noted_if : Bool → Noted → Noted
-noted_if true n = noted_earlier n.flight n
-noted_if false n = n
-
--- whatever follows: a call is answered from what the polls left, by whether nothing is in flight then
-pub record HasAwaited (exec : Device) (polls : ℕ) (old new : EndsState) (free : Bool) : Type 0 where
-  pub answered : (follows : ChannelState → Answered) → let now = now_of old in
-      after_earlier (start_of exec old) polls follows now now.in_flight ≡ answer_if free polls follows (now_of new)
-  pub stays : Stays old new
-  pub noted : noted_in new ≡ noted_if free (noted_in old)
-  pub readings : new.taken ≤ old.taken + 1
-
-abbrev pub SpentByEarlier : Bool → Option InFlight → ℕ → ℕ → Counts → Counts → Type 0
-SpentByEarlier true earlier polls block = Spent (earlier_looks earlier) (earlier_turns earlier) (polls + (block + 6))
-SpentByEarlier false earlier polls block = Spent polls polls polls
-
--- the looks and the counts of these polls, by the words of the block
-pub record WorksEarlier (polls block : ℕ) (old new : EndsSeen) (free : Bool) : Type 0 where
-  pub counts : SpentByEarlier free (now_of old.state).in_flight polls block old.counts new.counts
-  pub looks : free ≡ false → (new.state.looks ≡ polls) × (new.state.budget ≡ polls)
-
--- ---- a post
-
--- nothing was in flight: the call is answered by its post
-pub record IsPosted (exec : Device) (old : EndsState) (call : Call) (new : EndsState) (outcome : Outcome) : Type 0 where
-  pub told : let a = post_call (start_of exec old) call (now_of old) in StandsFor a.now.records outcome a.reply
-  pub left : now_of new ≡ (post_call (start_of exec old) call (now_of old)).now
-  pub stays : Stays old new
-  pub placed : IsPlaced (length new.history.records) outcome
-  pub readings : new.taken ≤ old.taken + 2
-  pub noted : noted_in new ≡ noted_post outcome (noted_in old)
+-- the outcome of the post means its answer, which leaves the channel as it is now, but for its efforts; and the notes of the post
+pub record IsPosted (exec : Device) (old : OpenChannel) (call : Call) (new : OpenChannel) (outcome : Outcome) : Type 0 where
+  pub told : let a = post_call (start_by exec old) call old.now in StandsFor a.now.records outcome a.reply
+  pub left : new ≡ record old { now = (post_call (start_by exec old) call old.now).now; efforts = new.efforts }
+  pub noted : noted_of new ≡ noted_post outcome (noted_of old)
   pub ends : EndsByPost outcome
+
+-- the looks and the counts of a post
+pub record HasPosted (call : Call) (old new : OpenChannel) (o : Outcome) : Type 0 where
+  pub counts : Spent (own_looks call o) (own_turns call o) (call.polls + 2 * block_of old.wiring + 13) old.efforts.counts new.efforts.counts
+  pub looks : HasLooked call.polls new.efforts o
 
 -- what a refusal makes of a call
 abbrev pub IsRefused : CallRefusal → Result Outcome NoMemory → Type 0
@@ -254,7 +264,7 @@ new_channel exec head wiring start step state opening =
       state = state;
       opening = opening;
       now = fresh (record { head = head; clock = clock; device = exec; state = state; opening = opening });
-      efforts = record { counts = nothing_spent; looks = 0; budget = 0; notes = []; note = None };
+      efforts = record { counts = nothing_spent; looks = 0; budget = 0; notes = []; note = None; spare = 0 };
     }
 
 -- the clock is moved up

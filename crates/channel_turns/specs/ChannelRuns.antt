@@ -137,17 +137,31 @@ post_call start call now =
     if nat_lt reading earliest then record { reply = TooSoon reading earliest; now = later }
     else after_post start call (record { caller = call.caller; code = call.code; input = over now.object.space call.bytes; post = reading }) later
 
--- An earlier command is completed first, exactly when the rest of its hold is below the polls: then the call is answered by what follows once nothing
--- is in flight. Else the earlier command is still pending.
-abbrev pub after_earlier : ChannelStart → ℕ → (ChannelState → Answered) → ChannelState → Option InFlight → Answered
-after_earlier start polls follows now None = follows now
-after_earlier start polls follows now (Some p) =
-    if nat_lt p.left polls then follows (completed start p.command true now)
-    else record { reply = StillPending polls; now = record now { in_flight = Some (record p { left = p.left - polls }) } }
+-- what the polls for an earlier command leave: whether nothing is in flight after them, and the channel then
+pub record Polled : Type 0 where
+  pub free : Bool
+  pub now : ChannelState
+
+-- An earlier command is completed exactly when the rest of its hold is below the polls. Else it stays in flight, and the polls are taken off its hold.
+abbrev pub polled_for : ChannelStart → ℕ → ChannelState → Option InFlight → Polled
+polled_for start polls now None = record { free = true; now = now }
+polled_for start polls now (Some p) =
+    if nat_lt p.left polls then record { free = true; now = completed start p.command true now }
+    else record { free = false; now = record now { in_flight = Some (record p { left = p.left - polls }) } }
+
+abbrev pub polled : ChannelStart → ℕ → ChannelState → Polled
+polled start polls now = polled_for start polls now now.in_flight
+
+-- once nothing is in flight, a call is answered by its post; until then the earlier command is still pending
+abbrev pub after_polls : ChannelStart → Call → Polled → Answered
+after_polls start call p =
+    if p.free then post_call start call p.now
+    else record { reply = StillPending call.polls; now = p.now }
 
 abbrev pub answer_unless : ChannelStart → Call → ChannelState → Option Reply → Answered
 answer_unless start call now (Some refusal) = record { reply = refusal; now = now }
-answer_unless start call now None = after_earlier start call.polls (post_call start call) now now.in_flight
+answer_unless start call now None = after_polls start call (polled start call.polls now)
 
+-- what refuses a call comes first, then the polls for an earlier command, and then the post
 abbrev pub answer_call : ChannelStart → Call → ChannelState → Answered
 answer_call start call now = answer_unless start call now (refusal_of start.head call now)

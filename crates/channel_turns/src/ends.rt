@@ -113,7 +113,8 @@ impl<E: Executor> PlainEnds<E> {
 
     /// The space of the last reply, at first the opening space.
     pub fn space(&self) -> &[u8]
-        ensures { result.now ≡ self.now.state.object.space }
+        ensures value { result.now ≡ self.now.state.object.space }
+        ensures long { length result.now ≡ self.now.state.head.room }
     {
         self.link.ask().space()
     }

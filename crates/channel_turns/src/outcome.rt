@@ -1,4 +1,8 @@
 //! What became of a call.
+ghost use Rattle.channel_turns.specs.Calls.{IsRefused};
+
+use channel_core::CallRefusal;
+use pcc_io::NoMemory;
 
 /// What became of a call.
 #[derive(Clone, Copy, Debug, PartialEq, Eq)]
@@ -17,4 +21,21 @@ pub enum Outcome {
     TooSoon { now: u64, earliest: u128 },
     /// Posted, and not complete at any of N looks.
     TimedOut { looks: u32 },
+}
+
+impl Outcome {
+    /// The outcome of a call whose command is refused.
+    pub fn of_refusal(refusal: CallRefusal) -> Result<Outcome, NoMemory>
+        ensures { IsRefused refusal result }
+    {
+        match refusal {
+            CallRefusal::BadCode { code } => Ok(Outcome::BadCode { code }),
+            CallRefusal::TooLong { len, room } => Ok(Outcome::TooLong { len, room }),
+            CallRefusal::JournalFull => Ok(Outcome::JournalFull),
+            CallRefusal::NoMemory => Err(NoMemory),
+            CallRefusal::StillPending { looks } => Ok(Outcome::StillPending { looks }),
+            CallRefusal::TooSoon { now, earliest } => Ok(Outcome::TooSoon { now, earliest }),
+            CallRefusal::TimedOut { looks } => Ok(Outcome::TimedOut { looks }),
+        }
+    }
 }

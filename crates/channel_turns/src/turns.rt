@@ -1,11 +1,12 @@
 //! The calls of one thread that drives both ends of a channel in turn: a turn of the answering end, and then a look of the asking end.
 
-ghost use Rattle.std.specs.Prelude.{◌≡◌, ◌≤◌, ◌<◌, ◌+◌, ◌^◌, true, None, length, IfOk, OnErr};
+ghost use Rattle.std.specs.Prelude.{◌≡◌, ◌≤◌, ◌<◌, ◌+◌, ◌^◌, true, None, length, IfOk, OnErr, OnOk};
 ghost use Rattle.std.specs.Option.{option_copied};
 ghost use Rattle.pcc_steps.specs.Wires.{IsRight, block_of};
 ghost use Rattle.channel_turns.specs.ChannelRuns.{call_by, journal_limit, pending_of};
 ghost use Rattle.channel_core.specs.Sendings.{count_flying};
-ghost use Rattle.channel_turns.specs.Calls.{HasAwaited, HasPosted, HasWorked, IsAnswered, IsLate, IsPosted, IsRefused, WorksEarlier, new_channel, waited};
+ghost use Rattle.channel_turns.specs.Calls.{HasMemory, HasPolled, HasPosted, HasWorked, IsAnswered, IsLate, IsPosted, MakesReady, WorksEarlier};
+ghost use Rattle.channel_turns.specs.Calls.{new_channel, open_channel, ready_for, waited};
 ghost use Rattle.channel_turns.specs.Counts.{SpentByPoll, SpentByPolls};
 ghost use Rattle.channel_turns.specs.EndsStates.{awaited, rings};
 ghost use Rattle.channel_turns.specs.Outcomes.{IsPlaced};
@@ -89,6 +90,14 @@ impl<E: Executor> TurnChannel<E> {
         self.ends.wait(n);
     }
 
+    /// The space of the last reply, at first the opening space.
+    pub fn space(&self) -> &[u8]
+        ensures value { result.now ≡ self.now.now.object.space }
+        ensures long { length result.now ≡ self.now.head.room }
+    {
+        self.ends.space()
+    }
+
     /// Makes a call of a caller: a command of this code, whose input is the space with the bytes laid over its front, with a number of polls
     /// from 1 to 1,000,000, held for some turns of the answering end. It is answered as a line of a run. A command is executed in its call
     /// exactly when its hold is below its polls; the rest of the hold is left for the next call.
@@ -111,14 +120,56 @@ impl<E: Executor> TurnChannel<E> {
         ensures head { self.new.head ≡ self.old.head }
         ensures err { OnErr result (self.new ≡ self.old) }
     {
-        let ready = match self.ends.ready(alloc, code, bytes) {
+        let ready = match self.ready(alloc, code, bytes) {
             Ok(ready) => ready,
-            Err(refusal) => return refused(refusal),
+            Err(refusal) => return Outcome::of_refusal(refusal),
         };
-        self.ends.budget(polls);
-        if !await_earlier(&mut self.ends, polls) {
+        if !self.await_earlier(polls) {
             return Ok(Outcome::StillPending { looks: polls });
         }
+        Ok(self.post(caller, ready, polls, hold))
+    }
+
+    /// The first part of a call: takes all memory of its command, for its input, its reply and its record. A code above 255 on types 0 to 2, more
+    /// bytes than the space has, and a full journal are refused, in this order, and change nothing.
+    pub fn ready(&mut self, alloc: Global, code: u32, bytes: &[u8]) -> Result<Ready, CallRefusal>
+        ensures ready { MakesReady self.old (ready_for self.old code bytes.now) self.new result }
+        ensures memory { OnOk result (HasMemory self.new) }
+    {
+        self.ends.ready(alloc, code, bytes)
+    }
+
+    /// The second part: polls for an earlier command, each poll a turn and a look. Whether nothing is in flight then.
+    pub fn await_earlier(&mut self, polls: u32) -> bool
+        requires memory { HasMemory self.old }
+        requires polls { 0 < polls }
+        requires most { polls ≤ 1000000 }
+        requires early { self.old.now.taken + 1 < 2 ^ 64 }
+        ensures polled { HasPolled E.exec_of polls self.old self.new result }
+        ensures worked { WorksEarlier polls self.old self.new result }
+        ensures free { result ≡ true → self.new.now.in_flight ≡ None }
+        ensures memory { HasMemory self.new }
+        ensures budget { self.new.efforts.budget ≡ polls }
+        ensures readings { self.new.now.taken ≤ self.old.now.taken + 1 }
+    {
+        self.ends.budget(polls);
+        await_earlier(&mut self.ends, polls)
+    }
+
+    /// The last part, where nothing is in flight: posts a command that is made ready, and polls for its reply.
+    pub fn post(&mut self, caller: u32, ready: Ready, polls: u32, hold: u32) -> Outcome
+        requires free { self.old.now.in_flight ≡ None }
+        requires memory { HasMemory self.old }
+        requires kind { ready.kind ≡ self.old.head.kind }
+        requires room { ready.room ≡ self.old.head.room }
+        requires polls { 0 < polls }
+        requires budget { self.old.efforts.budget ≡ polls }
+        requires early { self.old.now.taken + 2 < 2 ^ 64 }
+        ensures posted { IsPosted E.exec_of self.old (call_by caller ready.code ready.bytes polls hold) self.new result }
+        ensures worked { HasPosted (call_by caller ready.code ready.bytes polls hold) self.old self.new result }
+        ensures placed { IsPlaced (length self.new.now.records) result }
+        ensures readings { self.new.now.taken ≤ self.old.now.taken + 2 }
+    {
         post(&mut self.ends, caller, ready, polls, hold)
     }
 }
@@ -131,13 +182,14 @@ fn await_earlier<E: Executor>(ends: &mut PlainEnds<E>, polls: u32) -> bool
     requires looks { ends.old.state.looks ≡ 0 }
     requires budget { ends.old.state.budget ≡ polls }
     requires early { ends.old.state.taken + 1 < 2 ^ 64 }
-    ensures awaited { HasAwaited E.exec_of polls ends.old.state ends.new.state result }
-    ensures worked { WorksEarlier polls (block_of ends.old.state.wiring) ends.old ends.new result }
+    ensures polled { HasPolled E.exec_of polls (open_channel ends.old) (open_channel ends.new) result }
+    ensures worked { WorksEarlier polls (open_channel ends.old) (open_channel ends.new) result }
     ensures free { result ≡ true → ends.new.state.history.sent ≡ None }
     ensures late { IsLate ends.new.state.history.sent ends.new.state.executed }
-    ensures memory { result ≡ true → 0 < ends.new.state.history.spare }
+    ensures memory { count_flying ends.new.state.history.sent < ends.new.state.history.spare }
     ensures few { length ends.new.state.history.records + ends.new.state.history.spare ≤ 4096 }
     ensures budget { ends.new.state.budget ≡ polls }
+    ensures readings { ends.new.state.taken ≤ ends.old.state.taken + 1 }
 {
     if !ends.in_flight() {
         return true;
@@ -152,7 +204,7 @@ fn post<E: Executor>(
     ready: Ready,
     polls: u32,
     hold: u32,
-) -> Result<Outcome, NoMemory>
+) -> Outcome
     requires free { ends.old.state.history.sent ≡ None }
     requires kind { ready.kind ≡ ends.old.state.head.kind }
     requires room { ready.room ≡ ends.old.state.head.room }
@@ -161,25 +213,27 @@ fn post<E: Executor>(
     requires polls { 0 < polls }
     requires budget { ends.old.state.budget ≡ polls }
     requires early { ends.old.state.taken + 2 < 2 ^ 64 }
-    ensures answered { IfOk result (IsPosted E.exec_of ends.old.state (call_by caller ready.code ready.bytes polls hold) ends.new.state) }
-    ensures worked { IfOk result (HasPosted (call_by caller ready.code ready.bytes polls hold) ends.old ends.new) }
+    ensures posted { IsPosted E.exec_of (open_channel ends.old) (call_by caller ready.code ready.bytes polls hold) (open_channel ends.new) result }
+    ensures worked { HasPosted (call_by caller ready.code ready.bytes polls hold) (open_channel ends.old) (open_channel ends.new) result }
     ensures late { IsLate ends.new.state.history.sent ends.new.state.executed }
-    ensures err { OnErr result ⊥ }
+    ensures placed { IsPlaced (length ends.new.state.history.records) result }
+    ensures readings { ends.new.state.taken ≤ ends.old.state.taken + 2 }
 {
     match ends.post(caller, ready) {
-        Err(refusal) => refused(refusal),
         Ok(()) => {
             ends.hold(hold);
             match await_reply(ends, polls) {
-                Some(place) => Ok(Outcome::Done {
+                Some(place) => Outcome::Done {
                     place: place as usize,
-                }),
+                },
                 None => {
                     ends.give_up();
-                    Ok(Outcome::TimedOut { looks: polls })
+                    Outcome::TimedOut { looks: polls }
                 }
             }
         }
+        Err(CallRefusal::TooSoon { now, earliest }) => Outcome::TooSoon { now, earliest },
+        Err(_) => unreachable!(),
     }
 }
 
@@ -212,20 +266,5 @@ fn poll<E: Executor>(ends: &mut PlainEnds<E>) -> Option<u32>
     match ends.look() {
         Look::Drained { place, .. } => Some(place),
         Look::Clear { .. } => None,
-    }
-}
-
-// The outcome of a call whose command is refused.
-fn refused(refusal: CallRefusal) -> Result<Outcome, NoMemory>
-    ensures { IsRefused refusal result }
-{
-    match refusal {
-        CallRefusal::BadCode { code } => Ok(Outcome::BadCode { code }),
-        CallRefusal::TooLong { len, room } => Ok(Outcome::TooLong { len, room }),
-        CallRefusal::JournalFull => Ok(Outcome::JournalFull),
-        CallRefusal::NoMemory => Err(NoMemory),
-        CallRefusal::StillPending { looks } => Ok(Outcome::StillPending { looks }),
-        CallRefusal::TooSoon { now, earliest } => Ok(Outcome::TooSoon { now, earliest }),
-        CallRefusal::TimedOut { looks } => Ok(Outcome::TimedOut { looks }),
     }
 }

@@ -1,7 +1,7 @@
 //! Requests of processor performance, as an operating system makes them (Collaborative Processor Performance Control, ACPI 6.5, 8.4.6).
 #![tactic(auto)]
 
-mod tests_of_wishes;
+mod checks;
 mod wish;
 mod worked;
 

@@ -3,7 +3,14 @@ use Rattle.std.specs.Prelude.{Option, Some, None, false}
 use Rattle.rate_limit.specs.RateLimits.{earliest_of}
 use Rattle.channel_headline.specs.After.{after_events}
 use Rattle.std.proofs.lemmas.Option.{same_Some}
-use Rattle.pcc_journal.specs.Events.{Event, Answered, calls_of, post_count}
+use Rattle.pcc_gas.specs.Changes.{with_changes}
+use Rattle.pcc_gas.specs.Fields.{field_value}
+use Rattle.pcc_history.specs.Channel.{over}
+use Rattle.pcc_journal.specs.Events.{Event, Answered, Lost, calls_of, post_count}
+use Rattle.cppc_device.specs.Worked.{half_bytes}
+use Rattle.cppc_calls.specs.Wishes.{wish_fault, with_wish}
+use Rattle.cppc_calls.specs.declared.wish.SetRefusal.TheVariants.{BelowLowest, TooWide}
+use Rattle.channel_headline.specs.Worked.{desires}
 use Rattle.pcc_journal.proofs.EventsGrow.{post_count-append}
 use Rattle.channel_core.specs.declared.answers.CallRefusal.TheVariants as refusal
 use Rattle.channel_headline.proofs.worked.worked_lies.Goals as goal
@@ -66,6 +73,10 @@ few_posts events past later e = let all : post_count events ≡ post_count past 
 pub returns-clause-not_full : goal.returns-clause-not_full
 returns-clause-not_full c = λ h. let m = h.causes.0.1.moment in let le : post_count m.past ≤ 0 = few_posts [] m.past m.later m.parts in let full : post_count m.past ≡ 4096 = h.causes.0.1.full in omega (arith, le, full)
 
+no_past : (past later : List Event) → [] ≡ past ++ later → past ≡ []
+no_past [] later is = refl
+no_past (x ∷ past) later is = absurd cc
+
 -- what begins a list of one event is nothing or all of it
 one_past : (e : Event) (past later : List Event) → e ∷ [] ≡ past ++ later → (past ≡ []) ⊎ (past ≡ e ∷ [])
 one_past e [] later is = inl refl
@@ -77,6 +88,9 @@ abbrev first_event : Event
 first_event =
     Answered (record { caller = 0; code = 16; input = 1 ∷ 2 ∷ []; post = 0; post_number = 0 })
     (record { error = false; output = 0 ∷ 0 ∷ []; done = 10; done_number = 1 })
+
+abbrev lost_event : Event
+lost_event = Lost (record { caller = 0; code = 16; input = 1 ∷ 0 ∷ []; post = 0; post_number = 0 }) 3
 
 pub returns-clause-not_blocked : goal.returns-clause-not_blocked
 returns-clause-not_blocked c = λ h.
@@ -125,3 +139,46 @@ returns-clause-two_open c = λ h. h.ended.0
 
 pub returns-clause-invented_post : goal.returns-clause-invented_post
 returns-clause-invented_post c = λ h. apart 0 5 (omega arith) (same_Some 0 5 h.read.0.0)
+
+-- ---- wishes
+
+abbrev put_five : List ℕ
+put_five = with_wish (half_bytes 0) (desires 5).wish (0 ∷ 0 ∷ [])
+
+five : put_five ≡ 5 ∷ 0 ∷ []
+unfolding with_wish with_changes field_value
+five = refl
+
+can_put : wish_fault (half_bytes 0) (0 ∷ 0 ∷ []) (desires 5).wish ≡ None
+unfolding field_value
+can_put = refl
+
+too_wide : wish_fault (half_bytes 0) (0 ∷ 0 ∷ []) (desires 16).wish ≡ Some (TooWide 7)
+unfolding field_value
+too_wide = refl
+
+pub returns-clause-other_wish : goal.returns-clause-other_wish
+returns-clause-other_wish c = λ h.
+    let input : 6 ∷ 0 ∷ [] ≡ over (0 ∷ 0 ∷ []) put_five = (h.tied.own 0).0.0.2 in
+    apart_below 6 5 (omega arith) (ap (λ (v : List ℕ). slice_index_or v 0 0) (input ∙ ap (over (0 ∷ 0 ∷ [])) five))
+
+pub returns-clause-refused_wish : goal.returns-clause-refused_wish
+returns-clause-refused_wish c = λ h.
+    let u = h.causes.0.1 in
+    let m = u.moment in
+    let Fault : List Event → Type 0 = λ v. wish_fault (half_bytes 0) (after_events (0 ∷ 0 ∷ []) v).space (desires 5).wish ≡ Some (BelowLowest 5 10) in
+    something (BelowLowest 5 10) (sym can_put ∙ subst Fault (no_past m.past m.later m.parts) u.fault)
+
+pub returns-clause-wide_wish : goal.returns-clause-wide_wish
+returns-clause-wide_wish c = λ h. something (TooWide 7) (sym (h.tied.own 0).0.0.3 ∙ too_wide)
+
+pub returns-clause-refused_blocked : goal.returns-clause-refused_blocked
+returns-clause-refused_blocked c = λ h.
+    let u = h.causes.1.0.1 in
+    let m = u.moment in
+    let Own : List Event → Type 0 = λ v. length (calls_of v 0) ≡ 1 in
+    let Quiet : List Event → Type 0 = λ v. (after_events (0 ∷ 0 ∷ []) v).flight ≡ None in
+    elim (one_past lost_event m.past m.later m.parts) [
+      | inl none ↦ apart 0 1 (omega arith) (subst Own none m.own)
+      | inr one ↦ something 0 (sym (subst Quiet one u.quiet))
+    ]

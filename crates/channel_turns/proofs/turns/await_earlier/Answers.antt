@@ -1,23 +1,23 @@
 use Rattle.std.proofs.Common.{rules, ◌≡◌, true, Bool, sym, subst, ◌∙◌}
-use Rattle.pcc_steps.specs.Wires.{block_of}
+use Rattle.std.specs.Option.{is_some}
 use Rattle.channel_core.specs.Sendings.{is_flying}
 use Rattle.channel_turns.specs.Seeing.{EndsSeen}
-use Rattle.channel_turns.specs.Calls.{HasAwaited, WorksEarlier}
-use Rattle.channel_turns.proofs.Calls.{polls_awaited, polls_left}
+use Rattle.channel_turns.specs.Calls.{HasPolled, WorksEarlier, open_channel}
+use Rattle.channel_turns.proofs.Calls.{polled_by, polls_awaited, polls_left}
 use Rattle.channel_turns.proofs.Working.{polls_spend}
 use Rattle.channel_turns.proofs.turns.await_earlier.Goals as goal
 
-pub returns-clause-awaited : goal.returns-clause-awaited
-returns-clause-awaited g c = let exec = g.E.Executor.exec_of in let s : EndsSeen = c.args.ends.now in let t : EndsSeen = c.await_reply.new.ends in let place = c.await_reply.result in let q = c.requires in
+pub returns-clause-polled : goal.returns-clause-polled
+returns-clause-polled g c = let exec = g.E.Executor.exec_of in let s : EndsSeen = c.args.ends.now in let t : EndsSeen = c.await_reply.new.ends in let place = c.await_reply.result in let q = c.requires in
     let flies : is_flying s.state.history.sent ≡ true = search rules in
-    subst (λ (b : Bool). HasAwaited exec c.args.polls s.state t.state b) (sym c.is_some.ensures)
-    (polls_awaited exec c.args.polls s.state t.state place q.late flies q.early c.await_reply.ensures.state)
+    subst (λ (b : Bool). HasPolled exec c.args.polls (open_channel s) (open_channel t) b) (sym c.is_some.ensures)
+    (polled_by exec c.args.polls s t (is_some place) (polls_awaited exec c.args.polls s.state t.state place q.late flies q.early c.await_reply.ensures.state))
 
 pub returns-clause-worked : goal.returns-clause-worked
 returns-clause-worked g c = let exec = g.E.Executor.exec_of in let s : EndsSeen = c.args.ends.now in let t : EndsSeen = c.await_reply.new.ends in let place = c.await_reply.result in let q = c.requires in
     let flies : is_flying s.state.history.sent ≡ true = search rules in
-    subst (λ (b : Bool). WorksEarlier c.args.polls (block_of s.state.wiring) s t b) (sym c.is_some.ensures)
-    (polls_spend exec c.args.polls (block_of s.state.wiring) s t place flies q.looks q.budget c.await_reply.ensures.state c.await_reply.ensures.counts)
+    subst (λ (b : Bool). WorksEarlier c.args.polls (open_channel s) (open_channel t) b) (sym c.is_some.ensures)
+    (polls_spend exec c.args.polls s t place flies q.looks q.budget c.await_reply.ensures.state c.await_reply.ensures.counts)
 
 pub returns-clause-free : goal.returns-clause-free
 returns-clause-free g c = let exec = g.E.Executor.exec_of in let s : EndsSeen = c.args.ends.now in let t : EndsSeen = c.await_reply.new.ends in let place = c.await_reply.result in let q = c.requires in
@@ -32,7 +32,7 @@ returns-clause-late g c = let exec = g.E.Executor.exec_of in let s : EndsSeen = 
 pub returns-clause-memory : goal.returns-clause-memory
 returns-clause-memory g c = let exec = g.E.Executor.exec_of in let s : EndsSeen = c.args.ends.now in let t : EndsSeen = c.await_reply.new.ends in let place = c.await_reply.result in let q = c.requires in
     let flies : is_flying s.state.history.sent ≡ true = search rules in
-    let k = polls_left exec c.args.polls s.state t.state place q.late flies q.memory q.few c.await_reply.ensures.state in λ e. k.memory (sym c.is_some.ensures ∙ e)
+    let k = polls_left exec c.args.polls s.state t.state place q.late flies q.memory q.few c.await_reply.ensures.state in k.memory
 
 pub returns-clause-few : goal.returns-clause-few
 returns-clause-few g c = let exec = g.E.Executor.exec_of in let s : EndsSeen = c.args.ends.now in let t : EndsSeen = c.await_reply.new.ends in let place = c.await_reply.result in let q = c.requires in
@@ -43,3 +43,8 @@ pub returns-clause-budget : goal.returns-clause-budget
 returns-clause-budget g c = let exec = g.E.Executor.exec_of in let s : EndsSeen = c.args.ends.now in let t : EndsSeen = c.await_reply.new.ends in let place = c.await_reply.result in let q = c.requires in
     let flies : is_flying s.state.history.sent ≡ true = search rules in
     let k = polls_left exec c.args.polls s.state t.state place q.late flies q.memory q.few c.await_reply.ensures.state in k.budget ∙ q.budget
+
+pub returns-clause-readings : goal.returns-clause-readings
+returns-clause-readings g c = let exec = g.E.Executor.exec_of in let s : EndsSeen = c.args.ends.now in let t : EndsSeen = c.await_reply.new.ends in let place = c.await_reply.result in let q = c.requires in
+    let flies : is_flying s.state.history.sent ≡ true = search rules in
+    (polls_awaited exec c.args.polls s.state t.state place q.late flies q.early c.await_reply.ensures.state).readings

@@ -4,7 +4,7 @@ pub returns-in-Signature : goal.returns-in-Signature
 returns-in-Signature c = rw c.in-Signature.is c.put_pieces.ensures
 
 pub returns-in-Revision : goal.returns-in-Revision
-returns-in-Revision c = rw (c.in-Revision.is, ← c.from.ensures) c.put_word_number-in-Revision.ensures
+returns-in-Revision c = rw c.in-Revision.is c.put_numbered-in-Revision.ensures
 
 pub returns-in-Checksum : goal.returns-in-Checksum
-returns-in-Checksum c = rw (c.in-Checksum.is, ← c.from-in-Checksum.ensures) c.put_word_number-in-Checksum.ensures
+returns-in-Checksum c = rw c.in-Checksum.is c.put_numbered-in-Checksum.ensures
