@@ -6,3 +6,6 @@ mod ChannelLists
 pub mod OpenedScripts
 mod Counting
 mod MadeUp
+mod Values
+mod Told
+mod Wishes

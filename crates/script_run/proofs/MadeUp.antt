@@ -23,7 +23,7 @@ use Rattle.pcct_table.specs.declared.subspace.Subspace.{Subspace}
 use Rattle.channel_turns.specs.ChannelRuns.{Channel, count_in_flight}
 use Rattle.script_run.specs.DeviceChannels.{channel_of, channels_by}
 use Rattle.script_run.specs.declared.channel.DeviceChannel.{DeviceChannel}
-use Rattle.script_run.specs.ScriptRuns.{clock_of, run_of, set_up_of}
+use Rattle.script_run.specs.ScriptRuns.{asks_of, clock_of, run_of, set_up_of}
 use Rattle.script_run.specs.Built.{is_built, is_built_line}
 use Rattle.script_run.specs.StepRun.{Run, step_run}
 use Rattle.script_run.specs.Summaries.{IsSummary, count_pending, counts_of, records_of, summary_pieces, summary_text}
@@ -37,27 +37,27 @@ if_ok_more (Ok x) P Q f h = f x h
 if_ok_more (Err e) P Q f h = tt
 
 -- it leaves one channel
-pub some_channel : (s : Scenario) (os : List Opened) (cs after : List Channel) → Opens s os → length os ≡ 1 → ((h : Opens s os) → cs ≡ set_up_of s h.table) → (step_run s.actions cs).channels ≡ after → length after ≡ 1
+pub some_channel : (s : Scenario) (os : List Opened) (cs after : List Channel) → Opens s os → length os ≡ 1 → ((h : Opens s os) → cs ≡ set_up_of s h.table) → (step_run (asks_of s) cs).channels ≡ after → length after ≡ 1
 some_channel s os cs after h alone opened left =
-    ap length (sym left) ∙ run_length s.actions cs ∙ ap length (opened h ∙ set_up_opened s h.table ∙ ap (map (opened_channel (clock_of s))) (sym h.list_is)) ∙ length-map os (opened_channel (clock_of s)) ∙ alone
+    ap length (sym left) ∙ run_length (asks_of s) cs ∙ ap length (opened h ∙ set_up_opened s h.table ∙ ap (map (opened_channel (clock_of s))) (sym h.list_is)) ∙ length-map os (opened_channel (clock_of s)) ∙ alone
 
-pub some_device : (s : Scenario) (os : List Opened) (cs : List Channel) (after : List DeviceChannel) → Opens s os → length os ≡ 1 → ((h : Opens s os) → cs ≡ set_up_of s h.table) → (step_run s.actions cs).channels ≡ channels_by after → length after ≡ 1
+pub some_device : (s : Scenario) (os : List Opened) (cs : List Channel) (after : List DeviceChannel) → Opens s os → length os ≡ 1 → ((h : Opens s os) → cs ≡ set_up_of s h.table) → (step_run (asks_of s) cs).channels ≡ channels_by after → length after ≡ 1
 some_device s os cs after h alone opened left = sym (length-map after channel_of) ∙ some_channel s os cs (channels_by after) h alone opened left
 
 -- the summary of the one channel of a run
 pub summary_is : (s : Scenario) (os : List Opened) (cs : List Channel) (after : List DeviceChannel) (d : DeviceChannel) (counts : Counts) (n : ℕ) (text : List ℕ) → length os ≡ 1 → ((h : Opens s os) → cs ≡ set_up_of s h.table) → n ≡ length s.actions
-    → counts ≡ counts_of (step_run s.actions cs).replies → (step_run s.actions cs).channels ≡ channels_by after → d ≡ get_or after 0 d
+    → counts ≡ counts_of (step_run (asks_of s) cs).replies → (step_run (asks_of s) cs).channels ≡ channels_by after → d ≡ get_or after 0 d
     → text ≡ spelled (summary_pieces n counts (channel_of d).now.records (count_in_flight (channel_of d).now.in_flight)) → (h : Opens s os) → text ≡ summary_text (length s.actions) (run_of s h.table)
 unfolding summary_text
 summary_is s os cs after d counts n text alone opened calls are left first e h =
     let c : Channel = channel_of d in
-    let r : Run = step_run s.actions cs in
+    let r : Run = step_run (asks_of s) cs in
     let one : after ≡ d ∷ [] = only after (some_device s os cs after h alone opened left) first in
     let is : r.channels ≡ c ∷ [] = left ∙ ap channels_by one in
     let records : c.now.records ≡ records_of r.channels = sym (append-nil c.now.records) ∙ ap records_of (sym is) in
     let alone_is : count_in_flight c.now.in_flight ≡ count_pending (c ∷ []) = omega arith in
     let pending : count_in_flight c.now.in_flight ≡ count_pending r.channels = alone_is ∙ ap count_pending (sym is) in
-    e ∙ (λ k. spelled (summary_pieces (calls k) (are k) (records k) (pending k))) ∙ ap (λ (v : List Channel). summary_text (length s.actions) (step_run s.actions v)) (opened h)
+    e ∙ (λ k. spelled (summary_pieces (calls k) (are k) (records k) (pending k))) ∙ ap (λ (v : List Channel). summary_text (length s.actions) (step_run (asks_of s) v)) (opened h)
   where
     only : (xs : List DeviceChannel) → length xs ≡ 1 → d ≡ get_or xs 0 d → xs ≡ d ∷ []
     only [] l f = absurd (omega (arith, l))

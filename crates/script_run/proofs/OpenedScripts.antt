@@ -20,12 +20,12 @@ use Rattle.pcc_wiring.specs.declared.fault.Asks.{Asks}
 use Rattle.pcc_wiring.specs.declared.fault.WiringFault.{WiringFault}
 use Rattle.pcc_wiring.specs.Faults.{fault_of}
 use Rattle.pcc_wiring.specs.Wirings.{wiring_with}
-use Rattle.channel_turns.specs.ChannelRuns.{Channel}
+use Rattle.channel_turns.specs.ChannelRuns.{Call, Channel, ChannelStart, call_by}
 use Rattle.script_run.specs.Built.{is_built, is_built_line}
-use Rattle.script_run.specs.Channels.{AreDistinct, CanRun, IsEarly, IsOnOneOf, IsWired, ids_of}
+use Rattle.script_run.specs.Channels.{AreDistinct, CanAsk, CanRun, IsEarly, IsWired, Suits, ids_of, is_on, starts_of}
 use Rattle.script_run.specs.ReplyText.{replies_text}
-use Rattle.script_run.specs.ScriptRuns.{IsStepText, channel_journal, clock_of, run_text, set_up_of, step_text}
-use Rattle.script_run.specs.StepRun.{step_run}
+use Rattle.script_run.specs.ScriptRuns.{IsStepText, asks_of, channel_journal, clock_of, run_text, set_up_of, step_text}
+use Rattle.script_run.specs.StepRun.{OfCall, ask_of, step_run}
 use Rattle.script_run.proofs.Several.{open_rest, opened_channel, opens_apart, set_up_headlines, set_up_ids, set_up_opened}
 
 -- ---- the channels of a script
@@ -55,11 +55,22 @@ bank_of : (b : Bool) → cond b None (Some NotBank) ≡ None → b ≡ true
 bank_of true e = refl
 bank_of false e = absurd cc
 
-named : (s : Scenario) (l : Line) → action_fault s l ≡ None → IsOnOneOf (map (λ o. o.id) s.opens) l
-named s (line.Call worker subspace code bytes polls hold) h = bank_among subspace s.opens (bank_of (opens_bank subspace s.opens) h)
-named s (line.Read worker cpu polls hold) h = tt
-named s (line.Set worker wish polls hold) h = tt
-named s (line.Wait n) h = tt
+-- among the starts as among the IDs
+on_as_ids : (id : ℕ) (cs : List Channel) → is_on id (starts_of cs) ≡ list_any (λ x. x == id) (ids_of cs)
+on_as_ids id [] = refl
+on_as_ids id (c ∷ cs) = ap (λ (b : Bool). (c.start.head.id == id) || b) (on_as_ids id cs)
+
+-- a call asks nothing of a processor
+calls_suit : (id : ℕ) (call : Call) (starts : List ChannelStart) → AllByRecursion (λ s. s.head.id ≡ id → Suits s.head.room (OfCall call)) starts
+calls_suit id call [] = tt
+calls_suit id call (s ∷ ss) = (λ e. tt, calls_suit id call ss)
+
+named : (s : Scenario) (cs : List Channel) (l : Line) → ids_of cs ≡ map (λ o. o.id) s.opens → is_built_line l ≡ true → action_fault s l ≡ None → CanAsk (starts_of cs) (ask_of [] l)
+named s cs (line.Call worker subspace code bytes polls hold) ids b h =
+    (on_as_ids subspace cs ∙ ap (list_any (λ x. x == subspace)) ids ∙ bank_among subspace s.opens (bank_of (opens_bank subspace s.opens) h), calls_suit subspace (call_by worker code bytes polls hold) (starts_of cs))
+named s cs (line.Read worker cpu polls hold) ids b h = absurd (cc b)
+named s cs (line.Set worker wish polls hold) ids b h = absurd (cc b)
+named s cs (line.Wait n) ids b h = tt
 
 each_line : (P : Line → Type 0) (ls : List Line) → ((i : ℕ) (l : Line) → i < length ls → slice_get ls i ≡ Some l → P l) → AllByRecursion P ls
 each_line P [] h = tt
@@ -84,29 +95,30 @@ both_of false b e = absurd cc
 pub built_lines : (s : Scenario) → is_built s ≡ true → list_all is_built_line s.actions ≡ true
 built_lines s h = both_of (opens_banks s) (list_all is_built_line s.actions) h
 
-can_run : (ids : List ℕ) (ls : List Line) → AllByRecursion IsAction ls → list_all is_built_line ls ≡ true → AllByRecursion (IsOnOneOf ids) ls → AllByRecursion (CanRun ids) ls
-can_run ids [] within built on = tt
-can_run ids (l ∷ ls) within built on =
-    (record { within = within.0; built = left_of (is_built_line l) (list_all is_built_line ls) built; named = on.0 }, can_run ids ls within.1 (both_of (is_built_line l) (list_all is_built_line ls) built) on.1)
+can_run : (s : Scenario) (cs : List Channel) (ls : List Line) → ids_of cs ≡ map (λ o. o.id) s.opens → AllByRecursion IsAction ls → list_all is_built_line ls ≡ true → AllByRecursion (λ l. action_fault s l ≡ None) ls
+    → AllByRecursion (CanRun [] (starts_of cs)) ls
+can_run s cs [] ids within built right = tt
+can_run s cs (l ∷ ls) ids within built right =
+    let here : is_built_line l ≡ true = left_of (is_built_line l) (list_all is_built_line ls) built in
+    (record { within = within.0; asks = named s cs l ids here right.0 }, can_run s cs ls ids within.1 (both_of (is_built_line l) (list_all is_built_line ls) built) right.1)
 
 -- the channels of a script can run its lines
-pub lines_run : (s : Scenario) (os : List Opened) (cs : List Channel) → IsWithin s → is_built s ≡ true → (h : Opens s os) → ((k : Opens s os) → cs ≡ set_up_of s k.table) → AllByRecursion (CanRun (ids_of cs)) s.actions
+pub lines_run : (s : Scenario) (os : List Opened) (cs : List Channel) → IsWithin s → is_built s ≡ true → (h : Opens s os) → ((k : Opens s os) → cs ≡ set_up_of s k.table) → AllByRecursion (CanRun [] (starts_of cs)) s.actions
 lines_run s os cs within built h e =
-    let on : AllByRecursion (IsOnOneOf (map (λ o. o.id) s.opens)) s.actions = each_line (IsOnOneOf (map (λ o. o.id) s.opens)) s.actions (λ i l lt at. named s l (h.checked.named i l lt at)) in
-    subst (λ (ids : List ℕ). AllByRecursion (CanRun ids) s.actions) (sym (ids_are s os cs h (e h))) (can_run (map (λ o. o.id) s.opens) s.actions within.actions (built_lines s built) on)
+    can_run s cs s.actions (ids_are s os cs h (e h)) within.actions (built_lines s built) (each_line (λ (l : Line). action_fault s l ≡ None) s.actions h.checked.named)
 
 -- what `step` prints for it
 pub text_is : (s : Scenario) (os : List Opened) (cs after : List Channel) (none put text : List ℕ) (first : ℕ) → ((k : Opens s os) → cs ≡ set_up_of s k.table) → first ≡ first_action s → none ≡ []
-    → put ≡ none ++ replies_text first (step_run s.actions cs).replies → (step_run s.actions cs).channels ≡ after
+    → put ≡ none ++ replies_text first (step_run (asks_of s) cs).replies → (step_run (asks_of s) cs).channels ≡ after
     → text ≡ put ++ flat_map channel_journal after → (h : Opens s os) → IsStepText s h.table text
 unfolding step_text
 text_is s os cs after none put text first opened line empty replies left e h =
-    let P : List Channel → Type 0 = λ v. text ≡ run_text first (step_run s.actions v) in
-    let whole : text ≡ run_text first (step_run s.actions cs) =
-    e ∙ ap (λ (v : List ℕ). v ++ flat_map channel_journal after) (replies ∙ ap (λ (v : List ℕ). v ++ replies_text first (step_run s.actions cs).replies) empty)
-    ∙ ap (λ (v : List Channel). replies_text first (step_run s.actions cs).replies ++ flat_map channel_journal v) (sym left) in
+    let P : List Channel → Type 0 = λ v. text ≡ run_text first (step_run (asks_of s) v) in
+    let whole : text ≡ run_text first (step_run (asks_of s) cs) =
+    e ∙ ap (λ (v : List ℕ). v ++ flat_map channel_journal after) (replies ∙ ap (λ (v : List ℕ). v ++ replies_text first (step_run (asks_of s) cs).replies) empty)
+    ∙ ap (λ (v : List Channel). replies_text first (step_run (asks_of s) cs).replies ++ flat_map channel_journal v) (sym left) in
     record {
-      text_is = subst P (opened h) whole ∙ ap (λ (n : ℕ). run_text n (step_run s.actions (set_up_of s h.table))) line;
+      text_is = subst P (opened h) whole ∙ ap (λ (n : ℕ). run_text n (step_run (asks_of s) (set_up_of s h.table))) line;
       headline = set_up_headlines s h.table h.checked.all_open;
     }
 

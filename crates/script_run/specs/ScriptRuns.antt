@@ -11,7 +11,7 @@ use Rattle.channel_turns.specs.ChannelRuns.{Channel, ScriptClock, pending_of}
 use Rattle.script_run.specs.Channels.{bank_start, fresh_channel}
 use Rattle.script_run.specs.Headlines.{AreHeadlines}
 use Rattle.script_run.specs.ReplyText.{replies_text}
-use Rattle.script_run.specs.StepRun.{Run, step_run}
+use Rattle.script_run.specs.StepRun.{LineAsk, Run, asks_by, step_run}
 
 -- ---- the opened subspaces
 
@@ -29,8 +29,12 @@ set_up_of s t = flat_map (λ o. channels_of (clock_of s) o.id (slice_get t.subsp
 
 -- ---- the text of `step`
 
+-- what the lines of a script ask: no line that is built so far names a processor
+abbrev pub asks_of : Scenario → List LineAsk
+asks_of s = asks_by [] s.actions
+
 abbrev pub run_of : Scenario → Table → Run
-run_of s t = step_run s.actions (set_up_of s t)
+run_of s t = step_run (asks_of s) (set_up_of s t)
 
 abbrev pub channel_journal : Channel → List ℕ
 channel_journal c = journal_text c.start.head c.now.records (pending_of c.now.in_flight)
@@ -45,4 +49,4 @@ step_text s t = run_text (first_action s) (run_of s t)
 -- the text is what `step` prints for a script with this table, and the journals of its run keep the headline
 pub record IsStepText (s : Scenario) (t : Table) (text : List ℕ) : Type 0 where
   pub text_is : text ≡ step_text s t
-  pub headline : AreHeadlines s.actions (run_of s t)
+  pub headline : AreHeadlines (asks_of s) (run_of s t)

@@ -2,6 +2,7 @@
 //! or a script is made up, and a summary of its run is printed.
 #![tactic(auto)]
 
+mod asks;
 mod built;
 mod channel;
 mod channels;
@@ -17,4 +18,4 @@ pub use built::is_built;
 pub use laws::run_laws;
 pub use make::made_summary;
 pub use step::run_text;
-pub use worked::worked_runs;
+pub use worked::{worked_runs, worked_wishes};

@@ -1,5 +1,5 @@
 //! The summary of `make N`: a made-up script of `N` calls is run as `step` runs one, and its replies and records are counted.
-ghost use Rattle.std.specs.Prelude.{◌≡◌, ◌≤◌, ◌<◌, ◌++◌, ◌*◌, ◌^◌, ℕ, true, length, map, sum, IfOk, OnOk};
+ghost use Rattle.std.specs.Prelude.{◌≡◌, ◌≤◌, ◌<◌, ◌++◌, ◌*◌, ◌^◌, [], ℕ, true, length, map, sum, IfOk, OnOk};
 ghost use Rattle.pcc_script.specs.declared.limits.TheConstants.{MAX_ACTIONS};
 ghost use Rattle.std.specs.List.{AllByRecursion};
 ghost use Rattle.channel_turns.specs.ChannelRuns.{count_in_flight, journal_limit};
@@ -8,10 +8,10 @@ ghost use Rattle.pcc_script.specs.declared.limits.TheConstants.{MAX_MADE_CALLS};
 ghost use Rattle.pcc_setup.specs.SetUps.{Opens};
 ghost use Rattle.pcc_text.specs.Pieces.{spelled};
 ghost use Rattle.script_run.specs.Built.{is_built};
-ghost use Rattle.script_run.specs.Channels.{CanRun, IsEarly, ids_of};
+ghost use Rattle.script_run.specs.Channels.{CanRun, IsEarly, starts_of};
 ghost use Rattle.script_run.specs.DeviceChannels.{channel_of, channels_by};
 ghost use Rattle.script_run.specs.ScriptRuns.{run_of};
-ghost use Rattle.script_run.specs.StepRun.{step_run};
+ghost use Rattle.script_run.specs.StepRun.{asks_by, step_run};
 ghost use Rattle.script_run.specs.Summaries.{IsSummary, counts_of, output_sum, summary_pieces, summary_text};
 
 use crate::channel::DeviceChannel;
@@ -26,21 +26,21 @@ use pcct_codec::worked_tables;
 use std::alloc::Global;
 
 // Runs lines, and counts their replies.
-#[tactic(auto, using(crate::proofs::Counting::counting_start, crate::proofs::Counting::counting_end, crate::proofs::ChannelLists::can_still, crate::proofs::ChannelLists::early_still))]
+#[tactic(auto, using(crate::proofs::Counting::counting_start, crate::proofs::Counting::counting_lines_end, crate::proofs::ChannelLists::can_still, crate::proofs::ChannelLists::early_still))]
 fn count_lines(
     alloc: Global,
     channels: &mut OpenedChannels,
     actions: &Actions,
 ) -> Result<Counts, NoMemory>
-    requires lines { AllByRecursion (CanRun (ids_of (channels_by channels.old))) actions.now }
+    requires lines { AllByRecursion (CanRun [] (starts_of (channels_by channels.old))) actions.now }
     requires few { length actions.now ≤ MAX_ACTIONS }
     requires early { AllByRecursion (IsEarly 0) (channels_by channels.old) }
-    ensures counts { IfOk result (λ counts. counts ≡ counts_of (step_run actions.now (channels_by channels.old)).replies) }
-    ensures channels { OnOk result ((step_run actions.now (channels_by channels.old)).channels ≡ channels_by channels.new) }
+    ensures counts { IfOk result (λ counts. counts ≡ counts_of (step_run (asks_by [] actions.now) (channels_by channels.old)).replies) }
+    ensures channels { OnOk result ((step_run (asks_by [] actions.now) (channels_by channels.old)).channels ≡ channels_by channels.new) }
 {
     let mut counts = Counts::new();
     for i in 0..actions.len() {
-        let outcome = channels.run(alloc, actions.at(i))?;
+        let outcome = channels.run(alloc, &[], actions.at(i))?;
         counts.count(channels.as_slice(), outcome);
     }
     Ok(counts)

@@ -5,15 +5,16 @@ ghost use Rattle.std.specs.List.{AllByRecursion, flat_map};
 ghost use Rattle.pcc_script.specs.Limits.{IsWithin};
 ghost use Rattle.pcc_setup.specs.SetUps.{Opens};
 ghost use Rattle.script_run.specs.Built.{is_built};
-ghost use Rattle.script_run.specs.Channels.{CanRun, IsEarly, ids_of};
+ghost use Rattle.script_run.specs.Channels.{CanRun, IsEarly, starts_of};
 ghost use Rattle.script_run.specs.DeviceChannels.{channels_by};
 ghost use Rattle.script_run.specs.ReplyText.{replies_text};
 ghost use Rattle.script_run.specs.ScriptRuns.{IsStepText, channel_journal};
-ghost use Rattle.script_run.specs.StepRun.{step_run, turn_of};
+ghost use Rattle.script_run.specs.StepRun.{ask_of, asks_by, step_run, turn_of};
 
 use crate::channel::DeviceChannel;
 use crate::channels::OpenedChannels;
 use crate::reply::put_outcome;
+use cpc_package::Binding;
 use pcc_io::NoMemory;
 use pcc_journal::put_journal;
 use pcc_script::{Actions, Scenario};
@@ -21,23 +22,25 @@ use pcc_setup::{OpenedList, first_action};
 use std::alloc::Global;
 
 // Runs lines from a number on, and puts their replies at the end.
-#[tactic(auto, using(crate::proofs::Steps::putting_start, crate::proofs::Steps::putting_more, crate::proofs::Steps::putting_end, crate::proofs::ChannelLists::can_still, crate::proofs::ChannelLists::early_still))]
+#[tactic(auto, using(crate::proofs::Steps::putting_start, crate::proofs::Steps::putting_more, crate::proofs::Steps::putting_lines_end, crate::proofs::ChannelLists::can_still, crate::proofs::ChannelLists::early_still))]
 fn run_lines(
     alloc: Global,
     out: &mut Vec<u8>,
     channels: &mut OpenedChannels,
+    cpus: &[Binding],
     first: u64,
     actions: &Actions,
 ) -> Result<(), NoMemory>
-    requires lines { AllByRecursion (CanRun (ids_of (channels_by channels.old))) actions.now }
+    requires lines { AllByRecursion (CanRun cpus.now (starts_of (channels_by channels.old))) actions.now }
     requires few { length actions.now ≤ MAX_ACTIONS }
     requires low { first < 2 ^ 63 }
     requires early { AllByRecursion (IsEarly 0) (channels_by channels.old) }
-    ensures replies { OnOk result (out.new.items ≡ out.old.items ++ replies_text first (step_run actions.now (channels_by channels.old)).replies) }
-    ensures channels { OnOk result ((step_run actions.now (channels_by channels.old)).channels ≡ channels_by channels.new) }
+    ensures replies { OnOk result (out.new.items
+        ≡ out.old.items ++ replies_text first (step_run (asks_by cpus.now actions.now) (channels_by channels.old)).replies) }
+    ensures channels { OnOk result ((step_run (asks_by cpus.now actions.now) (channels_by channels.old)).channels ≡ channels_by channels.new) }
 {
     for i in 0..actions.len() {
-        let outcome = channels.run(alloc, actions.at(i))?;
+        let outcome = channels.run(alloc, cpus, actions.at(i))?;
         put_outcome(out, first + i as u64, channels.as_slice(), outcome)?;
     }
     Ok(())
@@ -68,7 +71,14 @@ pub fn run_text(
     let mut out = Vec::new(alloc);
     let mut channels = OpenedChannels::open(alloc, scenario, opened)?;
     let first = first_action(scenario);
-    run_lines(alloc, &mut out, &mut channels, first, &scenario.actions)?;
+    run_lines(
+        alloc,
+        &mut out,
+        &mut channels,
+        &[],
+        first,
+        &scenario.actions,
+    )?;
     put_journals(&mut out, channels.as_slice())?;
     Ok(out)
 }
