@@ -16,6 +16,3 @@ pub use item::{Buffer, Element, Form, Int, Item, Items, Len};
 pub use reading::{item_from, item_laws, read_item};
 pub use worked::{worked_faults, worked_items};
 pub use writing::item_to;
-
-#[cfg(test)]
-mod tests;

@@ -19,6 +19,3 @@ pub use ready::{Ready, make_ready};
 pub use refusals::{GREATEST_CODE, refusal, too_soon};
 pub use sent::{Flight, Sent};
 pub use worked::worked_refusals;
-
-#[cfg(test)]
-mod tests;

@@ -17,6 +17,3 @@ pub use text::trace_lines;
 pub use trace::{Asked, Side, Trace, TraceEnd, TraceLine};
 pub use weaving::{weave, weave_lines};
 pub use worked::{lost_ends, worked_picks};
-
-#[cfg(test)]
-mod tests;

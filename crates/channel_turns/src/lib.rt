@@ -12,6 +12,3 @@ pub use channel_core::{CallRefusal, Look, Ready, Turn};
 pub use ends::PlainEnds;
 pub use outcome::Outcome;
 pub use turns::TurnChannel;
-
-#[cfg(test)]
-mod tests;

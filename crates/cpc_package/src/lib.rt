@@ -21,6 +21,3 @@ pub use package::{Cpc, cpc_from, cpc_to, package_laws};
 pub use rows::{ENTRIES, Role, limits_are};
 pub use text::cpc_lines;
 pub use worked::{SIX_FIELDS_PACKAGE, worked_bindings, worked_packages};
-
-#[cfg(test)]
-mod tests;

@@ -6,7 +6,7 @@ ghost use Rattle.cpc_package.specs.declared.binding.Binding.{Binding};
 ghost use Rattle.cppc_calls.specs.Wishes.{CanPut, FitsInto, IsThere, wish_fault, wished, with_wish};
 ghost use Rattle.cppc_calls.specs.declared.wish.Wish.{Wish};
 
-use crate::tests_of_wishes::wish_fault;
+use crate::checks::wish_fault;
 use cpc_package::{Binding, Source1};
 use pcc_gas::field_put;
 

@@ -4,4 +4,3 @@ pub mod Chains
 pub mod Apart
 pub mod Sampling
 pub mod Commands
-pub mod Alone

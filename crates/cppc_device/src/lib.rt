@@ -14,6 +14,3 @@ pub use device::{CppcDevice, DeviceFault, device_laws};
 pub use range::{StartOutside, field_in, start_inside};
 pub use values::{Values, values_of};
 pub use worked::{worked_commands, worked_ranges, worked_states};
-
-#[cfg(test)]
-mod tests;

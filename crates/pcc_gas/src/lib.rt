@@ -12,6 +12,3 @@ pub use change::{Change, field_laws};
 pub use field::{Field, field_get, field_put, fields_apart};
 pub use mask::{Masks, masked};
 pub use worked::{worked_addresses, worked_changes, worked_fields};
-
-#[cfg(test)]
-mod tests;

@@ -19,6 +19,3 @@ pub use note::{Note, Notes};
 pub use record::{Pending, Record};
 pub use reserved::{MAX_ITEMS, ReserveRefusal, Reserved};
 pub use text::{JournalHead, journal_lines, put_journal};
-
-#[cfg(test)]
-mod tests;

@@ -25,6 +25,3 @@ pub use scenario::{
     Wish1,
 };
 pub use writing::scenario_to;
-
-#[cfg(test)]
-mod tests;

@@ -14,6 +14,3 @@ pub use refusal::{InputError, Refusal, UseFault};
 pub use setup::{SetUp, SetUpError, first_action, set_up, set_up_laws};
 pub use table::{whole_table, whole_table_laws};
 pub use text::refused_line;
-
-#[cfg(test)]
-mod tests;

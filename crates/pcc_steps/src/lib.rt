@@ -27,6 +27,3 @@ pub use laws::{
 pub use wiring::{Action, Style, Wiring};
 pub use words::{opening_words, perform};
 pub use worked::{worked_answers, worked_looks, worked_posts};
-
-#[cfg(test)]
-mod tests;

@@ -10,6 +10,3 @@ mod writing;
 pub use cutting::cut;
 pub use reading::{bytes_of, is_text, number, part, split};
 pub use writing::{Piece, put, put_hex, put_number, put_pieces};
-
-#[cfg(test)]
-mod tests;

@@ -14,6 +14,3 @@ pub use overlap::{Overlap, opened_apart, overlap_laws};
 pub use place::{place_laws, place_of};
 pub use wiring::{right_wirings, wiring_of};
 pub use worked::worked_cases;
-
-#[cfg(test)]
-mod tests;

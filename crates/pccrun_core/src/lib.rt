@@ -16,8 +16,3 @@ mod weave;
 pub use inputs::{answer_laws, input_laws};
 pub use program::run_program;
 pub use top::{Finished, run};
-
-#[cfg(test)]
-mod tests;
-#[cfg(test)]
-mod worked_cases;

@@ -14,6 +14,3 @@ pub use header::{HEADER_BYTES, MAX_TABLE_BYTES, limits_are};
 pub use read::{decision_laws, table_from, table_of_bytes};
 pub use worked::{NO_SUBSPACES, ONE_GENERIC_SUBSPACE, worked_faults, worked_many, worked_tables};
 pub use write::{show_laws, table_bytes, table_laws, table_to, texts_of_tables};
-
-#[cfg(test)]
-mod tests;

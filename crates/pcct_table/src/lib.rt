@@ -32,8 +32,3 @@ pub use subspace::{
 pub use subspaces::{MAX_SUBSPACES, Subspaces, limits_are};
 pub use table::Table;
 pub use worked::worked_structures;
-
-#[cfg(test)]
-mod tests;
-#[cfg(test)]
-mod text_tests;

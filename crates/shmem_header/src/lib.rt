@@ -17,6 +17,3 @@ pub use header::{
 };
 pub use words::{bytes_into, put_word, word_at, word_laws, words_into};
 pub use worked::worked_headers;
-
-#[cfg(test)]
-mod tests;

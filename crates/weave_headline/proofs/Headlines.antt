@@ -22,7 +22,7 @@ use Rattle.channel_plain.specs.Picks.{sent_by}
 use Rattle.channel_plain.specs.WordRuns.{Calls, Cut, IsAsking, WordRun, asked_line, from_opening, looking, posts_call, reading_at, sending, whole}
 use Rattle.channel_headline.proofs.WholeRuns.{all_ended}
 use Rattle.channel_headline.specs.Headline.{Headline}
-use Rattle.channel_headline.specs.Lines.{AreEnded, CallLine, HasReply, asked_by}
+use Rattle.channel_headline.specs.Lines.{AreEnded, CallLine, HasReply, asked_along, asked_by}
 use Rattle.weave_headline.specs.TraceLog.{TraceLog, empty_log, line_of, lines_in, log_from, log_of, open_line}
 use Rattle.weave_headline.specs.WordHeadline.{WordHeadline, journal_of, terms_of}
 use Rattle.weave_headline.proofs.Points.{IsLost, Point, headline_at, lost, lost_note, note_of, nothing}
@@ -36,7 +36,7 @@ ended_before (x ∷ y ∷ ls) l h = (h.0, ended_before (y ∷ ls) l h.1)
 module _ (exec : Device) (w : Wiring) (limits : Limits) (start opening : List ℕ) (calls : List Asked) where
   -- the headline with a command in flight, its note, and the lines
   abbrev Keeps : Calls → TraceLog → Option Sent → Option Note → List CallLine → Type 0
-  Keeps s g sent flight lines = Headline (terms_of exec w limits start opening) s.readings (take (length s.records) (asked_by lines)) lines
+  Keeps s g sent flight lines = Headline (terms_of exec w limits start opening) s.readings (asked_along opening (exchanges_of s.records) (asked_by lines)) lines
       (record { entries = noted s.records g.notes; pending = noted_pending (command_of sent) flight })
 
   no_open : (g : TraceLog) → g.unended ≡ false → lines_in w calls g ≡ g.calls
@@ -54,7 +54,7 @@ module _ (exec : Device) (w : Wiring) (limits : Limits) (start opening : List �
       let k : CallLine = line_of c None 0 in
       let sent : Sent = sent_by c s.space (reading_at rs r) in
       let n : Note = note_of (length rs) 0 0 in
-      let is : IsLost exec w limits start opening k 0 = record { posted = refl; unsoon = refl; matches = λ before post number. (((refl, refl, refl), refl), tt); cause = λ qs es ls ok. ok } in
+      let is : IsLost exec w limits start opening k 0 = record { posted = refl; unsoon = refl; matches = λ before post number. (((refl, refl, refl, refl), refl), tt); cause = λ qs es ls ok. ok } in
       let P : List ℕ → Type 0 = λ v. Point exec w limits start opening s.space v s.records g.notes (Some (lost_note sent.command (length rs) 0)) (g.calls ++ k ∷ []) in
       let point : Point exec w limits start opening s.space (rs ++ r ∷ []) s.records g.notes (Some (lost_note sent.command (length rs) 0)) (g.calls ++ k ∷ []) =
       lost exec w limits start opening s.space rs s.records g.notes g.calls k 0 r is pass room le p in
@@ -86,7 +86,7 @@ module _ (exec : Device) (w : Wiring) (limits : Limits) (start opening : List �
   -- a log of these lines keeps the headline
   abbrev Told : TraceLog → List ℕ → List Record → Option Sent → Type 0
   Told g readings records sent =
-      Headline (terms_of exec w limits start opening) (take g.taken readings) (take (length records) (asked_by (lines_in w calls g))) (lines_in w calls g) (journal_of g records sent)
+      Headline (terms_of exec w limits start opening) (take g.taken readings) (asked_along opening (exchanges_of records) (asked_by (lines_in w calls g))) (lines_in w calls g) (journal_of g records sent)
       × (g.taken ≤ length readings) × (length readings ≤ g.taken + 1)
 
   asking_told : (lines : List TraceLine) (readings : List ℕ) (records : List Record) (sent : Option Sent) → Legal exec w.reports start (exchanges_of records)
@@ -108,7 +108,7 @@ module _ (exec : Device) (w : Wiring) (limits : Limits) (start opening : List �
       let few : length a.taken ≤ 1 = cut.2 in
       let least : g.taken ≤ length readings = omega (arith, n, long) in
       let most : length readings ≤ g.taken + 1 = omega (arith, n, long, few) in
-      let H : List ℕ → Type 0 = λ v. Headline (terms_of exec w limits start opening) v (take (length s.records) (asked_by (lines_in w calls now))) (lines_in w calls now) (journal_of now s.records s.sent) in
+      let H : List ℕ → Type 0 = λ v. Headline (terms_of exec w limits start opening) v (asked_along opening (exchanges_of s.records) (asked_by (lines_in w calls now))) (lines_in w calls now) (journal_of now s.records s.sent) in
       let R : List Record → Type 0 = λ v. Told now readings v s.sent in
       let S : Option Sent → Type 0 = λ o. Told now readings records o in
       let G : TraceLog → Type 0 = λ v. Told v readings records sent in

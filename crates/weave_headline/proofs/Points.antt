@@ -1,8 +1,8 @@
 -- What holds of the lines and the journal between two events of a trace, and that it stays with each event and each line.
-use Rattle.std.proofs.Common.{◌≡◌, ◌≤◌, ◌<◌, ℕ, ◌+◌, ◌*◌, Bool, true, false, cond, List, [], ◌∷◌, ◌++◌, length, take, refl, sym, ap, ◌∙◌, subst, arith}
+use Rattle.std.proofs.Common.{◌≡◌, ◌≤◌, ◌<◌, ℕ, ◌+◌, ◌*◌, Bool, true, false, cond, List, [], ◌∷◌, ◌++◌, length, refl, sym, ap, ◌∙◌, subst, arith}
 use Rattle.std.specs.Prelude.{◌==◌, ◌&&◌, Option, Some, None}
 use Rattle.std.specs.List.{AllByRecursion}
-use Rattle.std.proofs.lemmas.List.{append-nil, length-append, length-map, map-append, take-append-le, take_all}
+use Rattle.std.proofs.lemmas.List.{append-nil, length-append, map-append}
 use Rattle.pcc_history.specs.Devices.{Device}
 use Rattle.pcc_history.specs.Channel.{Exchange, over}
 use Rattle.pcc_history.specs.Histories.{Legal, WholeHistory, space_after}
@@ -18,13 +18,14 @@ use Rattle.pcc_journal.specs.Records.{exchange_of_record, exchanges_of, times_of
 use Rattle.pcc_journal.specs.Events.{Event, Answered, Drained, Lost, Completed, Noted, NotedPending, Posted, completed_of, events_of, noted, post_count, posted_of, posted_of_pending, records_of}
 use Rattle.pcc_journal.proofs.EventsGrow.{drained as events_drained, last as events_last, noted_last, noted_records, posted as events_posted, post_count-append}
 use Rattle.pcc_steps.specs.declared.wiring.Wiring.{Wiring}
-use Rattle.channel_turns.specs.Replies.{Reply, Done, TooSoon}
+use Rattle.channel_turns.specs.Replies.{Done, TooSoon}
 use Rattle.channel_headline.specs.After.{After, IsRead, IsReading, Rise, after_event, after_events, before_all, numbers_in}
+use Rattle.channel_headline.specs.Asked.{Asked, LineReply, Replied, asked_bytes, asked_fault}
 use Rattle.channel_headline.specs.Causes.{AllCaused, HasCause, IsTooSoon, Past, Terms, own_refusal}
 use Rattle.channel_headline.specs.Headline.{Headline, pending_count, pending_post}
-use Rattle.channel_headline.specs.Lines.{AreEnded, CallLine, asked_by, mine_of, soon_lines, soon_numbers, was_posted, was_too_soon}
+use Rattle.channel_headline.specs.Lines.{AreEnded, CallLine, asked_along, asked_by, mine_of, soon_lines, soon_numbers, was_posted, was_too_soon}
 use Rattle.channel_headline.specs.Matches.{AllMatch, Matches, Placed, Tied, own_calls, placed}
-use Rattle.channel_headline.proofs.Histories.{WholeHistory-length, WholeHistory-more, space_after-more}
+use Rattle.channel_headline.proofs.Histories.{IsAsked, IsAsked-more, asked_whole, space_after-more}
 use Rattle.channel_headline.proofs.WholeRuns.{asked_more, kept_length}
 use Rattle.channel_headline.proofs.Growing.{after-append, all_last, all_read, match_drained, match_more, match_quiet, one_match, reading_first, reading_second, rise_events, rise_higher, soon_count, soon_more, soon_other}
 use Rattle.channel_headline.proofs.Owned.{own_length}
@@ -33,11 +34,11 @@ use Rattle.weave_headline.specs.WordHeadline.{terms_of}
 
 -- ---- lists that grow
 
-asked_posted : (lines : List CallLine) (l : CallLine) → was_posted l.reply ≡ true → asked_by (lines ++ l ∷ []) ≡ asked_by lines ++ l.bytes ∷ []
-asked_posted lines l e = asked_more lines l ∙ ap (λ (b : Bool). asked_by lines ++ cond b (l.bytes ∷ []) []) e
+asked_posted : (lines : List CallLine) (l : CallLine) → was_posted l.reply ≡ true → asked_by (lines ++ l ∷ []) ≡ asked_by lines ++ l.asked ∷ []
+asked_posted lines l e = asked_more lines l ∙ ap (λ (b : Bool). asked_by lines ++ cond b (l.asked ∷ []) []) e
 
 asked_other : (lines : List CallLine) (l : CallLine) → was_posted l.reply ≡ false → asked_by (lines ++ l ∷ []) ≡ asked_by lines
-asked_other lines l e = asked_more lines l ∙ ap (λ (b : Bool). asked_by lines ++ cond b (l.bytes ∷ []) []) e ∙ append-nil (asked_by lines)
+asked_other lines l e = asked_more lines l ∙ ap (λ (b : Bool). asked_by lines ++ cond b (l.asked ∷ []) []) e ∙ append-nil (asked_by lines)
 
 none_soon : (l : CallLine) → was_too_soon l.reply ≡ false → length (soon_lines (l ∷ [])) ≡ 0
 none_soon l e = ap (λ (b : Bool). length (cond b (l ∷ []) [])) e
@@ -50,32 +51,32 @@ soons_same lines l e = soon_count lines l ∙ ap (λ (m : ℕ). length (soon_lin
 
 -- ---- what was asked
 
--- the bytes of the command in flight
-abbrev pub IsWaiting : List ℕ → Option NotedPending → List (List ℕ) → Type 0
+-- what the command in flight was asked
+abbrev pub IsWaiting : List ℕ → Option NotedPending → List Asked → Type 0
 IsWaiting space None waiting = waiting ≡ []
-IsWaiting space (Some p) waiting = (bytes : List ℕ) × (waiting ≡ bytes ∷ []) × (p.command.input ≡ over space bytes)
+IsWaiting space (Some p) waiting = (a : Asked) × (waiting ≡ a ∷ []) × (p.command.input ≡ over space (asked_bytes a space))
 
 -- what was asked so far is recorded, but for the command in flight
 pub record Asks (opening space : List ℕ) (records : List Record) (pending : Option NotedPending) (lines : List CallLine) : Type 0 where
-  pub answered : List (List ℕ)
-  pub waiting : List (List ℕ)
+  pub answered : List Asked
+  pub waiting : List Asked
   pub parts : asked_by lines ≡ answered ++ waiting
-  pub whole : WholeHistory opening (exchanges_of records) answered
+  pub whole : IsAsked opening (exchanges_of records) answered
   pub last : space_after opening (exchanges_of records) ≡ space
   pub waits : IsWaiting space pending waiting
 
-asks_recorded : (opening space : List ℕ) (records : List Record) (lines lines' : List CallLine) (answered : List (List ℕ)) (bytes : List ℕ) (r : Record)
-    → WholeHistory opening (exchanges_of records) answered
-    → space_after opening (exchanges_of records) ≡ space → r.input ≡ over space bytes → asked_by lines' ≡ answered ++ bytes ∷ []
+asks_recorded : (opening space : List ℕ) (records : List Record) (lines lines' : List CallLine) (answered : List Asked) (a : Asked) (r : Record)
+    → IsAsked opening (exchanges_of records) answered
+    → space_after opening (exchanges_of records) ≡ space → r.input ≡ over space (asked_bytes a space) → asked_by lines' ≡ answered ++ a ∷ []
     → Asks opening r.output (records ++ r ∷ []) None lines'
-asks_recorded opening space records lines lines' answered bytes r whole last input parts =
+asks_recorded opening space records lines lines' answered a r whole last input parts =
     let more : exchanges_of (records ++ r ∷ []) ≡ exchanges_of records ++ exchange_of_record r ∷ [] = map-append exchange_of_record records (r ∷ []) in
-    let V : List Exchange → Type 0 = λ v. WholeHistory opening v (answered ++ bytes ∷ []) in
+    let V : List Exchange → Type 0 = λ v. IsAsked opening v (answered ++ a ∷ []) in
     record {
-      answered = answered ++ bytes ∷ [];
+      answered = answered ++ a ∷ [];
       waiting = [];
-      parts = parts ∙ sym (append-nil (answered ++ bytes ∷ []));
-      whole = subst V (sym more) (WholeHistory-more opening (exchanges_of records) answered (exchange_of_record r) bytes whole (input ∙ ap (λ (s : List ℕ). over s bytes) (sym last)));
+      parts = parts ∙ sym (append-nil (answered ++ a ∷ []));
+      whole = subst V (sym more) (IsAsked-more opening (exchanges_of records) answered (exchange_of_record r) a whole (input ∙ ap (λ (s : List ℕ). over s (asked_bytes a s)) (sym last)));
       last = ap (space_after opening) more ∙ space_after-more opening (exchanges_of records) (exchange_of_record r);
       waits = refl;
     }
@@ -91,7 +92,7 @@ within_more l records r w =
 
 -- the command of a line that is posted at a reading
 abbrev pub command_of : CallLine → List ℕ → ℕ → Pending
-command_of l space r = record { caller = l.caller; code = l.code; input = over space l.bytes; post = r }
+command_of l space r = record { caller = l.caller; code = l.code; input = over space (asked_bytes l.asked space); post = r }
 
 abbrev pub note_of : ℕ → ℕ → ℕ → Note
 note_of post done looks = record { post_at = post; done_at = done; looks = looks }
@@ -132,7 +133,7 @@ module _ (exec : Device) (w : Wiring) (limits : Limits) (start opening : List �
   pub record IsLost (l : CallLine) (looks : ℕ) : Type 0 where
     pub posted : was_posted l.reply ≡ true
     pub unsoon : was_too_soon l.reply ≡ false
-    pub matches : (before : List ℕ) (post number : ℕ) → let p : Posted = record { caller = l.caller; code = l.code; input = over before l.bytes; post = post; post_number = number } in
+    pub matches : (before : List ℕ) (post number : ℕ) → let p : Posted = record { caller = l.caller; code = l.code; input = over before (asked_bytes l.asked before); post = post; post_number = number } in
         AllMatch (l ∷ []) (record { event = Lost p looks; before = before } ∷ [])
     pub cause : (rs : List ℕ) (es : List Event) (ls : List CallLine) → Passes l → HasCause T rs es ls l l.reply
 
@@ -176,11 +177,11 @@ module _ (exec : Device) (w : Wiring) (limits : Limits) (start opening : List �
         within = (post_exact limits (times_of records) r h.within).1 le;
         asks = record {
           answered = asks.answered;
-          waiting = l.bytes ∷ [];
-          parts = asked_posted lines l is.posted ∙ ap (λ (v : List (List ℕ)). v ++ l.bytes ∷ []) (asks.parts ∙ ap (λ (v : List (List ℕ)). asks.answered ++ v) none ∙ append-nil asks.answered);
+          waiting = l.asked ∷ [];
+          parts = asked_posted lines l is.posted ∙ ap (λ (v : List Asked). v ++ l.asked ∷ []) (asks.parts ∙ ap (λ (v : List Asked). asks.answered ++ v) none ∙ append-nil asks.answered);
           whole = asks.whole;
           last = asks.last;
-          waits = (l.bytes, refl, refl);
+          waits = (l.asked, refl, refl);
         };
       }
     where
@@ -192,10 +193,10 @@ module _ (exec : Device) (w : Wiring) (limits : Limits) (start opening : List �
   -- ---- a command is answered
 
   pub answered : (space rs : List ℕ) (records : List Record) (notes : List Note) (lines : List CallLine) (l : CallLine) (error : Bool) (output : List ℕ) (r d : ℕ)
-      → l.reply ≡ Some (Done error output) → Passes l
+      → l.reply ≡ Some (Replied (Done error output)) → ((before : List ℕ) → asked_fault l.asked before ≡ None) → Passes l
       → length records < MAX_ITEMS → earliest_of limits (times_of records) ≤ r → Point space rs records notes None lines
       → Point output (rs ++ r ∷ d ∷ []) (records ++ record_for (command_of l space r) error output d false ∷ []) (notes ++ note_of (length rs) (length rs + 1) 0 ∷ []) None (lines ++ l ∷ [])
-  answered space rs records notes lines l error output r d is passes room le h =
+  answered space rs records notes lines l error output r d is fits passes room le h =
       let command : Pending = command_of l space r in
       let k : ℕ = length rs in
       let x : Record = record_for command error output d false in
@@ -219,8 +220,8 @@ module _ (exec : Device) (w : Wiring) (limits : Limits) (start opening : List �
       let A : List Times → After = λ ts. record { space = output; flight = None; times = ts } in
       let before : After = after_events opening es in
       let p : Placed = record { event = e; before = before.space } in
-      let input : over space l.bytes ≡ over before.space l.bytes = ap (λ (a : After). over a.space l.bytes) (sym h.after) in
-      let C : Option Reply → Type 0 = λ o. HasCause T qs (es ++ e ∷ []) lines l o in
+      let input : over space (asked_bytes l.asked space) ≡ over before.space (asked_bytes l.asked before.space) = ap (λ (a : After). over a.space (asked_bytes l.asked a.space)) (sym h.after) in
+      let C : Option LineReply → Type 0 = λ o. HasCause T qs (es ++ e ∷ []) lines l o in
       let M : CallLine → Type 0 = λ c. AllMatch (c ∷ []) (p ∷ []) in
       let asks = h.asks in
       let none : asks.waiting ≡ [] = asks.waits in
@@ -233,19 +234,19 @@ module _ (exec : Device) (w : Wiring) (limits : Limits) (start opening : List �
         few = omega (arith, counted, old_posts, room);
         read = all_last qs es e (all_read rs (r ∷ d ∷ []) es h.read) (subst S (from_zero k) (reading_first rs r (d ∷ [])), subst U (from_zero (k + 1)) (reading_second rs r d []));
         rise = rise_events 0 es e k (length qs) h.rise (omega arith, (omega arith, omega (arith, long)));
-        own = λ caller. match_more caller (before_all opening) lines es l e (h.own caller) (mine (l.caller == caller) l p is ((refl, refl, input), refl, refl));
+        own = λ caller. match_more caller (before_all opening) lines es l e (h.own caller) (mine (l.caller == caller) l p is ((refl, refl, input, fits before.space), refl, refl));
         soon = λ caller. soon_other caller lines l k (length qs) unsoon low (h.soon caller);
         causes = causes_last T qs (es ++ e ∷ []) lines l (causes_more T rs (r ∷ d ∷ []) es (e ∷ []) lines h.causes) (subst C (sym is) passes);
         count = omega (arith, long, old_count, more, soons);
         within = within_more limits records x ((post_exact limits (times_of records) r h.within).1 le);
-        asks = asks_recorded opening space records lines (lines ++ l ∷ []) asks.answered l.bytes x asks.whole asks.last refl
-            (asked_posted lines l posted ∙ ap (λ (v : List (List ℕ)). v ++ l.bytes ∷ []) (asks.parts ∙ ap (λ (v : List (List ℕ)). asks.answered ++ v) none ∙ append-nil asks.answered));
+        asks = asks_recorded opening space records lines (lines ++ l ∷ []) asks.answered l.asked x asks.whole asks.last refl
+            (asked_posted lines l posted ∙ ap (λ (v : List Asked). v ++ l.asked ∷ []) (asks.parts ∙ ap (λ (v : List Asked). asks.answered ++ v) none ∙ append-nil asks.answered));
       }
     where
-      mine : (b : Bool) (l : CallLine) (p : Placed) → l.reply ≡ Some (Done error output) → Matches l p.before (Some (Done error output)) p.event
+      mine : (b : Bool) (l : CallLine) (p : Placed) → l.reply ≡ Some (Replied (Done error output)) → Matches l p.before (Some (Replied (Done error output))) p.event
           → AllMatch (cond (was_posted l.reply && b) (l ∷ []) []) (cond b (p ∷ []) [])
       mine b l p e m =
-          let M : Option Reply → Type 0 = λ o. Matches l p.before o p.event in
+          let M : Option LineReply → Type 0 = λ o. Matches l p.before o p.event in
           let one : AllMatch (cond b (l ∷ []) []) (cond b (p ∷ []) []) = one_match b l p (subst M (sym e) m) in
           let G : Bool → Type 0 = λ c. AllMatch (cond (c && b) (l ∷ []) []) (cond b (p ∷ []) []) in
           subst G (sym (ap was_posted e)) one
@@ -274,7 +275,7 @@ module _ (exec : Device) (w : Wiring) (limits : Limits) (start opening : List �
       let old_count : length rs ≡ 2 * length records + 1 + length (soon_lines lines) = h.count in
       let A : List Times → After = λ ts. record { space = output; flight = None; times = ts } in
       let asks = h.asks in
-      let waits : (bytes : List ℕ) × (asks.waiting ≡ bytes ∷ []) × (pn.command.input ≡ over space bytes) = asks.waits in
+      let waits : (a : Asked) × (asks.waiting ≡ a ∷ []) × (pn.command.input ≡ over space (asked_bytes a space)) = asks.waits in
       record {
         events = es ++ Drained c ∷ [];
         are = ap (λ (n : List Noted). events_of 0 n None) (noted_last records notes x note h.long) ∙ events_drained 0 ns pn en refl refl refl ∙ ap (λ (n : List Event). n ++ Drained c ∷ []) h.are;
@@ -290,7 +291,7 @@ module _ (exec : Device) (w : Wiring) (limits : Limits) (start opening : List �
         count = omega (arith, long, old_count, more);
         within = within_more limits records x h.within;
         asks = asks_recorded opening space records lines lines asks.answered waits.0 x asks.whole asks.last waits.2
-            (asks.parts ∙ ap (λ (v : List (List ℕ)). asks.answered ++ v) waits.1);
+            (asks.parts ∙ ap (λ (v : List Asked). asks.answered ++ v) waits.1);
       }
 
   -- ---- nothing was posted and no reading was taken
@@ -332,10 +333,10 @@ module _ (exec : Device) (w : Wiring) (limits : Limits) (start opening : List �
   -- ---- a call was too soon
 
   pub too_soon : (space rs : List ℕ) (records : List Record) (notes : List Note) (lines : List CallLine) (l : CallLine) (r : ℕ)
-      → l.reply ≡ Some (TooSoon r (earliest_of limits (times_of records))) → l.number ≡ length rs
+      → l.reply ≡ Some (Replied (TooSoon r (earliest_of limits (times_of records)))) → ((before : List ℕ) → asked_fault l.asked before ≡ None) → l.number ≡ length rs
       → Passes l → r < earliest_of limits (times_of records) → Point space rs records notes None lines
       → Point space (rs ++ r ∷ []) records notes None (lines ++ l ∷ [])
-  too_soon space rs records notes lines l r is at passes below h =
+  too_soon space rs records notes lines l r is fits at passes below h =
       let earliest : ℕ = earliest_of limits (times_of records) in
       let k : ℕ = length rs in
       let es : List Event = h.events in
@@ -354,12 +355,13 @@ module _ (exec : Device) (w : Wiring) (limits : Limits) (start opening : List �
       let cause : IsTooSoon T qs es lines l r earliest = record {
         moment = now_past space rs records notes None lines l h;
         quiet = ap (λ (a : After). a.flight) h.after;
+        fits = fits (after_events opening es).space;
         earliest_is = ap (λ (a : After). earliest_of limits a.times) (sym h.after);
         soon = below;
         read = subst R (sym at) (reading_first rs r []);
         above = subst N (sym at) h.rise;
       } in
-      let K : Option Reply → Type 0 = λ o. HasCause T qs es lines l o in
+      let K : Option LineReply → Type 0 = λ o. HasCause T qs es lines l o in
       record {
         events = es;
         are = h.are;
@@ -400,18 +402,15 @@ module _ (exec : Device) (w : Wiring) (limits : Limits) (start opening : List �
   pub headline_at : (space rs : List ℕ) (records : List Record) (notes : List Note) (pending : Option NotedPending) (lines : List CallLine)
       → Legal exec w.reports start (exchanges_of records) → AreEnded lines
       → Point space rs records notes pending lines
-      → Headline T rs (take (length records) (asked_by lines)) lines (record { entries = noted records notes; pending = pending })
+      → Headline T rs (asked_along opening (exchanges_of records) (asked_by lines)) lines (record { entries = noted records notes; pending = pending })
   headline_at space rs records notes pending lines legal ended p =
       let asks = p.asks in
-      let asked : List (List ℕ) = take (length records) (asked_by lines) in
-      let n : length asks.answered ≡ length records = WholeHistory-length opening (exchanges_of records) asks.answered asks.whole ∙ length-map records exchange_of_record in
-      let fits : length records ≤ length asks.answered = omega (arith, n) in
-      let all : length asks.answered ≤ length records = omega (arith, n) in
-      let same : asked ≡ asks.answered = ap (take (length records)) asks.parts ∙ take-append-le (length records) asks.answered asks.waiting fits ∙ take_all (length records) asks.answered all in
+      let asked : List (List ℕ) = asked_along opening (exchanges_of records) (asked_by lines) in
+      let W : List Asked → Type 0 = λ v. WholeHistory opening (exchanges_of records) (asked_along opening (exchanges_of records) v) in
+      let whole : WholeHistory opening (exchanges_of records) asked = subst W (sym asks.parts) (asked_whole opening (exchanges_of records) asks.answered asks.waiting asks.whole) in
       let recs : records_of (noted records notes) ≡ records = noted_records records notes in
       let L : List Record → Type 0 = λ v. Legal exec w.reports start (exchanges_of v) in
       let V : List Record → Type 0 = λ v. WholeHistory opening (exchanges_of v) asked in
-      let W : List (List ℕ) → Type 0 = WholeHistory opening (exchanges_of records) in
       let R : List Record → Type 0 = λ v. WithinLimits limits (times_of v) (pending_post pending) in
       let count : length rs ≡ 2 * length records + pending_count pending + length (soon_lines lines) = p.count in
       let entries : length (noted records notes) ≡ length records = kept_length records notes in
@@ -422,7 +421,7 @@ module _ (exec : Device) (w : Wiring) (limits : Limits) (start opening : List �
       let Ties : List Event → Type 0 = Tied opening lines in
       record {
         legal = subst L (sym recs) legal;
-        whole = subst V (sym recs) (subst W (sym same) asks.whole);
+        whole = subst V (sym recs) whole;
         within = subst R (sym recs) p.within;
         most = subst Most (sym p.are) p.few;
         ended = ended;

@@ -32,6 +32,7 @@ use Rattle.channel_turns.specs.Replies.{Reply, Done, BadCode, TooLong, JournalFu
 use Rattle.channel_headline.specs.After.{After}
 use Rattle.channel_headline.specs.Causes.{HasCause, IsBlocked, IsFull}
 use Rattle.channel_headline.specs.Headline.{pending_count}
+use Rattle.channel_headline.specs.Asked.{Replied}
 use Rattle.channel_headline.specs.Lines.{CallLine, HasReply, is_post, is_too_soon}
 use Rattle.weave_headline.specs.TraceLog.{TraceLog, drained_by, ended_with, given_up_after, line_of, log_end, log_from, output_by, output_of, rest_after, step_in, with_line}
 use Rattle.channel_headline.proofs.Points.{ends_last}
@@ -158,7 +159,7 @@ module _ (exec : Device) (w : Wiring) (limits : Limits) (start opening : List �
 
   -- a call ends with a reply, in a log
   abbrev closed : Asked → Reply → ℕ → TraceLog → TraceLog
-  closed c reply number g = record g { unended = false; calls = g.calls ++ line_of c (Some reply) number ∷ []; run = [] }
+  closed c reply number g = record g { unended = false; calls = g.calls ++ line_of c (Some (Replied reply)) number ∷ []; run = [] }
 
   ended_is : (c : Asked) (reply : Reply) (number : ℕ) (g : TraceLog) → slice_get calls (length g.calls) ≡ Some c
       → rested (ended_with w calls reply number g) ≡ closed c reply number g
@@ -169,7 +170,7 @@ module _ (exec : Device) (w : Wiring) (limits : Limits) (start opening : List �
 
   Caused : Calls → TraceLog → Asked → Reply → Type 0
   Caused s g c reply = (pn : Option NotedPending) → pending_count pn ≡ count_flying s.sent → (h : At s.space s.readings s.records g.notes pn g.calls)
-      → HasCause (T exec w limits start opening) s.readings h.events g.calls (line_of c (Some reply) 0) (Some reply)
+      → HasCause (T exec w limits start opening) s.readings h.events g.calls (line_of c (Some (Replied reply)) 0) (Some (Replied reply))
 
   ends_refused : (s : Calls) (g : TraceLog) (c : Asked) (reply : Reply) → slice_get calls s.ended ≡ Some c → g.unended ≡ false → is_post reply ≡ false
       → is_too_soon reply ≡ false → Caused s g c reply
@@ -177,7 +178,7 @@ module _ (exec : Device) (w : Wiring) (limits : Limits) (start opening : List �
   unfolding Caused
   ends_refused s g c reply at un unposted unsoon cause h =
       subst (Holds (end_call s)) (sym (ended_is c reply 0 g (next_call s g c h.ended at)))
-      (record { ended = one_longer g.calls (line_of c (Some reply) 0) s.ended h.ended; taken = h.taken; replies = ends_last g.calls (line_of c (Some reply) 0) h.replies tt; serves = λ begun. absurd (no begun); flies = on h.flies })
+      (record { ended = one_longer g.calls (line_of c (Some (Replied reply)) 0) s.ended h.ended; taken = h.taken; replies = ends_last g.calls (line_of c (Some (Replied reply)) 0) h.replies tt; serves = λ begun. absurd (no begun); flies = on h.flies })
     where
       no : false ≡ true → ⊥
       no e = cc
@@ -186,9 +187,9 @@ module _ (exec : Device) (w : Wiring) (limits : Limits) (start opening : List �
       not_both x e f = cc
 
       on : Flies s g → Flies (end_call s) (closed c reply 0 g)
-      on (quiet a f u p) = quiet a f refl (refused exec w limits start opening s.space s.readings s.records g.notes None g.calls (line_of c (Some reply) 0) unposted unsoon p (cause None (sym (ap count_flying a)) p))
+      on (quiet a f u p) = quiet a f refl (refused exec w limits start opening s.space s.readings s.records g.notes None g.calls (line_of c (Some (Replied reply)) 0) unposted unsoon p (cause None (sym (ap count_flying a)) p))
       on (late p n a k f u q) = late p n a k f refl
-          (refused exec w limits start opening s.space s.readings s.records g.notes (Some (noted_sent p n)) g.calls (line_of c (Some reply) 0) unposted unsoon q (cause (Some (noted_sent p n)) (sym (ap count_flying a)) q))
+          (refused exec w limits start opening s.space s.readings s.records g.notes (Some (noted_sent p n)) g.calls (line_of c (Some (Replied reply)) 0) unposted unsoon q (cause (Some (noted_sent p n)) (sym (ap count_flying a)) q))
       on (owned d rs r a f u e begun at' pass room le p) = absurd (not_both g.unended un u)
 
   -- no call that is posted is left out
@@ -216,12 +217,12 @@ module _ (exec : Device) (w : Wiring) (limits : Limits) (start opening : List �
       subst (λ (x : TraceEnd). Holds (end_call s) (log_end w calls x l g)) (same_Some end.JournalFull e is) (ends_refused s g c JournalFull at un refl refl (λ pn n p. (by, cause pn n p)) h)
     where
       cause : (pn : Option NotedPending) → pending_count pn ≡ count_flying s.sent → (p : At s.space s.readings s.records g.notes pn g.calls)
-          → IsFull p.events g.calls (line_of c (Some JournalFull) 0)
+          → IsFull p.events g.calls (line_of c (Some (Replied JournalFull)) 0)
       cause pn n p =
           let at_least : MAX_ITEMS ≤ length s.records + count_flying s.sent = most refl in
           let posts : post_count p.events ≡ length s.records + pending_count pn = p.posts in
           let few : post_count p.events ≤ MAX_ITEMS = p.few in
-          record { moment = now_past exec w limits start opening s.space s.readings s.records g.notes pn g.calls (line_of c (Some JournalFull) 0) p; full = omega (arith, at_least, posts, few, n) }
+          record { moment = now_past exec w limits start opening s.space s.readings s.records g.notes pn g.calls (line_of c (Some (Replied JournalFull)) 0) p; full = omega (arith, at_least, posts, few, n) }
   refused_by s g c e l false false false at un by most is h = absurd cc
 
   -- ---- the ends of runs
@@ -238,9 +239,9 @@ module _ (exec : Device) (w : Wiring) (limits : Limits) (start opening : List �
   soon_holds s g c r l h b at free below =
       subst (Holds (end_call (take_reading s r))) (sym (ended_is c (soon_reply s r) g.taken (one_taken g) (next_call s g c h.ended at)))
       (record {
-        ended = one_longer g.calls (line_of c (Some (soon_reply s r)) g.taken) s.ended h.ended;
+        ended = one_longer g.calls (line_of c (Some (Replied (soon_reply s r))) g.taken) s.ended h.ended;
         taken = ap (λ (m : ℕ). m + 1) h.taken ∙ sym (length-append s.readings (r ∷ []));
-        replies = ends_last g.calls (line_of c (Some (soon_reply s r)) g.taken) h.replies tt;
+        replies = ends_last g.calls (line_of c (Some (Replied (soon_reply s r))) g.taken) h.replies tt;
         serves = λ begun. absurd (no begun);
         flies = on h.flies;
       })
@@ -252,7 +253,7 @@ module _ (exec : Device) (w : Wiring) (limits : Limits) (start opening : List �
       none_some o p e f = cc
 
       on : Flies s g → Flies (end_call (take_reading s r)) (closed c (soon_reply s r) g.taken (one_taken g))
-      on (quiet a f u p) = quiet a f refl (too_soon exec w limits start opening s.space s.readings s.records g.notes g.calls (line_of c (Some (soon_reply s r)) g.taken) r refl h.taken (h.serves b c at).0 below p)
+      on (quiet a f u p) = quiet a f refl (too_soon exec w limits start opening s.space s.readings s.records g.notes g.calls (line_of c (Some (Replied (soon_reply s r))) g.taken) r refl (λ before. refl) h.taken (h.serves b c at).0 below p)
       on (late p n a x f u q) = absurd (none_some s.sent p free a)
       on (owned d rs q a f u e begun at' pass room le p) = absurd (none_some s.sent (sent_by d s.space (reading_at rs q)) free a)
 
@@ -303,9 +304,9 @@ module _ (exec : Device) (w : Wiring) (limits : Limits) (start opening : List �
       → Passes c → length s.records < MAX_ITEMS → earliest_of limits (times_of s.records) ≤ r → At s.space rs s.records g.notes None g.calls → 0 < c.polls
       → GivenUp s g c looks l (sent_by c s.space (reading_at rs r))
   lost_holds s g c rs r looks l h at f e pass room le p some =
-      let k : CallLine = line_of c (Some (TimedOut c.polls)) 0 in
+      let k : CallLine = line_of c (Some (Replied (TimedOut c.polls))) 0 in
       let up : TraceLog = record g { flight = Some (note_of (length rs) 0 c.polls) } in
-      let is : IsLost exec w limits start opening k c.polls = record { posted = refl; unsoon = refl; matches = λ before post number. (((refl, refl, refl), refl, refl), tt); cause = λ qs es ls ok. ok } in
+      let is : IsLost exec w limits start opening k c.polls = record { posted = refl; unsoon = refl; matches = λ before post number. (((refl, refl, refl, refl), refl, refl), tt); cause = λ qs es ls ok. ok } in
       let given : Sent = record (sent_by c s.space (reading_at rs r)) { note = record (sent_by c s.space (reading_at rs r)).note { looks = c.polls } } in
       let end_state : Calls = end_call (record s { looks = looks; sent = Some given }) in
       let P : List ℕ → Type 0 = λ v. At s.space v s.records g.notes (Some (lost_note given.command (length rs) c.polls)) (g.calls ++ k ∷ []) in
@@ -344,9 +345,9 @@ module _ (exec : Device) (w : Wiring) (limits : Limits) (start opening : List �
       subst G (λ i. (sym kept i, sym x i)) (ends_refused up g c (StillPending c.polls) at u refl refl (λ pn m y. ((h.serves b c at).0, refl, cause pn m y)) held)
     where
       cause : (pn : Option NotedPending) → pending_count pn ≡ 1 → (y : At s.space s.readings s.records g.notes pn g.calls)
-          → IsBlocked opening y.events g.calls (line_of c (Some (StillPending c.polls)) 0)
+          → IsBlocked opening y.events g.calls (line_of c (Some (Replied (StillPending c.polls))) 0)
       cause None m y = absurd cc
-      cause (Some z) m y = record { moment = now_past exec w limits start opening s.space s.readings s.records g.notes (Some z) g.calls (line_of c (Some (StillPending c.polls)) 0) y; post = z.command.post; flies = ap (λ (v : After). v.flight) y.after }
+      cause (Some z) m y = record { moment = now_past exec w limits start opening s.space s.readings s.records g.notes (Some z) g.calls (line_of c (Some (Replied (StillPending c.polls))) 0) y; post = z.command.post; flies = ap (λ (v : After). v.flight) y.after }
 
   given_up_holds : (s : Calls) (g : TraceLog) (c : Asked) (p : Sent) (looks : ℕ) (l : TraceLine) → Holds s g → s.begun ≡ true
       → slice_get calls s.ended ≡ Some c → s.sent ≡ Some p → 0 < c.polls → Flies s g → GivenUp s g c looks l p
@@ -381,7 +382,7 @@ module _ (exec : Device) (w : Wiring) (limits : Limits) (start opening : List �
       → Drains s g d error block output l (sent_by c s.space (reading_at rs r))
   done_holds s g c rs r d error block output l h out at f e pass room le p =
       let x : Record = record_of (sent_by c s.space (reading_at rs r)) error output d in
-      let k : CallLine = line_of c (Some (Done error output)) 0 in
+      let k : CallLine = line_of c (Some (Replied (Done error output))) 0 in
       let noted : List Note = g.notes ++ note_of (length rs) g.taken 0 ∷ [] in
       let mid : TraceLog = record g { taken = g.taken + 1; notes = noted; flight = None } in
       let end_state : Calls = end_call (record (take_reading s d) { sent = None; block = block; space = output; records = s.records ++ x ∷ [] }) in
@@ -395,7 +396,7 @@ module _ (exec : Device) (w : Wiring) (limits : Limits) (start opening : List �
       let P : List ℕ → Type 0 = λ v. At output v (s.records ++ x ∷ []) noted None (g.calls ++ k ∷ []) in
       let N : ℕ → Type 0 = λ m. At output (rs ++ r ∷ d ∷ []) (s.records ++ x ∷ []) (g.notes ++ note_of (length rs) m 0 ∷ []) None (g.calls ++ k ∷ []) in
       let point : At output (rs ++ r ∷ d ∷ []) (s.records ++ x ∷ []) (g.notes ++ note_of (length rs) (length rs + 1) 0 ∷ []) None (g.calls ++ k ∷ []) =
-      answered exec w limits start opening s.space rs s.records g.notes g.calls k error output r d refl pass room le p in
+      answered exec w limits start opening s.space rs s.records g.notes g.calls k error output r d refl (λ before. refl) pass room le p in
       subst (Holds end_state) (sym logged) (record {
         ended = one_longer g.calls k s.ended h.ended;
         taken = ap (λ (m : ℕ). m + 1) h.taken ∙ sym (length-append s.readings (d ∷ []));

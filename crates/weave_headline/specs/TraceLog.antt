@@ -13,6 +13,7 @@ use Rattle.channel_plain.specs.declared.trace.TraceEnd.TheVariants as end
 use Rattle.channel_plain.specs.declared.trace.TraceLine.{TraceLine}
 use Rattle.channel_plain.specs.WordRuns.{replied, rest_of}
 use Rattle.channel_turns.specs.Replies.{Reply, Done, BadCode, TooLong, JournalFull, StillPending, TooSoon, TimedOut}
+use Rattle.channel_headline.specs.Asked.{LineReply, Replied, These}
 use Rattle.channel_headline.specs.Lines.{CallLine}
 
 -- how many readings were taken; the notes of the completed commands, and of one in flight; whether the call of that one hasn't ended; the lines
@@ -58,14 +59,15 @@ step_in (Store place word) l = l ∷ []
 step_in (Swap place word) l = l ∷ []
 step_in (Execute code) l = l ∷ []
 
-abbrev pub line_of : Asked → Option Reply → ℕ → CallLine
-line_of c reply number = record { caller = c.caller; code = c.code; bytes = c.bytes; polls = c.polls; reply = reply; number = number }
+abbrev pub line_of : Asked → Option LineReply → ℕ → CallLine
+line_of c reply number =
+    record { caller = c.caller; code = c.code; asked = These c.bytes; polls = c.polls; reply = reply; number = number }
 
 -- a reply to a call, with the number of its reading where it is `too soon`
 abbrev pub with_line : Option Asked → Reply → ℕ → TraceLog → TraceLog
 with_line None reply number s = s
 with_line (Some c) reply number s =
-    record s { unended = false; calls = s.calls ++ line_of c (Some reply) number ∷ [] }
+    record s { unended = false; calls = s.calls ++ line_of c (Some (Replied reply)) number ∷ [] }
 
 -- the command in flight completes, at the next reading
 abbrev pub drained_by : Option Note → TraceLog → TraceLog

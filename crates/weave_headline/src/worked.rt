@@ -1,6 +1,7 @@
 //! The log of a trace and the headline, evaluated on worked traces and on wrong journals.
 ghost use Rattle.std.specs.Prelude.{◌≡◌, [], ◌∷◌, Some, None, false, true};
 ghost use Rattle.channel_turns.specs.Replies.{Done, StillPending, TimedOut};
+ghost use Rattle.channel_headline.specs.Asked.{Replied};
 ghost use Rattle.channel_plain.specs.WorkedPicks.{kept, no_bytes, note_at, swap_call};
 ghost use Rattle.weave_headline.specs.TraceLog.{line_of, lines_in};
 ghost use Rattle.weave_headline.specs.WordHeadline.{trace_log};
@@ -13,7 +14,7 @@ pub fn worked_logs()
       notes = note_at 0 1 0 ∷ [];
       flight = None;
       unended = false;
-      calls = line_of (swap_call 0 (1 ∷ 2 ∷ []) 3) (Some (Done false no_bytes)) 0 ∷ [];
+      calls = line_of (swap_call 0 (1 ∷ 2 ∷ []) 3) (Some (Replied (Done false no_bytes))) 0 ∷ [];
       run = [];
     } }
     // the steps of a post that is cut are no post
@@ -40,7 +41,8 @@ pub fn worked_logs()
       notes = note_at 0 1 1 ∷ [];
       flight = Some (note_at 2 0 0);
       unended = true;
-      calls = line_of (swap_call 0 (1 ∷ 2 ∷ []) 1) (Some (TimedOut 1)) 0 ∷ line_of (swap_call 1 [] 2) (Some (StillPending 2)) 0 ∷ [];
+      calls = line_of (swap_call 0 (1 ∷ 2 ∷ []) 1) (Some (Replied (TimedOut 1))) 0
+          ∷ line_of (swap_call 1 [] 2) (Some (Replied (StillPending 2))) 0 ∷ [];
       run = [];
     } }
 {}

@@ -1,0 +1,7 @@
+//! Tests of performance control: a controller as a device, and requests of performance.
+#![tactic(auto)]
+
+#[cfg(test)]
+mod controllers;
+#[cfg(test)]
+mod wishes;
