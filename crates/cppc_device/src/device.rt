@@ -37,7 +37,7 @@ impl From<AllocError> for DeviceFault {
 
 /// The registers at first: the image, and zeros after it.
 #[tactic(auto, using(crate::proofs::Commands::all_taken))]
-fn opening(alloc: Global, room: u32, image: &[u8]) -> Result<Vec<u8>, AllocError>
+pub fn opening(alloc: Global, room: u32, image: &[u8]) -> Result<Vec<u8>, AllocError>
     requires { length image.now ≤ room }
     ensures items { IfOk result (λ registers. registers.items ≡ opening room image.now) }
     ensures bytes { IfOk result (λ registers. IsBytes registers.items) }

@@ -10,7 +10,7 @@ mod values;
 mod worked;
 
 pub use cap::Cap;
-pub use device::{CppcDevice, DeviceFault, device_laws};
+pub use device::{CppcDevice, DeviceFault, device_laws, opening};
 pub use range::{StartOutside, field_in, start_inside};
 pub use values::{Values, values_of};
 pub use worked::{worked_commands, worked_ranges, worked_states};

@@ -1,61 +1,123 @@
--- The checks of a set-up, one behind the other, and that a script that passes them isn't refused.
-use Rattle.std.proofs.Common.{◌≡◌, ℕ, ◌+◌, List, length, sym, subst}
-use Rattle.std.specs.Prelude.{Option, Some, None, slice_get, take}
-use Rattle.std.proofs.lemmas.Option.{slice_get_within}
-use Rattle.pcct_codec.proofs.Headers.{one_table}
-use Rattle.pcc_setup.proofs.Refused.{table_kept}
+-- The checks of a set-up, from the first to the last.
+use Rattle.std.proofs.Common.{◌≡◌, ℕ, ◌+◌, ◌<◌, ◌≤◌, List, length, map, take, sym, ap, ◌∙◌, subst}
+use Rattle.std.specs.Prelude.{Some, slice_get}
 use Rattle.pcct_table.specs.declared.table.Table.{Table}
 use Rattle.pcct_codec.specs.Tables.{TableBytes}
+use Rattle.cpc_package.specs.declared.binding.Binding.{Binding}
 use Rattle.pcc_script.specs.declared.scenario.Line.{Line}
 use Rattle.pcc_script.specs.declared.scenario.Scenario.{Scenario}
 use Rattle.pcc_wiring.specs.declared.overlap.Overlap.{Overlap}
 use Rattle.pcc_wiring.specs.Overlaps.{AreApart, IsFirstOverlap}
 use Rattle.pcc_setup.specs.declared.action.ActionFault.{ActionFault}
 use Rattle.pcc_setup.specs.declared.opening.Opened.{Opened}
+use Rattle.pcc_setup.specs.declared.places.CpuPlace.{CpuPlace}
 use Rattle.pcc_setup.specs.declared.refusal.InputError.{InputError}
 use Rattle.pcc_setup.specs.declared.refusal.InputError.TheVariants as error
 use Rattle.pcc_setup.specs.declared.refusal.Refusal.{Refusal}
 use Rattle.pcc_setup.specs.declared.refusal.Refusal.TheVariants as refusal
-use Rattle.pcc_setup.specs.Openings.{AllOpen, line_fault, memories_by, opened_by}
+use Rattle.pcc_setup.specs.Equipment.{AreCapsRight, ArePlaces, CapRefused, StartInside, StartRefused, equipped}
+use Rattle.pcc_setup.specs.Openings.{AllOpen, memories_by, opened_by}
+use Rattle.pcc_setup.specs.Processors.{AreBound, CpuRefused}
 use Rattle.pcc_setup.specs.RefusalText.{IsRefusedFor}
-use Rattle.pcc_setup.specs.SetUps.{AllNamed, FirstWrong, IsSetUp, Meeting, OpenRefused, Opens, SetUpRefused, TableRefused, WrongAction, WrongOpen, WrongTable, action_fault, first_action}
+use Rattle.pcc_setup.specs.SetUps.{ActionRefused, AfterCaps, AfterCpus, AfterMemories, AfterOpens, AfterTable, AllNamed, FirstAction, FirstMeeting, IsSetUp, MeetRefused, OpenRefused, Opens, SetUpRefused, TableRefused, action_fault, first_action}
+use Rattle.pcc_setup.proofs.Bound.{one_bound}
+use Rattle.pcc_setup.proofs.Chain.{behind, here}
+use Rattle.pcct_codec.proofs.Headers.{one_table}
+
+-- ---- errors of a check, as those of all
 
 pub wrong_table : (s : Scenario) (bytes : List ℕ) (e : InputError) → bytes ≡ s.table → IsRefusedFor (TableRefused bytes) e → IsRefusedFor (SetUpRefused s) e
-wrong_table s bytes (error.Refused r) same h = let P : List ℕ → Type 0 = λ b. TableRefused b r in (WrongTable r (subst P same h.0), h.1)
-wrong_table s bytes error.NoMemory same h = tt
+wrong_table s bytes e same h =
+    here (TableBytes s.table) (TableRefused s.table) (AfterTable s) e (subst (λ (b : List ℕ). IsRefusedFor (TableRefused b) e) same h)
 
-pub wrong_open : (s : Scenario) (t : Table) (e : InputError) → TableBytes s.table t → IsRefusedFor (OpenRefused t s.opens) e → IsRefusedFor (SetUpRefused s) e
-wrong_open s t (error.Refused r) bytes h = (WrongOpen t bytes r h.0, h.1)
-wrong_open s t error.NoMemory bytes h = tt
+pub after_table : (s : Scenario) (t : Table) (e : InputError) → TableBytes s.table t → IsRefusedFor (AfterTable s t) e → IsRefusedFor (SetUpRefused s) e
+after_table s t e bytes h = behind (TableBytes s.table) (TableRefused s.table) (AfterTable s) t e bytes h
 
-pub meeting : (s : Scenario) (t : Table) (ms : List (ℕ × ℕ × ℕ)) (found : Overlap) → TableBytes s.table t → AllOpen t s.opens (length s.opens) → ms ≡ memories_by t s.opens → IsFirstOverlap ms found
-    → SetUpRefused s (refusal.Meet found) × Unit {0}
-meeting s t ms found bytes all_open is meet = let P : List (ℕ × ℕ × ℕ) → Type 0 = λ v. IsFirstOverlap v found in (Meeting t bytes all_open found (subst P is meet), tt)
+pub wrong_open : (s : Scenario) (t : Table) (e : InputError) → IsRefusedFor (OpenRefused t s.opens) e → IsRefusedFor (AfterTable s t) e
+wrong_open s t e h = here {X = Unit {0}} (λ ok. AllOpen t s.opens (length s.opens)) (OpenRefused t s.opens) (λ ok. AfterOpens s t) e h
 
-pub wrong_action : (s : Scenario) (t : Table) (ms : List (ℕ × ℕ × ℕ)) (place line : ℕ) (l : Line) (fault : ActionFault) → TableBytes s.table t → AllOpen t s.opens (length s.opens) → ms ≡ memories_by t s.opens → AreApart ms
-    → slice_get s.actions place ≡ Some l → AllNamed s place → action_fault s l ≡ Some fault → line ≡ first_action s + place → SetUpRefused s (refusal.Action line fault) × Unit {0}
-wrong_action s t ms place line l fault bytes all_open is apart at named wrong number =
-    let P : ℕ → Type 0 = λ n. SetUpRefused s (refusal.Action n fault) in
-    (subst P (sym number) (WrongAction t bytes all_open (subst AreApart is apart) place l fault at named wrong), tt)
+after_opens : (s : Scenario) (t : Table) (e : InputError) → AllOpen t s.opens (length s.opens) → IsRefusedFor (AfterOpens s t) e → IsRefusedFor (AfterTable s t) e
+after_opens s t e opened h = behind {X = Unit {0}} (λ ok. AllOpen t s.opens (length s.opens)) (OpenRefused t s.opens) (λ ok. AfterOpens s t) tt e opened h
 
-pub is_set_up : (s : Scenario) (t : Table) (ms : List (ℕ × ℕ × ℕ)) (os : List Opened) → TableBytes s.table t → AllOpen t s.opens (length s.opens) → ms ≡ memories_by t s.opens → AreApart ms → AllNamed s (length s.actions)
-    → os ≡ opened_by t s.opens → Opens s os
-is_set_up s t ms os bytes all_open is apart named opened = record { table = t; checked = record { table = bytes; all_open = all_open; apart = subst AreApart is apart; named = named }; list_is = opened }
+pub meeting : (s : Scenario) (t : Table) (e : InputError) → AllOpen t s.opens (length s.opens) → IsRefusedFor (MeetRefused (memories_by t s.opens)) e → IsRefusedFor (AfterTable s t) e
+meeting s t e opened h = after_opens s t e opened
+    (here {X = Unit {0}} (λ ok. AreApart (memories_by t s.opens)) (MeetRefused (memories_by t s.opens)) (λ ok. AfterMemories s (opened_by t s.opens)) e h)
 
--- ---- a script that passes all checks is not refused
+after_memories : (s : Scenario) (t : Table) (e : InputError) → AllOpen t s.opens (length s.opens) → AreApart (memories_by t s.opens)
+    → IsRefusedFor (AfterMemories s (opened_by t s.opens)) e → IsRefusedFor (AfterTable s t) e
+after_memories s t e opened apart h = after_opens s t e opened
+    (behind {X = Unit {0}} (λ ok. AreApart (memories_by t s.opens)) (MeetRefused (memories_by t s.opens)) (λ ok. AfterMemories s (opened_by t s.opens)) tt e apart h)
 
-both : {X : Type 0} (o : Option X) (x : X) → o ≡ None → o ≡ Some x → ⊥
-both o x e f = absurd cc
+pub wrong_cpu : (s : Scenario) (t : Table) (os : List Opened) (e : InputError) → AllOpen t s.opens (length s.opens) → AreApart (memories_by t s.opens) → os ≡ opened_by t s.opens
+    → IsRefusedFor (CpuRefused os s.cpus) e → IsRefusedFor (AfterTable s t) e
+wrong_cpu s t os e opened apart is h = after_memories s t e opened apart
+    (subst (λ (v : List Opened). IsRefusedFor (AfterMemories s v) e) is (here (AreBound os s.cpus) (CpuRefused os s.cpus) (AfterCpus s os) e h))
 
-pub set_up_kept : (s : Scenario) (t : Table) (r : Refusal) → IsSetUp s t → SetUpRefused s r → ⊥
-set_up_kept s t r h (WrongTable q refused) = table_kept s.table t q h.table refused
-set_up_kept s t r h (WrongOpen u bytes q (FirstWrong i o fault at before wrong)) =
-    let one : t ≡ u = one_table s.table t u h.table bytes in
-    let P : Table → Type 0 = λ v. line_fault v (take i s.opens) o ≡ None in
-    both _ fault (subst P one (h.all_open i o (slice_get_within s.opens i o at) at)) wrong
-set_up_kept s t r h (Meeting u bytes all_open found first) =
-    let one : t ≡ u = one_table s.table t u h.table bytes in
-    let P : Table → Type 0 = λ v. AreApart (memories_by v s.opens) in
-    (subst P one h.apart) first.a first.b first.order first.within first.meet
-set_up_kept s t r h (WrongAction u bytes all_open apart i l fault at named wrong) =
-    both _ fault (h.named i l (slice_get_within s.actions i l at) at) wrong
+after_cpus : (s : Scenario) (t : Table) (os : List Opened) (cpus : List Binding) (e : InputError) → AllOpen t s.opens (length s.opens) → AreApart (memories_by t s.opens)
+    → os ≡ opened_by t s.opens → AreBound os s.cpus cpus → IsRefusedFor (AfterCpus s os cpus) e → IsRefusedFor (AfterTable s t) e
+after_cpus s t os cpus e opened apart is bound h = after_memories s t e opened apart
+    (subst (λ (v : List Opened). IsRefusedFor (AfterMemories s v) e) is (behind (AreBound os s.cpus) (CpuRefused os s.cpus) (AfterCpus s os) cpus e bound h))
+
+pub wrong_cap : (s : Scenario) (t : Table) (os : List Opened) (cpus : List Binding) (e : InputError) → AllOpen t s.opens (length s.opens) → AreApart (memories_by t s.opens)
+    → os ≡ opened_by t s.opens → AreBound os s.cpus cpus → IsRefusedFor (CapRefused os s.caps) e → IsRefusedFor (AfterTable s t) e
+wrong_cap s t os cpus e opened apart is bound h = after_cpus s t os cpus e opened apart is bound
+    (here {X = Unit {0}} (λ ok. AreCapsRight os s.caps (length s.caps)) (CapRefused os s.caps) (λ ok. AfterCaps s os cpus) e h)
+
+after_caps : (s : Scenario) (t : Table) (os : List Opened) (cpus : List Binding) (e : InputError) → AllOpen t s.opens (length s.opens) → AreApart (memories_by t s.opens)
+    → os ≡ opened_by t s.opens → AreBound os s.cpus cpus → AreCapsRight os s.caps (length s.caps) → IsRefusedFor (AfterCaps s os cpus) e → IsRefusedFor (AfterTable s t) e
+after_caps s t os cpus e opened apart is bound capped h = after_cpus s t os cpus e opened apart is bound
+    (behind {X = Unit {0}} (λ ok. AreCapsRight os s.caps (length s.caps)) (CapRefused os s.caps) (λ ok. AfterCaps s os cpus) tt e capped h)
+
+pub wrong_start : (s : Scenario) (t : Table) (os : List Opened) (cpus : List Binding) (e : InputError) → AllOpen t s.opens (length s.opens) → AreApart (memories_by t s.opens)
+    → os ≡ opened_by t s.opens → AreBound os s.cpus cpus → AreCapsRight os s.caps (length s.caps) → IsRefusedFor (StartRefused os cpus) e → IsRefusedFor (AfterTable s t) e
+wrong_start s t os cpus e opened apart is bound capped h = after_caps s t os cpus e opened apart is bound capped
+    (here {X = Unit {0}} (λ ok. StartInside os cpus (length cpus)) (StartRefused os cpus) (λ ok. ActionRefused s) e h)
+
+pub wrong_action : (s : Scenario) (t : Table) (os : List Opened) (cpus : List Binding) (e : InputError) → AllOpen t s.opens (length s.opens) → AreApart (memories_by t s.opens)
+    → os ≡ opened_by t s.opens → AreBound os s.cpus cpus → AreCapsRight os s.caps (length s.caps) → StartInside os cpus (length cpus)
+    → IsRefusedFor (ActionRefused s) e → IsRefusedFor (AfterTable s t) e
+wrong_action s t os cpus e opened apart is bound capped inside h = after_caps s t os cpus e opened apart is bound capped
+    (behind {X = Unit {0}} (λ ok. StartInside os cpus (length cpus)) (StartRefused os cpus) (λ ok. ActionRefused s) tt e inside h)
+
+-- ---- single checks
+
+pub first_meeting : (ms all : List (ℕ × ℕ × ℕ)) (found : Overlap) → ms ≡ all → IsFirstOverlap ms found → MeetRefused all (refusal.Meet found) × Unit {0}
+first_meeting ms all found is first = (FirstMeeting found (subst (λ (v : List (ℕ × ℕ × ℕ)). IsFirstOverlap v found) is first), tt)
+
+pub first_action_wrong : (s : Scenario) (place line : ℕ) (l : Line) (fault : ActionFault) → slice_get s.actions place ≡ Some l → AllNamed s place → action_fault s l ≡ Some fault
+    → line ≡ first_action s + place → ActionRefused s (refusal.Action line fault) × Unit {0}
+first_action_wrong s place line l fault at named wrong number =
+    (subst (λ (n : ℕ). ActionRefused s (refusal.Action n fault)) (sym number) (FirstAction place l fault at named wrong), tt)
+
+-- ---- what is set up
+
+pub is_set_up : (s : Scenario) (t : Table) (os new : List Opened) (cpus : List Binding) → TableBytes s.table t → AllOpen t s.opens (length s.opens) → AreApart (memories_by t s.opens)
+    → os ≡ opened_by t s.opens → AreBound os s.cpus cpus → AreCapsRight os s.caps (length s.caps) → StartInside os cpus (length cpus) → AllNamed s (length s.actions)
+    → new ≡ map (equipped cpus s.caps) os → Opens s new
+is_set_up s t os new cpus bytes opened apart is bound capped inside named made = record {
+  table = t;
+  checked = record {
+    table = bytes;
+    all_open = opened;
+    apart = apart;
+    cpus = cpus;
+    bound = subst (λ (v : List Opened). AreBound v s.cpus cpus) is bound;
+    capped = subst (λ (v : List Opened). AreCapsRight v s.caps (length s.caps)) is capped;
+    inside = subst (λ (v : List Opened). StartInside v cpus (length cpus)) is inside;
+    named = named;
+  };
+  list_is = made ∙ ap (map (equipped cpus s.caps)) is;
+}
+
+-- its bindings are those that were made
+pub same_cpus : (s : Scenario) (t : Table) (os : List Opened) (cpus : List Binding) → TableBytes s.table t → os ≡ opened_by t s.opens → AreBound os s.cpus cpus
+    → (u : Table) (h : IsSetUp s u) → h.cpus ≡ cpus
+same_cpus s t os cpus bytes is bound u h =
+    let same : u ≡ t = one_table s.table u t h.table bytes in
+    let moved : AreBound (opened_by t s.opens) s.cpus h.cpus = subst (λ (v : Table). AreBound (opened_by v s.opens) s.cpus h.cpus) same h.bound in
+    one_bound os s.cpus h.cpus cpus (subst (λ (v : List Opened). AreBound v s.cpus h.cpus) (sym is) moved) bound
+
+pub places_are : (s : Scenario) (t : Table) (os new : List Opened) (cpus : List Binding) (places : List CpuPlace) → TableBytes s.table t → os ≡ opened_by t s.opens → AreBound os s.cpus cpus
+    → ArePlaces new cpus places → (h : Opens s new) → ArePlaces new h.checked.cpus places
+places_are s t os new cpus places bytes is bound placed h =
+    subst (λ (v : List Binding). ArePlaces new v places) (sym (same_cpus s t os cpus bytes is bound h.table h.checked)) placed

@@ -1,3 +1,5 @@
 pub mod Openings
+pub mod Processors
+pub mod Equipment
 pub mod RefusalText
 pub mod SetUps

@@ -8,6 +8,9 @@ use Rattle.pcct_table.specs.declared.build.BuildKind.TheVariants as kind
 use Rattle.pcct_codec.specs.declared.fault.TableFault.{TableFault}
 use Rattle.pcct_codec.specs.declared.fault.TableFault.TheVariants.{Short, Signature, LengthOutside, Revision, TooMany, Overrun, SubspaceType, SubspaceLength, Checksum, ReadFault, NoMemory}
 use Rattle.cpc_package.specs.PackageText.{kind_text}
+use Rattle.cpc_package.specs.declared.binding.BindFault.{BindFault}
+use Rattle.cpc_package.specs.declared.binding.BindFault.TheVariants as bind
+use Rattle.cpc_package.specs.declared.fault.CpcFault.{CpcFault}
 use Rattle.pcc_wiring.specs.declared.fault.Role.{Role}
 use Rattle.pcc_wiring.specs.declared.fault.Role.TheVariants as role
 use Rattle.pcc_wiring.specs.declared.fault.WiringFault.{WiringFault}
@@ -15,7 +18,9 @@ use Rattle.pcc_wiring.specs.declared.fault.WiringFault.TheVariants as wiring
 use Rattle.pcc_setup.specs.declared.action.ActionFault.{ActionFault}
 use Rattle.pcc_setup.specs.declared.action.ActionFault.TheVariants.{NoCpu, NotBank}
 use Rattle.pcc_setup.specs.declared.opening.OpenFault.{OpenFault}
-use Rattle.pcc_setup.specs.declared.opening.OpenFault.TheVariants.{NoSubspace, OpenedTwice, Unwired}
+use Rattle.pcc_setup.specs.declared.opening.OpenFault.TheVariants.{ImageLong, NoSubspace, OpenedTwice, Unwired}
+use Rattle.pcc_setup.specs.declared.refusal.CpuFault.{CpuFault}
+use Rattle.pcc_setup.specs.declared.refusal.CpuFault.TheVariants as cpu
 use Rattle.pcc_setup.specs.declared.refusal.InputError.{InputError}
 use Rattle.pcc_setup.specs.declared.refusal.InputError.TheVariants as error
 use Rattle.pcc_setup.specs.declared.refusal.Refusal.{Refusal}
@@ -86,6 +91,35 @@ abbrev pub open_pieces : OpenFault → List Spelled
 open_pieces NoSubspace = Words (codes "no subspace") ∷ []
 open_pieces OpenedTwice = Words (codes "opened twice") ∷ []
 open_pieces (Unwired fault) = wiring_pieces fault
+open_pieces ImageLong = Words (codes "image long") ∷ []
+
+-- words and a number
+abbrev pub numbered : List ℕ → ℕ → List Spelled
+numbered word number = Words word ∷ Decimal number ∷ []
+
+-- what is wrong with a package, the number of the entry, and the place
+abbrev pub package_pieces : CpcFault → List Spelled
+package_pieces fault = Words (kind_text fault.kind) ∷ Words (codes " ") ∷ Decimal fault.entry ∷ Words (codes " ") ∷ Decimal fault.at ∷ []
+
+-- why a package can't be bound
+abbrev pub bind_pieces : BindFault → List Spelled
+bind_pieces (bind.NotPcc entry) = numbered (codes "not pcc ") entry
+bind_pieces (bind.TwoSubspaces entry) = numbered (codes "two subspaces ") entry
+bind_pieces (bind.BadWidth entry) = numbered (codes "bad width ") entry
+bind_pieces (bind.FieldOutside entry) = numbered (codes "outside ") entry
+bind_pieces (bind.FieldsOverlap a b) = Words (codes "overlap ") ∷ Decimal a ∷ Words (codes " ") ∷ Decimal b ∷ []
+bind_pieces bind.NoDesired = Words (codes "no desired") ∷ []
+bind_pieces (bind.NoBound entry) = numbered (codes "no bound ") entry
+bind_pieces (bind.BadScale lowest nominal highest) =
+    Words (codes "bad scale ") ∷ Decimal lowest ∷ Words (codes " ") ∷ Decimal nominal ∷ Words (codes " ") ∷ Decimal highest ∷ []
+
+-- why a processor isn't bound
+abbrev pub cpu_pieces : CpuFault → List Spelled
+cpu_pieces (cpu.Package fault) = package_pieces fault
+cpu_pieces (cpu.Trailing at) = numbered (codes "trailing ") at
+cpu_pieces cpu.NotOpened = Words (codes "not opened") ∷ []
+cpu_pieces (cpu.Unfit fault) = bind_pieces fault
+cpu_pieces (cpu.Shares other) = numbered (codes "shares ") other
 
 abbrev pub line_pieces : ℕ → List ℕ → List Spelled
 line_pieces line word = Words (codes "line ") ∷ Decimal line ∷ Words word ∷ []
@@ -97,11 +131,13 @@ refusal_pieces (refusal.TableText line wrong) = line_pieces line (kind_word wron
 refusal_pieces (refusal.Action line fault) = line_pieces line (action_word fault)
 refusal_pieces (refusal.Table fault) = Words (codes "table ") ∷ fault_pieces fault
 refusal_pieces (refusal.Trailing at) = Words (codes "table trailing ") ∷ Decimal at ∷ []
-refusal_pieces (refusal.Package fault) =
-    Words (codes "package ") ∷ Words (kind_text fault.kind) ∷ Words (codes " ") ∷ Decimal fault.entry ∷ Words (codes " ") ∷ Decimal fault.at ∷ []
+refusal_pieces (refusal.Package fault) = Words (codes "package ") ∷ package_pieces fault
 refusal_pieces (refusal.PackageTrailing at) = Words (codes "package trailing ") ∷ Decimal at ∷ []
 refusal_pieces (refusal.Open id fault) = Words (codes "open ") ∷ Decimal id ∷ Words (codes " ") ∷ open_pieces fault
 refusal_pieces (refusal.Meet found) = Words (codes "overlap ") ∷ Decimal found.a ∷ Words (codes " ") ∷ Decimal found.b ∷ []
+refusal_pieces (refusal.Cpu number fault) = Words (codes "cpu ") ∷ Decimal number ∷ Words (codes " ") ∷ cpu_pieces fault
+refusal_pieces (refusal.Cap index) = numbered (codes "cap ") index
+refusal_pieces (refusal.Start number) = numbered (codes "start ") number
 refusal_pieces (refusal.Use fault) = Words (codes "use ") ∷ Words (use_word fault) ∷ []
 refusal_pieces refusal.Unbuilt = Words (codes "unbuilt") ∷ []
 

@@ -1,6 +1,9 @@
--- The checks of a script's set-up in their order: the table, the `open` lines, the memories and the actions.
-use Rattle.std.specs.Prelude.{◌≡◌, ◌≤◌, ◌<◌, ℕ, ◌+◌, ◌==◌, ◌&&◌, nat_lt, Bool, true, false, if◌then◌else◌, List, ◌++◌, length, take, Option, Some, None, slice_get}
-use Rattle.std.specs.List.{list_all, list_any}
+-- The checks of a script's set-up in their order: the table, the `open` lines, the memories, the processors, the caps, the ranges at first, and the
+-- actions.
+use Rattle.std.specs.Prelude.{◌≡◌, ◌≤◌, ◌<◌, ℕ, ◌+◌, ◌==◌, ◌&&◌, nat_lt, Bool, true, false, if◌then◌else◌, List, ◌++◌, length, map, take, Option, Some, None, slice_get}
+use Rattle.std.specs.List.{AllByRecursion, list_all, list_any}
+use Rattle.pcc_bytes.specs.Bytes.{IsBytes}
+use Rattle.cpc_package.specs.declared.binding.Binding.{Binding}
 use Rattle.pcct_table.specs.declared.table.Table.{Table}
 use Rattle.pcct_codec.specs.declared.fault.TableFault.{TableFault}
 use Rattle.pcct_codec.specs.Faults.{Faulty, decision}
@@ -19,10 +22,13 @@ use Rattle.pcc_setup.specs.declared.opening.OpenFault.{OpenFault}
 use Rattle.pcc_setup.specs.declared.opening.Opened.{Opened}
 use Rattle.pcc_setup.specs.declared.refusal.Refusal.{Refusal}
 use Rattle.pcc_setup.specs.declared.refusal.Refusal.TheVariants as refusal
+use Rattle.pcc_setup.specs.declared.setup.SetUp.{SetUp}
 use Rattle.pcc_setup.specs.declared.setup.SetUpError.{SetUpError}
 use Rattle.pcc_setup.specs.declared.setup.SetUpError.TheVariants as error
 use Rattle.pcc_setup.specs.RefusalText.{HasLine, refused_line}
 use Rattle.pcc_setup.specs.Openings.{AllOpen, line_fault, memories_by, opened_by}
+use Rattle.pcc_setup.specs.Processors.{AreBound, CpuRefused}
+use Rattle.pcc_setup.specs.Equipment.{AreCapsRight, ArePlaces, CapRefused, StartInside, StartRefused, equipped}
 
 -- ---- the table
 
@@ -38,6 +44,12 @@ pub data TableRefused (bytes : List ℕ) : Refusal → Type 0 where
 pub data OpenRefused (t : Table) (opens : List OpenLine) : Refusal → Type 0 where
   FirstWrong : (i : ℕ) → (o : OpenLine) → (fault : OpenFault) → slice_get opens i ≡ Some o → AllOpen t opens i
       → line_fault t (take i opens) o ≡ Some fault → OpenRefused t opens (refusal.Open o.id fault)
+
+-- ---- the memories
+
+-- two memories meet, the first that do
+pub data MeetRefused (memories : List (ℕ × ℕ × ℕ)) : Refusal → Type 0 where
+  FirstMeeting : (found : Overlap) → IsFirstOverlap memories found → MeetRefused memories (refusal.Meet found)
 
 -- ---- actions
 
@@ -64,29 +76,63 @@ AllNamed s count = (i : ℕ) (l : Line) → i < count → slice_get s.actions i 
 abbrev pub first_action : Scenario → ℕ
 first_action s = 3 + length s.opens + length s.cpus + length s.caps
 
+-- the first action that is wrong, by the number of its line
+pub data ActionRefused (s : Scenario) : Refusal → Type 0 where
+  FirstAction : (i : ℕ) → (l : Line) → (fault : ActionFault) → slice_get s.actions i ≡ Some l → AllNamed s i → action_fault s l ≡ Some fault
+      → ActionRefused s (refusal.Action (first_action s + i) fault)
+
 -- ---- all checks
 
--- a script with this table passes each check
+-- A check fails with a refusal, or it passes with a value on which the later checks go, and one of these fails.
+pub data Fails {X : Type 0} (Passes : X → Type 0) (Refuses : Refusal → Type 0) (later : X → Refusal → Type 0) : Refusal → Type 0 where
+  Here : (r : Refusal) → Refuses r → Fails Passes Refuses later r
+  Later : (x : X) → Passes x → (r : Refusal) → later x r → Fails Passes Refuses later r
+
+-- the same of a check that passes with no value
+abbrev pub FailsOr : Type 0 → (Refusal → Type 0) → (Refusal → Type 0) → Refusal → Type 0
+FailsOr Passes Refuses later = Fails {X = Unit {0}} (λ ok. Passes) Refuses (λ ok. later)
+
+-- the checks behind each other, from the last to the first
+abbrev pub AfterCaps : Scenario → List Opened → List Binding → Refusal → Type 0
+AfterCaps s os cpus = FailsOr (StartInside os cpus (length cpus)) (StartRefused os cpus) (ActionRefused s)
+
+abbrev pub AfterCpus : Scenario → List Opened → List Binding → Refusal → Type 0
+AfterCpus s os cpus = FailsOr (AreCapsRight os s.caps (length s.caps)) (CapRefused os s.caps) (AfterCaps s os cpus)
+
+abbrev pub AfterMemories : Scenario → List Opened → Refusal → Type 0
+AfterMemories s os = Fails (AreBound os s.cpus) (CpuRefused os s.cpus) (AfterCpus s os)
+
+abbrev pub AfterOpens : Scenario → Table → Refusal → Type 0
+AfterOpens s t = FailsOr (AreApart (memories_by t s.opens)) (MeetRefused (memories_by t s.opens)) (AfterMemories s (opened_by t s.opens))
+
+abbrev pub AfterTable : Scenario → Table → Refusal → Type 0
+AfterTable s t = FailsOr (AllOpen t s.opens (length s.opens)) (OpenRefused t s.opens) (AfterOpens s t)
+
+-- The first check that a script fails. Where a line is wrong, those before it are right.
+abbrev pub SetUpRefused : Scenario → Refusal → Type 0
+SetUpRefused s = Fails (TableBytes s.table) (TableRefused s.table) (AfterTable s)
+
+-- a script with this table passes each check; its processors have these bindings
 pub record IsSetUp (s : Scenario) (t : Table) : Type 0 where
   pub table : TableBytes s.table t
   pub all_open : AllOpen t s.opens (length s.opens)
   pub apart : AreApart (memories_by t s.opens)
+  pub cpus : List Binding
+  pub bound : AreBound (opened_by t s.opens) s.cpus cpus
+  pub capped : AreCapsRight (opened_by t s.opens) s.caps (length s.caps)
+  pub inside : StartInside (opened_by t s.opens) cpus (length cpus)
   pub named : AllNamed s (length s.actions)
 
--- these subspaces are what a script opens, which passes each check
+-- these subspaces are what a script opens, which passes each check; each has the processors and the caps with its ID
 pub record Opens (s : Scenario) (opened : List Opened) : Type 0 where
   pub table : Table
   pub checked : IsSetUp s table
-  pub list_is : opened ≡ opened_by table s.opens
+  pub list_is : opened ≡ map (equipped checked.cpus s.caps) (opened_by table s.opens)
 
--- The first check that a script fails. Where an `open` line or an action is wrong, those before it are right.
-pub data SetUpRefused (s : Scenario) : Refusal → Type 0 where
-  WrongTable : (r : Refusal) → TableRefused s.table r → SetUpRefused s r
-  WrongOpen : (t : Table) → TableBytes s.table t → (r : Refusal) → OpenRefused t s.opens r → SetUpRefused s r
-  Meeting : (t : Table) → TableBytes s.table t → AllOpen t s.opens (length s.opens) → (found : Overlap)
-      → IsFirstOverlap (memories_by t s.opens) found → SetUpRefused s (refusal.Meet found)
-  WrongAction : (t : Table) → TableBytes s.table t → AllOpen t s.opens (length s.opens) → AreApart (memories_by t s.opens)
-      → (i : ℕ) → (l : Line) → (fault : ActionFault) → slice_get s.actions i ≡ Some l → AllNamed s i → action_fault s l ≡ Some fault → SetUpRefused s (refusal.Action (first_action s + i) fault)
+-- a set-up has what a script opens, and the place of each processor
+pub record IsSetUpOf (s : Scenario) (u : SetUp) : Type 0 where
+  pub opens : Opens s u.opened
+  pub places : (h : Opens s u.opened) → ArePlaces u.opened h.checked.cpus u.places
 
 -- ---- right, or refused
 

@@ -1,16 +1,21 @@
-//! What a script opens: its table, its subspaces and its actions are checked in their order, and one line reports the first check that fails.
+//! What a script opens: its table, its subspaces, its processors, its caps and its actions are checked in their order, and one line reports the
+//! first check that fails.
 #![tactic(auto)]
 
 mod action;
+mod equipment;
 mod opening;
+mod places;
+mod processor;
 mod refusal;
 mod setup;
 mod table;
 mod text;
 
 pub use action::{ActionFault, are_banks, opens_banks};
-pub use opening::{OpenFault, Opened, OpenedList};
-pub use refusal::{InputError, Refusal, UseFault};
+pub use opening::{Caps, OpenFault, Opened, OpenedList};
+pub use places::{CpuPlace, CpuPlaces};
+pub use refusal::{CpuFault, InputError, Refusal, UseFault};
 pub use setup::{SetUp, SetUpError, first_action, set_up, set_up_laws};
 pub use table::{whole_table, whole_table_laws};
 pub use text::refused_line;

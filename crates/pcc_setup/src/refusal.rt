@@ -4,12 +4,13 @@ ghost use Rattle.pcc_setup.specs.declared.refusal.InputError.TheVariants.{NoMemo
 
 use crate::action::ActionFault;
 use crate::opening::OpenFault;
-use cpc_package::CpcFault;
+use cpc_package::{BindFault, CpcFault};
 use pcc_io::NoMemory;
 use pcc_script::ScriptKind;
 use pcc_wiring::Overlap;
 use pcct_codec::TableFault;
 use pcct_table::BuildKind;
+use std::alloc::AllocFailed;
 
 /// What a command needs of a script.
 #[derive(Clone, Copy, Debug, PartialEq, Eq)]
@@ -24,7 +25,22 @@ pub enum UseFault {
     Wait,
 }
 
-/// Why an input is refused. Lines count from 1.
+/// Why a processor isn't bound.
+#[derive(Clone, Copy, Debug, PartialEq, Eq)]
+pub enum CpuFault {
+    /// The bytes begin with no package: the first thing that is wrong.
+    Package(CpcFault),
+    /// Bytes follow the package, from this place on.
+    Trailing { at: usize },
+    /// No register lies in the space of communication channels, or the subspace of the first one that does isn't opened for a controller.
+    NotOpened,
+    /// The registers don't fit the controller's communication space: the first fault.
+    Unfit(BindFault),
+    /// A register shares a bit with one of an earlier processor, the first of these.
+    Shares { cpu: usize },
+}
+
+/// Why an input is refused. Lines count from 1, processors and caps from 0.
 #[derive(Clone, Copy, Debug, PartialEq, Eq)]
 pub enum Refusal {
     /// More bytes than the program reads.
@@ -47,6 +63,12 @@ pub enum Refusal {
     Open { id: u8, fault: OpenFault },
     /// The memories of two opened subspaces meet.
     Meet(Overlap),
+    /// The processor of this number can't be bound.
+    Cpu { cpu: usize, fault: CpuFault },
+    /// The cap of this number is on no opened controller, or doesn't begin after each earlier cap on the same one.
+    Cap { index: usize },
+    /// The processor of this number is out of its range at first.
+    Start { cpu: usize },
     /// The command can't be used with the script.
     Use(UseFault),
     /// A script that asks the command for something that isn't built yet.
@@ -64,6 +86,14 @@ impl From<NoMemory> for InputError {
     ghost from_gives = { λ _ e. e ≡ OutOfMemory };
 
     fn from(_: NoMemory) -> InputError {
+        InputError::NoMemory
+    }
+}
+
+impl<T: Drop> From<AllocFailed<T>> for InputError {
+    ghost from_gives = { λ _ e. e ≡ OutOfMemory };
+
+    fn from(_: AllocFailed<T>) -> InputError {
         InputError::NoMemory
     }
 }

@@ -2,13 +2,14 @@
 ghost use Rattle.std.specs.Prelude.{◌≡◌, ◌++◌, ◌∷◌, [], IfOk, OnOk};
 ghost use Rattle.pcc_text.specs.Pieces.{Decimal, Words, spelled};
 ghost use Rattle.pcct_codec.specs.declared.fault.TableFault.TheVariants.{SubspaceLength, SubspaceType};
+ghost use Rattle.cpc_package.specs.declared.binding.BindFault.TheVariants as bind;
 ghost use Rattle.pcc_setup.specs.declared.refusal.Refusal.TheVariants as refusal;
-ghost use Rattle.pcc_setup.specs.RefusalText.{HasLine, IsTold, action_word, fault_pieces, kind_word, line_pieces, open_pieces, refusal_pieces, refused_line, role_word, script_word, use_word, wiring_pieces};
+ghost use Rattle.pcc_setup.specs.RefusalText.{HasLine, IsTold, action_word, bind_pieces, cpu_pieces, fault_pieces, kind_word, line_pieces, numbered, open_pieces, package_pieces, refusal_pieces, refused_line, role_word, script_word, use_word, wiring_pieces};
 
 use crate::action::ActionFault;
 use crate::opening::OpenFault;
-use crate::refusal::{Refusal, UseFault};
-use cpc_package::CpcFault;
+use crate::refusal::{CpuFault, Refusal, UseFault};
+use cpc_package::{BindFault, CpcFault};
 use pcc_io::NoMemory;
 use pcc_script::ScriptKind;
 use pcc_text::{Piece, put, put_pieces};
@@ -17,10 +18,10 @@ use pcct_codec::TableFault;
 use pcct_table::BuildKind;
 use std::alloc::Global;
 
-fn put_word_number(out: &mut Vec<u8>, word: &[u8], number: u32) -> Result<(), NoMemory>
-    ensures { OnOk result (out.new.items ≡ out.old.items ++ spelled (Words word.now ∷ Decimal number ∷ [])) }
+fn put_numbered(out: &mut Vec<u8>, word: &[u8], number: u64) -> Result<(), NoMemory>
+    ensures { OnOk result (out.new.items ≡ out.old.items ++ spelled (numbered word.now number)) }
 {
-    put_pieces(out, &[Piece::Text(word), Piece::Number(number as u64)])
+    put_pieces(out, &[Piece::Text(word), Piece::Number(number)])
 }
 
 fn put_type(out: &mut Vec<u8>, at: u32, kind: u8) -> Result<(), NoMemory>
@@ -58,15 +59,15 @@ fn put_fault(out: &mut Vec<u8>, fault: TableFault) -> Result<(), NoMemory>
     ensures { OnOk result (out.new.items ≡ out.old.items ++ spelled (fault_pieces fault)) }
 {
     match fault {
-        TableFault::Short { at } => put_word_number(out, b"short ", at),
+        TableFault::Short { at } => put_numbered(out, b"short ", at as u64),
         TableFault::Signature => put_pieces(out, &[Piece::Text(b"signature")]),
-        TableFault::LengthOutside { len } => put_word_number(out, b"length ", len),
-        TableFault::Revision { found } => put_word_number(out, b"revision ", u32::from(found)),
-        TableFault::TooMany { at } => put_word_number(out, b"many ", at),
-        TableFault::Overrun { at } => put_word_number(out, b"overrun ", at),
+        TableFault::LengthOutside { len } => put_numbered(out, b"length ", len as u64),
+        TableFault::Revision { found } => put_numbered(out, b"revision ", found as u64),
+        TableFault::TooMany { at } => put_numbered(out, b"many ", at as u64),
+        TableFault::Overrun { at } => put_numbered(out, b"overrun ", at as u64),
         TableFault::SubspaceType { at, kind } => put_type(out, at, kind),
         TableFault::SubspaceLength { at, kind, found } => put_size(out, at, kind, found),
-        TableFault::Checksum { sum } => put_word_number(out, b"checksum ", u32::from(sum)),
+        TableFault::Checksum { sum } => put_numbered(out, b"checksum ", sum as u64),
         TableFault::ReadFault | TableFault::NoMemory => unreachable!(),
     }
 }
@@ -118,6 +119,7 @@ fn put_open_fault(out: &mut Vec<u8>, fault: OpenFault) -> Result<(), NoMemory>
         OpenFault::NoSubspace => put_pieces(out, &[Piece::Text(b"no subspace")]),
         OpenFault::OpenedTwice => put_pieces(out, &[Piece::Text(b"opened twice")]),
         OpenFault::Unwired(fault) => put_wiring_fault(out, fault),
+        OpenFault::ImageLong => put_pieces(out, &[Piece::Text(b"image long")]),
     }
 }
 
@@ -215,13 +217,12 @@ fn put_use(out: &mut Vec<u8>, fault: UseFault) -> Result<(), NoMemory>
 }
 
 fn put_package(out: &mut Vec<u8>, fault: CpcFault) -> Result<(), NoMemory>
-    ensures { OnOk result (out.new.items ≡ out.old.items ++ spelled (refusal_pieces (refusal.Package fault))) }
+    ensures { OnOk result (out.new.items ≡ out.old.items ++ spelled (package_pieces fault)) }
 {
     let kind = fault.kind.text();
     put_pieces(
         out,
         &[
-            Piece::Text(b"package "),
             Piece::Text(kind),
             Piece::Text(b" "),
             Piece::Number(fault.entry as u64),
@@ -229,6 +230,86 @@ fn put_package(out: &mut Vec<u8>, fault: CpcFault) -> Result<(), NoMemory>
             Piece::Number(fault.at as u64),
         ],
     )
+}
+
+fn put_fields_overlap(out: &mut Vec<u8>, a: u8, b: u8) -> Result<(), NoMemory>
+    ensures { OnOk result (out.new.items ≡ out.old.items ++ spelled (bind_pieces (bind.FieldsOverlap a b))) }
+{
+    put_pieces(
+        out,
+        &[
+            Piece::Text(b"overlap "),
+            Piece::Number(a as u64),
+            Piece::Text(b" "),
+            Piece::Number(b as u64),
+        ],
+    )
+}
+
+fn put_scale(
+    out: &mut Vec<u8>,
+    lowest: u64,
+    nominal: u64,
+    highest: u64,
+) -> Result<(), NoMemory>
+    ensures { OnOk result (out.new.items ≡ out.old.items ++ spelled (bind_pieces (bind.BadScale lowest nominal highest))) }
+{
+    put_pieces(
+        out,
+        &[
+            Piece::Text(b"bad scale "),
+            Piece::Number(lowest),
+            Piece::Text(b" "),
+            Piece::Number(nominal),
+            Piece::Text(b" "),
+            Piece::Number(highest),
+        ],
+    )
+}
+
+fn put_bind_fault(out: &mut Vec<u8>, fault: BindFault) -> Result<(), NoMemory>
+    ensures { OnOk result (out.new.items ≡ out.old.items ++ spelled (bind_pieces fault)) }
+{
+    match fault {
+        BindFault::NotPcc { entry } => put_numbered(out, b"not pcc ", entry as u64),
+        BindFault::TwoSubspaces { entry } => put_numbered(out, b"two subspaces ", entry as u64),
+        BindFault::BadWidth { entry } => put_numbered(out, b"bad width ", entry as u64),
+        BindFault::FieldOutside { entry } => put_numbered(out, b"outside ", entry as u64),
+        BindFault::FieldsOverlap { a, b } => put_fields_overlap(out, a, b),
+        BindFault::NoDesired => put_pieces(out, &[Piece::Text(b"no desired")]),
+        BindFault::NoBound { entry } => put_numbered(out, b"no bound ", entry as u64),
+        BindFault::BadScale {
+            lowest,
+            nominal,
+            highest,
+        } => put_scale(out, lowest, nominal, highest),
+    }
+}
+
+fn put_cpu_fault(out: &mut Vec<u8>, fault: CpuFault) -> Result<(), NoMemory>
+    ensures { OnOk result (out.new.items ≡ out.old.items ++ spelled (cpu_pieces fault)) }
+{
+    match fault {
+        CpuFault::Package(fault) => put_package(out, fault),
+        CpuFault::Trailing { at } => put_numbered(out, b"trailing ", at as u64),
+        CpuFault::NotOpened => put_pieces(out, &[Piece::Text(b"not opened")]),
+        CpuFault::Unfit(fault) => put_bind_fault(out, fault),
+        CpuFault::Shares { cpu } => put_numbered(out, b"shares ", cpu as u64),
+    }
+}
+
+fn put_cpu(out: &mut Vec<u8>, cpu: usize, fault: CpuFault) -> Result<(), NoMemory>
+    ensures { OnOk result (out.new.items ≡ out.old.items ++ spelled (refusal_pieces (refusal.Cpu cpu fault))) }
+{
+    put_pieces(
+        out,
+        &[
+            Piece::Text(b"cpu "),
+            Piece::Number(cpu as u64),
+            Piece::Text(b" "),
+        ],
+    )?;
+    put_cpu_fault(out, fault)
 }
 
 fn put_refusal(out: &mut Vec<u8>, refusal: Refusal) -> Result<(), NoMemory>
@@ -248,13 +329,19 @@ fn put_refusal(out: &mut Vec<u8>, refusal: Refusal) -> Result<(), NoMemory>
             out,
             &[Piece::Text(b"table trailing "), Piece::Number(at as u64)],
         ),
-        Refusal::Package(fault) => put_package(out, fault),
+        Refusal::Package(fault) => {
+            put(out, b"package ")?;
+            put_package(out, fault)
+        }
         Refusal::PackageTrailing { at } => put_pieces(
             out,
             &[Piece::Text(b"package trailing "), Piece::Number(at as u64)],
         ),
         Refusal::Open { id, fault } => put_open(out, id, fault),
         Refusal::Meet(found) => put_overlap(out, found),
+        Refusal::Cpu { cpu, fault } => put_cpu(out, cpu, fault),
+        Refusal::Cap { index } => put_numbered(out, b"cap ", index as u64),
+        Refusal::Start { cpu } => put_numbered(out, b"start ", cpu as u64),
         Refusal::Use(fault) => put_use(out, fault),
         Refusal::Unbuilt => put_pieces(out, &[Piece::Text(b"unbuilt")]),
     }

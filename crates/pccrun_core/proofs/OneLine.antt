@@ -18,8 +18,7 @@ use Rattle.pcc_setup.specs.declared.refusal.Refusal.{Refusal}
 use Rattle.pcc_setup.specs.declared.refusal.Refusal.TheVariants as refusal
 use Rattle.pcc_setup.specs.declared.refusal.UseFault.{UseFault}
 use Rattle.pcc_setup.specs.SetUps.{HasRefusal, HasSetUp, IsSetUp}
-use Rattle.pcc_setup.proofs.Checks.{set_up_kept}
-use Rattle.pcc_setup.proofs.OneFault.{one_refusal, one_set_up_table, set_up_or_refused}
+use Rattle.pcc_setup.proofs.OneFault.{one_refusal, one_set_up_table, set_up_kept, set_up_or_refused}
 use Rattle.pcc_setup.proofs.WholeTables.{one_table_refusal, whole_or_refused}
 use Rattle.script_run.specs.Built.{is_built}
 use Rattle.script_run.specs.ScriptRuns.{step_text}
@@ -31,7 +30,7 @@ use Rattle.pccrun_core.specs.Inputs.{Exceeds, IsAccepted, IsRejected, Rejects, W
 use Rattle.pccrun_core.specs.Refusals.{BySetUp, ByUse, IsScript, IsSpelled, NotBuilt, NotServed, Refuses, ScriptRefused, TextRefused, Unserved, WrongLine, WrongScript}
 use Rattle.pccrun_core.specs.Uses.{use_fault}
 use Rattle.pccrun_core.proofs.Packaged.{NotBoth, OneFault, OnePackage, OneSpelling, SomePackage, one_package_refusal, package_or_refused}
-use Rattle.pccrun_core.proofs.Refused.{one_scenario}
+use Rattle.pccrun_core.proofs.Refused.{packages_are_bytes, one_scenario}
 use Rattle.pccrun_core.proofs.Tops.{kept}
 
 -- ---- scripts
@@ -49,7 +48,7 @@ by_set_up c text s h (inr failed) = inr (failed.cause, Unserved s h failed.cause
 
 by_built : (c : Command) (text : List ℕ) (s : Scenario) → IsSpelled text s → (b : Bool) → is_built s ≡ b → ScriptOr c text
 by_built c text s h false none = inr (refusal.Unbuilt, NotBuilt s h none)
-by_built c text s h true built = by_set_up c text s (record { spells = h; built = built }) (set_up_or_refused s)
+by_built c text s h true built = by_set_up c text s (record { spells = h; built = built }) (set_up_or_refused s (packages_are_bytes s built))
 
 no_scenario : (text : List ℕ) → ScriptFault text → (s : Scenario) → IsSpelled text s → ⊥
 no_scenario text f s h = text_not_both text (record { scenario = s; right = h.scenario; spelled = h.spelled }) f

@@ -1,5 +1,5 @@
 -- Why inputs are refused, and that no served input is.
-use Rattle.std.proofs.Common.{◌≡◌, ℕ, true, false, List, subst, Ok, Err}
+use Rattle.std.proofs.Common.{◌≡◌, ◌<◌, ◌^◌, ◌==◌, ◌&&◌, ℕ, true, false, List, [], ◌∷◌, length, refl, sym, subst, arith, Ok, Err}
 use Rattle.std.specs.Prelude.{Some, None}
 use Rattle.pcc_script.specs.Faults.{IsReadAs}
 use Rattle.pcc_script.specs.Text.{IsScenario, script_text, statements_of}
@@ -22,16 +22,18 @@ use Rattle.pccrun_core.specs.declared.error.CommandError.TheVariants as error
 use Rattle.pcc_setup.specs.declared.refusal.Refusal.{Refusal}
 use Rattle.pcc_setup.specs.declared.refusal.Refusal.TheVariants as refusal
 use Rattle.pcc_script.specs.Faults.{TextWrong as ScriptWrong}
-use Rattle.std.specs.List.{list_all}
-use Rattle.pcc_setup.specs.SetUps.{IfLine, Opens, SetUpRefused, opens_banks}
-use Rattle.pcc_setup.proofs.Checks.{set_up_kept}
+use Rattle.std.specs.List.{AllByRecursion, list_all}
+use Rattle.std.proofs.lemmas.Bool.Decides.{nat_tests}
+use Rattle.pcc_bytes.specs.Bytes.{IsBytes}
+use Rattle.pcc_setup.specs.SetUps.{IfLine, Opens, SetUpRefused, is_bank, opens_banks}
+use Rattle.pcc_setup.proofs.OneFault.{set_up_kept}
 use Rattle.pcc_setup.specs.declared.opening.Opened.{Opened}
 use Rattle.pcc_setup.specs.declared.refusal.UseFault.{UseFault}
 use Rattle.pccrun_core.specs.Answers.{IsServedScript, OpensFor, ServedBy, Serves}
 use Rattle.pccrun_core.specs.CommandErrors.{IsRefusedBy}
 use Rattle.pccrun_core.specs.Refusals.{BySetUp, ByUse, IsScript, IsSpelled, NotBuilt, NotServed, ScriptRefused, TextRefused, Unserved, WrongLine, WrongScript}
 use Rattle.script_run.specs.Built.{is_built, is_built_line}
-use Rattle.script_run.proofs.OpenedScripts.{left_of}
+use Rattle.script_run.proofs.OpenedScripts.{both_of, left_of}
 use Rattle.pccrun_core.specs.Uses.{use_fault}
 
 -- ---- texts of tables
@@ -62,9 +64,25 @@ unfolding script_text
 one_scenario text s u h k =
     is_only text (Ok s) u (reads_again text (statements_of s) h.scenario.right h.scenario.whole h.spelled) k.scenario k.spelled
 
--- what is built opens Banks alone
-pub banks_alone : (text : List ℕ) (s : Scenario) → IsScript text s → opens_banks s ≡ true
-banks_alone text s h = left_of (opens_banks s) (list_all is_built_line s.actions) h.built
+-- what is built has no processors
+pub no_cpus : (s : Scenario) → is_built s ≡ true → s.cpus ≡ []
+no_cpus s built =
+    let banks : opens_banks s ≡ true = left_of (opens_banks s) (list_all is_built_line s.actions) built in
+    let front : (list_all (λ o. is_bank o.device) s.opens && length s.cpus == 0) ≡ true =
+    left_of (list_all (λ o. is_bank o.device) s.opens && length s.cpus == 0) (length s.caps == 0) banks in
+    let test : (length s.cpus == 0) ≡ true = both_of (list_all (λ o. is_bank o.device) s.opens) (length s.cpus == 0) front in
+    let none : length s.cpus ≡ 0 = grind (arith, nat_tests) in
+    empty s.cpus none
+  where
+    empty : (xs : List (List ℕ)) → length xs ≡ 0 → xs ≡ []
+    empty [] e = refl
+    empty (x ∷ xs) e = absurd (omega (arith, e))
+
+pub small_packages : (text : List ℕ) (s : Scenario) → IsScript text s → AllByRecursion (λ bytes. length bytes < 2 ^ 32) s.cpus
+small_packages text s h = subst (AllByRecursion (λ bytes. length bytes < 2 ^ 32)) (sym (no_cpus s h.built)) tt
+
+pub packages_are_bytes : (s : Scenario) → is_built s ≡ true → AllByRecursion IsBytes s.cpus
+packages_are_bytes s built = subst (AllByRecursion IsBytes) (sym (no_cpus s built)) tt
 
 -- a scenario that isn't served
 pub not_served : (cmd : Command) (text : List ℕ) (s : Scenario) (e : CommandError) → IsScript text s → IsRefusedBy (NotServed cmd s) e → IsRefusedBy (ScriptRefused cmd text) e

@@ -1,5 +1,5 @@
 -- A script that `weave` serves opens one subspace, and has calls alone.
-use Rattle.std.proofs.Common.{◌≡◌, ℕ, ◌<◌, ◌==◌, ◌||◌, not, Bool, true, false, if◌then◌else◌, List, [], ◌∷◌, ◌++◌, length, get_or, take, refl, sym, ap, ◌∙◌, subst, arith}
+use Rattle.std.proofs.Common.{◌≡◌, ℕ, ◌<◌, ◌==◌, ◌||◌, not, Bool, true, false, if◌then◌else◌, List, [], ◌∷◌, ◌++◌, length, map, get_or, take, refl, sym, ap, ◌∙◌, subst, arith}
 use Rattle.std.specs.Prelude.{Option, Some, None, is_none, slice_get}
 use Rattle.std.specs.List.{AllByRecursion, list_all, list_any}
 use Rattle.std.proofs.lemmas.Bool.Decides.{nat_tests}
@@ -10,7 +10,9 @@ use Rattle.pcc_script.specs.declared.scenario.Line.TheVariants as line
 use Rattle.pcc_script.specs.declared.scenario.OpenLine.{OpenLine}
 use Rattle.pcc_script.specs.declared.scenario.Scenario.{Scenario}
 use Rattle.pcc_setup.specs.declared.opening.Opened.{Opened}
-use Rattle.pcc_setup.specs.Openings.{head_of, line_fault, opened_by, opened_with}
+use Rattle.cpc_package.specs.declared.binding.Binding.{Binding}
+use Rattle.pcc_setup.specs.Equipment.{equipped}
+use Rattle.pcc_setup.specs.Openings.{head_of, image_of, line_fault, opened_by, opened_with}
 use Rattle.pcc_setup.specs.SetUps.{is_bank}
 use Rattle.pcc_setup.specs.declared.refusal.UseFault.TheVariants.{Bank, Many, Pick, Wait}
 use Rattle.pcc_wiring.specs.declared.fault.Asks.TheVariants.{System}
@@ -62,8 +64,12 @@ alone input s os h =
     let some : 0 < length s.opens = let n : length s.opens ≡ 1 = ap length one.1 in omega (arith, n) in
     let first : line_fault t (take 0 s.opens) o ≡ None = h.opens_for.opens.checked.all_open 0 o some at in
     let u = there o.device (slice_get t.subspaces o.id) first in
-    let x : Opened = record { head = head_of o.id u.0; wiring = wiring_with o.id t.flags u.0; image = [] } in
-    let is : os ≡ x ∷ [] = h.opens_for.opens.list_is ∙ ap (opened_by t) one.1 ∙ ap (λ (m : Option Subspace). opened_with o.id t.flags m ++ []) u.1 in
+    let cpus : List Binding = h.opens_for.opens.checked.cpus in
+    let bare : Opened = record { head = head_of o.device o.id u.0; wiring = wiring_with o.id t.flags u.0; image = image_of o.device; cpus = []; caps = [] } in
+    let x : Opened = equipped cpus s.caps bare in
+    let is : os ≡ x ∷ [] =
+    h.opens_for.opens.list_is ∙ ap (λ (v : List OpenLine). map (equipped cpus s.caps) (opened_by t v)) one.1
+    ∙ ap (λ (m : Option Subspace). map (equipped cpus s.caps) (opened_with o.device o.id t.flags m ++ [])) u.1 in
     (x, is, record { open_line = o; opens = one.1; subspace = u.0; structure = u.1; head = refl; wiring = refl }, u.2)
 
 -- the first of them

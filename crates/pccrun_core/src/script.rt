@@ -1,7 +1,8 @@
 //! A script with what it opens, as far as `step` and `weave` serve it.
-ghost use Rattle.std.specs.Prelude.{◌≡◌, true, IfOk, MatchResult};
+ghost use Rattle.std.specs.Prelude.{◌<◌, ◌^◌, IfOk, MatchResult, length};
+ghost use Rattle.std.specs.List.{AllByRecursion};
 ghost use Rattle.pcc_script.specs.Limits.{IsWithin};
-ghost use Rattle.pcc_setup.specs.SetUps.{Opens, opens_banks};
+ghost use Rattle.pcc_setup.specs.SetUps.{Opens};
 ghost use Rattle.pccrun_core.specs.Answers.{OpensFor, Serves};
 ghost use Rattle.pccrun_core.specs.CommandErrors.{IsRefusedBy};
 ghost use Rattle.pccrun_core.specs.Refusals.{IsScript, NotServed, ScriptRefused};
@@ -58,7 +59,7 @@ fn used(command: Command, scenario: &Scenario, set_up: SetUp) -> Result<OpenedLi
 // What a script opens, where the command can be used with it.
 #[tactic(auto, using(crate::proofs::Refused::not_set_up))]
 fn opened(alloc: Global, command: Command, scenario: &Scenario) -> Result<OpenedList, CommandError>
-    requires { opens_banks scenario.now ≡ true }
+    requires { AllByRecursion (λ bytes. length bytes < 2 ^ 32) scenario.now.cpus }
     ensures { MatchResult result (OpensFor command scenario.now) (IsRefusedBy (NotServed command scenario.now)) }
 {
     match set_up(alloc, scenario) {
@@ -68,7 +69,7 @@ fn opened(alloc: Global, command: Command, scenario: &Scenario) -> Result<Opened
 }
 
 /// The script that a text spells, where the command serves it.
-#[tactic(auto, using(crate::proofs::Refused::banks_alone, crate::proofs::Refused::not_served, crate::proofs::Refused::is_served))]
+#[tactic(auto, using(crate::proofs::Refused::small_packages, crate::proofs::Refused::not_served, crate::proofs::Refused::is_served))]
 pub fn served_script(alloc: Global, command: Command, text: &[u8]) -> Result<Served, CommandError>
     ensures script { MatchResult result (λ x. Serves command text.now x.scenario x.opened) (IsRefusedBy (ScriptRefused command text.now)) }
     ensures within { IfOk result (λ x. IsWithin x.scenario) }

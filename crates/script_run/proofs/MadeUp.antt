@@ -1,7 +1,7 @@
 -- A made-up script passes all checks of its set-up, and its summary is that of its run.
-use Rattle.std.proofs.Common.{◌≡◌, ℕ, zero, suc, Bool, true, false, List, [], ◌∷◌, ◌++◌, length, get_or, map, refl, sym, ap, ◌∙◌, subst, arith}
+use Rattle.std.proofs.Common.{◌≡◌, ◌<◌, ◌^◌, ℕ, zero, suc, Bool, true, false, List, [], ◌∷◌, ◌++◌, length, get_or, map, refl, sym, ap, ◌∙◌, subst, arith}
 use Rattle.std.specs.Prelude.{Option, Some, None, Result, Ok, Err, IfOk, slice_get}
-use Rattle.std.specs.List.{list_all, range_with_len}
+use Rattle.std.specs.List.{AllByRecursion, list_all, range_with_len}
 use Rattle.std.proofs.lemmas.List.{append-nil, length-map}
 use Rattle.std.proofs.lemmas.List.FromFn.{length-map-range_with_len}
 use Rattle.std.proofs.lemmas.Option.{same_Some}
@@ -11,10 +11,11 @@ use Rattle.pcc_script.specs.declared.scenario.Line.{Line}
 use Rattle.pcc_script.specs.declared.scenario.OpenLine.{OpenLine}
 use Rattle.pcc_script.specs.declared.scenario.Scenario.{Scenario}
 use Rattle.pcc_setup.specs.declared.opening.Opened.{Opened}
+use Rattle.pcc_setup.specs.Equipment.{equipped}
 use Rattle.pcc_setup.specs.Openings.{AllOpen, line_fault, opened_by, opened_with}
-use Rattle.pcc_setup.specs.SetUps.{IfLine, IsSetUp, Opens, SetUpRefused, action_fault, opens_banks}
+use Rattle.pcc_setup.specs.SetUps.{IfLine, IsSetUp, Opens, SetUpRefused, action_fault}
 use Rattle.pcc_setup.specs.declared.setup.SetUpError.TheVariants as error
-use Rattle.pcc_setup.proofs.Checks.{set_up_kept}
+use Rattle.pcc_setup.proofs.OneFault.{set_up_kept}
 use Rattle.pcc_text.specs.Pieces.{spelled}
 use Rattle.pcct_codec.specs.Tables.{TableBytes}
 use Rattle.pcct_codec.specs.Worked.{one_generic}
@@ -28,7 +29,7 @@ use Rattle.script_run.specs.Built.{is_built, is_built_line}
 use Rattle.script_run.specs.StepRun.{Run, step_run}
 use Rattle.script_run.specs.Summaries.{IsSummary, count_pending, counts_of, records_of, summary_pieces, summary_text}
 use Rattle.script_run.specs.declared.counts.Counts.{Counts}
-use Rattle.script_run.proofs.Several.{has_structure, opened_channel, run_length, set_up_headlines, set_up_opened}
+use Rattle.script_run.proofs.Several.{equipped_channels, has_structure, opened_channel, run_length, set_up_headlines, set_up_opened}
 
 -- ---- the summary
 
@@ -39,7 +40,9 @@ if_ok_more (Err e) P Q f h = tt
 -- it leaves one channel
 pub some_channel : (s : Scenario) (os : List Opened) (cs after : List Channel) → Opens s os → length os ≡ 1 → ((h : Opens s os) → cs ≡ set_up_of s h.table) → (step_run (asks_of s) cs).channels ≡ after → length after ≡ 1
 some_channel s os cs after h alone opened left =
-    ap length (sym left) ∙ run_length (asks_of s) cs ∙ ap length (opened h ∙ set_up_opened s h.table ∙ ap (map (opened_channel (clock_of s))) (sym h.list_is)) ∙ length-map os (opened_channel (clock_of s)) ∙ alone
+    ap length (sym left) ∙ run_length (asks_of s) cs
+    ∙ ap length (opened h ∙ set_up_opened s h.table ∙ sym (equipped_channels (clock_of s) h.checked.cpus s.caps (opened_by h.table s.opens))
+    ∙ ap (map (opened_channel (clock_of s))) (sym h.list_is)) ∙ length-map os (opened_channel (clock_of s)) ∙ alone
 
 pub some_device : (s : Scenario) (os : List Opened) (cs : List Channel) (after : List DeviceChannel) → Opens s os → length os ≡ 1 → ((h : Opens s os) → cs ≡ set_up_of s h.table) → (step_run (asks_of s) cs).channels ≡ channels_by after → length after ≡ 1
 some_device s os cs after h alone opened left = sym (length-map after channel_of) ∙ some_channel s os cs (channels_by after) h alone opened left
@@ -79,10 +82,10 @@ pub made_built : (n : ℕ) → is_built (made_scenario_of n) ≡ true
 unfolding made_scenario_of made_calls
 made_built n = all_calls is_built_line (range_with_len 0 n) (λ place. refl)
 
--- it opens Banks alone
-pub made_banks : (n : ℕ) (s : Scenario) → s ≡ made_scenario_of n → opens_banks s ≡ true
+-- it has no processors
+pub made_packages : (n : ℕ) (s : Scenario) → s ≡ made_scenario_of n → AllByRecursion (λ bytes. length bytes < 2 ^ 32) s.cpus
 unfolding made_scenario_of
-made_banks n s is = ap opens_banks is
+made_packages n s is = subst (λ (u : Scenario). AllByRecursion (λ bytes. length bytes < 2 ^ 32) u.cpus) (sym is) tt
 
 made_length : (n : ℕ) → length (made_scenario_of n).actions ≡ n
 unfolding made_scenario_of made_calls
@@ -94,7 +97,8 @@ unfolding made_scenario_of
 made_alone n s os is h =
     let set_up : IsSetUp (made_scenario_of n) h.table = subst (λ (u : Scenario). IsSetUp u h.table) is h.checked in
     let there : (u : Subspace) × (slice_get h.table.subspaces 0 ≡ Some u) = has_structure Bank false (slice_get h.table.subspaces 0) (set_up.all_open 0 _ (omega arith) refl) in
-    ap length (h.list_is ∙ ap (λ (u : Scenario). opened_by h.table u.opens) is ∙ ap (λ (o : Option Subspace). opened_with 0 h.table.flags o ++ []) there.1)
+    ap length h.list_is ∙ length-map (opened_by h.table s.opens) (equipped h.checked.cpus s.caps)
+    ∙ ap length (ap (λ (u : Scenario). opened_by h.table u.opens) is ∙ ap (λ (o : Option Subspace). opened_with Bank 0 h.table.flags o ++ []) there.1)
 
 abbrev made_opens : List OpenLine
 made_opens = record { id = 0; device = Bank } ∷ []
@@ -110,7 +114,7 @@ table_is = refl
 -- it passes all checks
 made_set_up : (n : ℕ) → TableBytes one_generic_subspace one_generic → IsSetUp (made_scenario_of n) one_generic
 unfolding made_scenario_of made_calls
-made_set_up n table = record { table = table; all_open = only_line; apart = λ i j lt within meet. absurd (omega (arith, lt, within)); named = λ i l lt at. each_call (λ (x : Line). action_fault (made_scenario_of n) x ≡ None) (range_with_len 0 n) (λ place. refl) i l at }
+made_set_up n table = record { table = table; all_open = only_line; apart = λ i j lt within meet. absurd (omega (arith, lt, within)); cpus = []; bound = record { each = tt; apart = λ i j d lt within. absurd (omega (arith, within)) }; capped = λ i c lt at. absurd (omega (arith, lt)); inside = λ i b lt at. absurd (omega (arith, lt)); named = λ i l lt at. each_call (λ (x : Line). action_fault (made_scenario_of n) x ≡ None) (range_with_len 0 n) (λ place. refl) i l at }
 
 -- and so it is refused for none
 pub made_kept : (n : ℕ) (s : Scenario) (text : List ℕ) → s ≡ made_scenario_of n → TableBytes ONE_GENERIC_SUBSPACE one_generic → IfLine (SetUpRefused s) (error.Refused text) → ⊥

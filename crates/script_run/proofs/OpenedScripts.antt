@@ -13,7 +13,10 @@ use Rattle.pcc_script.specs.declared.scenario.Scenario.{Scenario}
 use Rattle.pcc_script.specs.Limits.{IsAction, IsWithin}
 use Rattle.pcc_setup.specs.declared.action.ActionFault.TheVariants.{NotBank}
 use Rattle.pcc_setup.specs.declared.opening.Opened.{Opened}
-use Rattle.pcc_setup.specs.Openings.{AllOpen, asks_on, fault_by, head_of, opened_by, structure_fault}
+use Rattle.cpc_package.specs.declared.binding.Binding.{Binding}
+use Rattle.pcc_script.specs.declared.scenario.CapLine.{CapLine}
+use Rattle.pcc_setup.specs.Equipment.{equipped}
+use Rattle.pcc_setup.specs.Openings.{AllOpen, asks_on, head_of, image_of, opened_by, structure_fault, wired_fault}
 use Rattle.pcc_setup.specs.SetUps.{Opens, action_fault, first_action, is_bank, opens_bank, opens_banks}
 use Rattle.pcc_steps.specs.Wires.{IsRight}
 use Rattle.pcc_wiring.specs.declared.fault.Asks.{Asks}
@@ -26,13 +29,14 @@ use Rattle.script_run.specs.Channels.{AreDistinct, CanAsk, CanRun, IsEarly, IsWi
 use Rattle.script_run.specs.ReplyText.{replies_text}
 use Rattle.script_run.specs.ScriptRuns.{IsStepText, asks_of, channel_journal, clock_of, run_text, set_up_of, step_text}
 use Rattle.script_run.specs.StepRun.{OfCall, ask_of, step_run}
-use Rattle.script_run.proofs.Several.{open_rest, opened_channel, opens_apart, set_up_headlines, set_up_ids, set_up_opened}
+use Rattle.script_run.proofs.Several.{equipped_channels, open_rest, opened_channel, opens_apart, set_up_headlines, set_up_ids, set_up_opened}
 
 -- ---- the channels of a script
 
 -- they are those of what it opens
 pub opened_channels : (s : Scenario) (os : List Opened) (cs : List Channel) → cs ≡ map (opened_channel (clock_of s)) os → (h : Opens s os) → cs ≡ set_up_of s h.table
-opened_channels s os cs e h = e ∙ ap (map (opened_channel (clock_of s))) h.list_is ∙ sym (set_up_opened s h.table)
+opened_channels s os cs e h =
+    e ∙ ap (map (opened_channel (clock_of s))) h.list_is ∙ equipped_channels (clock_of s) h.checked.cpus s.caps (opened_by h.table s.opens) ∙ sym (set_up_opened s h.table)
 
 -- their IDs are those of the lines
 ids_are : (s : Scenario) (os : List Opened) (cs : List Channel) → (h : Opens s os) → cs ≡ set_up_of s h.table → ids_of cs ≡ map (λ o. o.id) s.opens
@@ -88,7 +92,7 @@ pub left_of : (a b : Bool) → (a && b) ≡ true → a ≡ true
 left_of true b e = refl
 left_of false b e = absurd cc
 
-both_of : (a b : Bool) → (a && b) ≡ true → b ≡ true
+pub both_of : (a b : Bool) → (a && b) ≡ true → b ≡ true
 both_of true b e = e
 both_of false b e = absurd cc
 
@@ -124,14 +128,14 @@ text_is s os cs after none put text first opened line empty replies left e h =
 
 -- ---- wirings
 
-no_wiring_fault : (o : Option WiringFault) → fault_by o ≡ None → o ≡ None
-no_wiring_fault None e = refl
-no_wiring_fault (Some f) e = absurd cc
+no_wiring_fault : (d : Device) (s : Subspace) (o : Option WiringFault) → wired_fault d s o ≡ None → o ≡ None
+no_wiring_fault d s None e = refl
+no_wiring_fault d s (Some f) e = absurd cc
 
 -- a structure that a line opens has no fault
 pub there : (d : Device) (m : Option Subspace) → structure_fault d false m ≡ None → (u : Subspace) × (m ≡ Some u) × (fault_of (asks_on d (kind_of u)) u ≡ None)
 there d None e = absurd cc
-there d (Some u) e = (u, refl, no_wiring_fault (fault_of (asks_on d (kind_of u)) u) e)
+there d (Some u) e = (u, refl, no_wiring_fault d u (fault_of (asks_on d (kind_of u)) u) e)
 
 -- both ends can work with what it opens
 abbrev AreRight : Type 0
@@ -141,11 +145,17 @@ opened_wired : AreRight → (t : Table) (opens : List OpenLine) → AllOpen t op
 opened_wired right t [] h = tt
 opened_wired right t (o ∷ os) h =
     let u = there o.device (slice_get t.subspaces o.id) (h zero o (omega arith) refl) in
-    let here : IsWired (record { head = head_of o.id u.0; wiring = wiring_with o.id t.flags u.0; image = [] }) = record {
+    let here : IsWired (record { head = head_of o.device o.id u.0; wiring = wiring_with o.id t.flags u.0; image = image_of o.device; cpus = []; caps = [] }) = record {
       right = right (asks_on o.device (kind_of u.0)) o.id t.flags u.0 u.2;
       head = record { id = refl; kind = refl; room = refl; reports = refl };
     } in
     rw u.1 (here, opened_wired right t os (open_rest t o os h))
 
+-- its processors and its caps don't change that
+equipped_wired : (cpus : List Binding) (caps : List CapLine) (os : List Opened) → AllByRecursion IsWired os → AllByRecursion IsWired (map (equipped cpus caps) os)
+equipped_wired cpus caps [] h = tt
+equipped_wired cpus caps (o ∷ os) h = (record { right = h.0.right; head = h.0.head }, equipped_wired cpus caps os h.1)
+
 pub wired : AreRight → (s : Scenario) (os : List Opened) → Opens s os → AllByRecursion IsWired os
-wired right s os h = subst (AllByRecursion IsWired) (sym h.list_is) (opened_wired right h.table s.opens h.checked.all_open)
+wired right s os h =
+    subst (AllByRecursion IsWired) (sym h.list_is) (equipped_wired h.checked.cpus s.caps (opened_by h.table s.opens) (opened_wired right h.table s.opens h.checked.all_open))

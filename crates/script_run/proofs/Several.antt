@@ -14,6 +14,9 @@ use Rattle.pcc_script.specs.declared.scenario.OpenLine.{OpenLine}
 use Rattle.pcc_script.specs.declared.scenario.Scenario.{Scenario}
 use Rattle.pcc_setup.specs.declared.action.ActionFault.TheVariants.{NotBank}
 use Rattle.pcc_setup.specs.declared.opening.Opened.{Opened}
+use Rattle.cpc_package.specs.declared.binding.Binding.{Binding}
+use Rattle.pcc_script.specs.declared.scenario.CapLine.{CapLine}
+use Rattle.pcc_setup.specs.Equipment.{equipped}
 use Rattle.pcc_setup.specs.Openings.{AllOpen, opened_by, opened_with, opens_id, structure_fault}
 use Rattle.pcc_setup.specs.SetUps.{action_fault, is_bank, opens_bank}
 use Rattle.script_run.specs.Channels.{AreDistinct, bank_start, fresh_channel, id_of, moved_up}
@@ -355,7 +358,7 @@ opens_apart t [] h = tt
 opens_apart t (o ∷ os) h = (all_map (λ m. o.id ≢ m) (λ (p : OpenLine). p.id) os (all_from (λ (p : OpenLine). o.id ≢ p.id) os (once t o os h)), opens_apart t os (open_rest t o os h))
 
 -- each line opens the channel of its ID
-pub set_up_ids : (clock : ScriptClock) (t : Table) (opens : List OpenLine) → AllOpen t opens (length opens) → map id_of (flat_map (λ o. channels_of clock o.id (slice_get t.subspaces o.id)) opens) ≡ map (λ o. o.id) opens
+pub set_up_ids : (clock : ScriptClock) (t : Table) (opens : List OpenLine) → AllOpen t opens (length opens) → map id_of (flat_map (λ o. channels_of clock o.device o.id (slice_get t.subspaces o.id)) opens) ≡ map (λ o. o.id) opens
 set_up_ids clock t [] h = refl
 set_up_ids clock t (o ∷ os) h =
     let there : (u : Subspace) × (slice_get t.subspaces o.id ≡ Some u) = has_structure o.device false (slice_get t.subspaces o.id) (h zero o (omega arith) refl) in
@@ -365,18 +368,24 @@ set_up_ids clock t (o ∷ os) h =
 abbrev pub opened_channel : ScriptClock → Opened → Channel
 opened_channel clock o = fresh_channel (bank_start o.head clock)
 
+-- the processors and the caps of what is opened change no channel
+pub equipped_channels : (clock : ScriptClock) (cpus : List Binding) (caps : List CapLine) (os : List Opened)
+    → map (opened_channel clock) (map (equipped cpus caps) os) ≡ map (opened_channel clock) os
+equipped_channels clock cpus caps [] = refl
+equipped_channels clock cpus caps (o ∷ os) = ap (λ (v : List Channel). opened_channel clock o ∷ v) (equipped_channels clock cpus caps os)
+
 -- the channels of a script are those of what it opens, with nothing asked of them
 pub set_up_opened : (s : Scenario) (t : Table) → set_up_of s t ≡ map (opened_channel (clock_of s)) (opened_by t s.opens)
 set_up_opened s t = all s.opens
   where
-    opened : (id : ℕ) (u : Option Subspace) (cs : List Channel) (os : List Opened) → cs ≡ map (opened_channel (clock_of s)) os
-        → channels_of (clock_of s) id u ++ cs ≡ map (opened_channel (clock_of s)) (opened_with id t.flags u ++ os)
-    opened id None cs os h = h
-    opened id (Some u) cs os h = ap (λ (v : List Channel). channels_of (clock_of s) id (Some u) ++ v) h
+    opened : (d : Device) (id : ℕ) (u : Option Subspace) (cs : List Channel) (os : List Opened) → cs ≡ map (opened_channel (clock_of s)) os
+        → channels_of (clock_of s) d id u ++ cs ≡ map (opened_channel (clock_of s)) (opened_with d id t.flags u ++ os)
+    opened d id None cs os h = h
+    opened d id (Some u) cs os h = ap (λ (v : List Channel). channels_of (clock_of s) d id (Some u) ++ v) h
 
-    all : (opens : List OpenLine) → flat_map (λ (o : OpenLine). channels_of (clock_of s) o.id (slice_get t.subspaces o.id)) opens ≡ map (opened_channel (clock_of s)) (opened_by t opens)
+    all : (opens : List OpenLine) → flat_map (λ (o : OpenLine). channels_of (clock_of s) o.device o.id (slice_get t.subspaces o.id)) opens ≡ map (opened_channel (clock_of s)) (opened_by t opens)
     all [] = refl
-    all (o ∷ os) = opened o.id (slice_get t.subspaces o.id) _ (opened_by t os) (all os)
+    all (o ∷ os) = opened o.device o.id (slice_get t.subspaces o.id) _ (opened_by t os) (all os)
 
 -- a call on a subspace that the script opens is answered by a channel that stands in the list
 pub named_found : (id : ℕ) (cs : List Channel) (opens : List OpenLine) → map id_of cs ≡ map (λ o. o.id) opens → opens_bank id opens ≡ true → (c : Channel) × (channel_on id cs ≡ Some c)
@@ -403,13 +412,13 @@ named_reply s cs worker subspace code bytes polls hold ids right =
     named true h = refl
     named false h = absurd cc
 
-channels_fresh : (clock : ScriptClock) (id : ℕ) (o : Option Subspace) → AllByRecursion IsFresh (channels_of clock id o)
-channels_fresh clock id None = tt
-channels_fresh clock id (Some u) = (refl, tt)
+channels_fresh : (clock : ScriptClock) (d : Device) (id : ℕ) (o : Option Subspace) → AllByRecursion IsFresh (channels_of clock d id o)
+channels_fresh clock d id None = tt
+channels_fresh clock d id (Some u) = (refl, tt)
 
-pub set_up_fresh : (clock : ScriptClock) (t : Table) (opens : List OpenLine) → AllByRecursion IsFresh (flat_map (λ o. channels_of clock o.id (slice_get t.subspaces o.id)) opens)
+pub set_up_fresh : (clock : ScriptClock) (t : Table) (opens : List OpenLine) → AllByRecursion IsFresh (flat_map (λ o. channels_of clock o.device o.id (slice_get t.subspaces o.id)) opens)
 set_up_fresh clock t [] = tt
-set_up_fresh clock t (o ∷ os) = all_append IsFresh (channels_of clock o.id (slice_get t.subspaces o.id)) _ (channels_fresh clock o.id (slice_get t.subspaces o.id)) (set_up_fresh clock t os)
+set_up_fresh clock t (o ∷ os) = all_append IsFresh (channels_of clock o.device o.id (slice_get t.subspaces o.id)) _ (channels_fresh clock o.device o.id (slice_get t.subspaces o.id)) (set_up_fresh clock t os)
 
 -- each journal of a script's run keeps the headline
 pub set_up_headlines : (s : Scenario) (t : Table) → AllOpen t s.opens (length s.opens) → AreHeadlines (asks_of s) (run_of s t)

@@ -4,6 +4,7 @@ use Rattle.std.specs.List.{flat_map}
 use Rattle.pcct_table.specs.declared.subspace.Subspace.{Subspace}
 use Rattle.pcct_table.specs.declared.table.Table.{Table}
 use Rattle.pcc_journal.specs.JournalText.{journal_text}
+use Rattle.pcc_script.specs.declared.scenario.Device.{Device}
 use Rattle.pcc_script.specs.declared.scenario.Scenario.{Scenario}
 use Rattle.pcc_setup.specs.Openings.{head_of}
 use Rattle.pcc_setup.specs.SetUps.{first_action}
@@ -19,13 +20,13 @@ abbrev pub clock_of : Scenario → ScriptClock
 clock_of s = record { start = s.start; step = s.step }
 
 -- the channel of a structure, which nothing was asked yet; none where there is no structure. Each has a clock of its own.
-abbrev pub channels_of : ScriptClock → ℕ → Option Subspace → List Channel
-channels_of clock id None = []
-channels_of clock id (Some s) = fresh_channel (bank_start (head_of id s) clock) ∷ []
+abbrev pub channels_of : ScriptClock → Device → ℕ → Option Subspace → List Channel
+channels_of clock device id None = []
+channels_of clock device id (Some s) = fresh_channel (bank_start (head_of device id s) clock) ∷ []
 
 -- one channel for each `open` line, in their order; the ID is the place of the structure
 abbrev pub set_up_of : Scenario → Table → List Channel
-set_up_of s t = flat_map (λ o. channels_of (clock_of s) o.id (slice_get t.subspaces o.id)) s.opens
+set_up_of s t = flat_map (λ o. channels_of (clock_of s) o.device o.id (slice_get t.subspaces o.id)) s.opens
 
 -- ---- the text of `step`
 

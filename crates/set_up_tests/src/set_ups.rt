@@ -34,9 +34,6 @@ fn ending_of(alloc: Global, text: &[u8]) -> Ending {
     let Ok(scenario) = scenario_from(alloc, text) else {
         return Ending::Other;
     };
-    if !opens_banks(&scenario) {
-        return Ending::Other;
-    }
     match set_up(alloc, &scenario) {
         Ok(set_up) => Ending::Opened(set_up.opened.len()),
         Err(SetUpError::Refused { text }) => Ending::Refused(text),

@@ -12,7 +12,7 @@ weave_lines-requires-clause-polls c =
 
 pub returns : goal.returns
 returns c = λ t alone.
-    let state : replicate c.args.opened.now.wiring.room 0 ≡ replicate (head_of alone.open_line.id alone.subspace).room 0 = ap (λ (w : Wiring). replicate w.room 0) alone.wiring in
+    let state : replicate c.args.opened.now.wiring.room 0 ≡ replicate (head_of alone.open_line.device alone.open_line.id alone.subspace).room 0 = ap (λ (w : Wiring). replicate w.room 0) alone.wiring in
     let woven = c.in_ok-weave_lines.ensures.run in
     is_woven c.args.scenario.now t alone.open_line alone.subspace c.args.picks.now c.args.opened.now.wiring c.args.opened.now.head.limits c.in_ok-new.field-0
     c.in_ok-plain.plain.channel c.weave_lines.new.plain.channel c.in_ok-plain.plain.clock c.weave_lines.new.plain.clock c.deref.result.now c.deref-2.result.now woven.0 woven.1.readings c.put_journal.new.out.items

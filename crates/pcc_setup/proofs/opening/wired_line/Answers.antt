@@ -1,0 +1,9 @@
+use Rattle.std.proofs.Common.{sym}
+use Rattle.pcc_setup.proofs.Opens.{image_too_long, opens_line, opens_nothing}
+use Rattle.pcc_setup.proofs.opening.wired_line.Goals as goal
+
+pub returns-in-Err : goal.returns-in-Err
+returns-in-Err c =
+    opens_nothing c.args.table.now c.args.opens.now c.args.place c.at-line.result.now c.in-Some.subspace c.in-Err.fault
+    c.kind.result c.asks_on-asks.result c.requires c.at-line.ensures (sym c.in-Some.ensures) (rw (← c.as_slice.ensures) (sym c.if-opens_id.ensures))
+    c.kind.ensures c.asks_on-asks.ensures c.in-Err.ensures.exact
