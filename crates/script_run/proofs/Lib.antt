@@ -3,6 +3,7 @@ pub mod Steps
 pub mod Headlines
 pub mod Several
 mod ChannelLists
+pub mod Starting
 pub mod OpenedScripts
 mod Counting
 mod MadeUp

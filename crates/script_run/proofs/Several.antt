@@ -14,9 +14,6 @@ use Rattle.pcc_script.specs.declared.scenario.OpenLine.{OpenLine}
 use Rattle.pcc_script.specs.declared.scenario.Scenario.{Scenario}
 use Rattle.pcc_setup.specs.declared.action.ActionFault.TheVariants.{NotBank}
 use Rattle.pcc_setup.specs.declared.opening.Opened.{Opened}
-use Rattle.cpc_package.specs.declared.binding.Binding.{Binding}
-use Rattle.pcc_script.specs.declared.scenario.CapLine.{CapLine}
-use Rattle.pcc_setup.specs.Equipment.{equipped}
 use Rattle.pcc_setup.specs.Openings.{AllOpen, opened_by, opened_with, opens_id, structure_fault}
 use Rattle.pcc_setup.specs.SetUps.{action_fault, is_bank, opens_bank}
 use Rattle.script_run.specs.Channels.{AreDistinct, bank_start, fresh_channel, id_of, moved_up}
@@ -356,70 +353,3 @@ once t o os h i p at =
 pub opens_apart : (t : Table) (opens : List OpenLine) → AllOpen t opens (length opens) → AreDistinct (map (λ o. o.id) opens)
 opens_apart t [] h = tt
 opens_apart t (o ∷ os) h = (all_map (λ m. o.id ≢ m) (λ (p : OpenLine). p.id) os (all_from (λ (p : OpenLine). o.id ≢ p.id) os (once t o os h)), opens_apart t os (open_rest t o os h))
-
--- each line opens the channel of its ID
-pub set_up_ids : (clock : ScriptClock) (t : Table) (opens : List OpenLine) → AllOpen t opens (length opens) → map id_of (flat_map (λ o. channels_of clock o.device o.id (slice_get t.subspaces o.id)) opens) ≡ map (λ o. o.id) opens
-set_up_ids clock t [] h = refl
-set_up_ids clock t (o ∷ os) h =
-    let there : (u : Subspace) × (slice_get t.subspaces o.id ≡ Some u) = has_structure o.device false (slice_get t.subspaces o.id) (h zero o (omega arith) refl) in
-    rw there.1 (ap (λ (v : List ℕ). o.id ∷ v) (set_up_ids clock t os (open_rest t o os h)))
-
--- the channel of what is opened
-abbrev pub opened_channel : ScriptClock → Opened → Channel
-opened_channel clock o = fresh_channel (bank_start o.head clock)
-
--- the processors and the caps of what is opened change no channel
-pub equipped_channels : (clock : ScriptClock) (cpus : List Binding) (caps : List CapLine) (os : List Opened)
-    → map (opened_channel clock) (map (equipped cpus caps) os) ≡ map (opened_channel clock) os
-equipped_channels clock cpus caps [] = refl
-equipped_channels clock cpus caps (o ∷ os) = ap (λ (v : List Channel). opened_channel clock o ∷ v) (equipped_channels clock cpus caps os)
-
--- the channels of a script are those of what it opens, with nothing asked of them
-pub set_up_opened : (s : Scenario) (t : Table) → set_up_of s t ≡ map (opened_channel (clock_of s)) (opened_by t s.opens)
-set_up_opened s t = all s.opens
-  where
-    opened : (d : Device) (id : ℕ) (u : Option Subspace) (cs : List Channel) (os : List Opened) → cs ≡ map (opened_channel (clock_of s)) os
-        → channels_of (clock_of s) d id u ++ cs ≡ map (opened_channel (clock_of s)) (opened_with d id t.flags u ++ os)
-    opened d id None cs os h = h
-    opened d id (Some u) cs os h = ap (λ (v : List Channel). channels_of (clock_of s) d id (Some u) ++ v) h
-
-    all : (opens : List OpenLine) → flat_map (λ (o : OpenLine). channels_of (clock_of s) o.device o.id (slice_get t.subspaces o.id)) opens ≡ map (opened_channel (clock_of s)) (opened_by t opens)
-    all [] = refl
-    all (o ∷ os) = opened o.device o.id (slice_get t.subspaces o.id) _ (opened_by t os) (all os)
-
--- a call on a subspace that the script opens is answered by a channel that stands in the list
-pub named_found : (id : ℕ) (cs : List Channel) (opens : List OpenLine) → map id_of cs ≡ map (λ o. o.id) opens → opens_bank id opens ≡ true → (c : Channel) × (channel_on id cs ≡ Some c)
-named_found id [] [] e named = absurd cc
-named_found id [] (o ∷ os) e named = absurd cc
-named_found id (c ∷ cs) [] e named = absurd cc
-named_found id (c ∷ cs) (o ∷ os) e named =
-    let first : id_of c ≡ o.id = ap (λ (v : List ℕ). get_or v 0 0) e in
-    let rest : map id_of cs ≡ map (λ (x : OpenLine). x.id) os = ap (drop 1) e in
-    at (c.start.head.id == id) (o.id == id) (is_bank o.device) (ap (λ (n : ℕ). n == id) first) named (named_found id cs os rest)
-  where
-    at : (a b is : Bool) → a ≡ b → ((b && is) || opens_bank id os) ≡ true → (opens_bank id os ≡ true → (x : Channel) × (channel_on id cs ≡ Some x)) → (x : Channel) × (cond a (Some c) (channel_on id cs) ≡ Some x)
-    at true b is same h later = (c, refl)
-    at false true is same h later = absurd cc
-    at false false is same h later = later h
-
-pub named_reply : (s : Scenario) (cs : List Channel) (worker subspace code : ℕ) (bytes : List ℕ) (polls hold : ℕ) → map id_of cs ≡ map (λ o. o.id) s.opens → action_fault s (line.Call worker subspace code bytes polls hold) ≡ None
-    → (c : Channel) × (channel_on subspace cs ≡ Some c) × ((turn_of (ask_of [] (line.Call worker subspace code bytes polls hold)) cs).reply ≡ Some (ByChannel (Replied (answer_call c.start (call_by worker code bytes polls hold) c.now).reply)))
-named_reply s cs worker subspace code bytes polls hold ids right =
-    let found : (c : Channel) × (channel_on subspace cs ≡ Some c) = named_found subspace cs s.opens ids (named (opens_bank subspace s.opens) right) in
-    (found.0, found.1, call_answers subspace (OfCall (call_by worker code bytes polls hold)) cs found.0 found.1)
-  where
-    named : (b : Bool) → cond b None (Some NotBank) ≡ None → b ≡ true
-    named true h = refl
-    named false h = absurd cc
-
-channels_fresh : (clock : ScriptClock) (d : Device) (id : ℕ) (o : Option Subspace) → AllByRecursion IsFresh (channels_of clock d id o)
-channels_fresh clock d id None = tt
-channels_fresh clock d id (Some u) = (refl, tt)
-
-pub set_up_fresh : (clock : ScriptClock) (t : Table) (opens : List OpenLine) → AllByRecursion IsFresh (flat_map (λ o. channels_of clock o.device o.id (slice_get t.subspaces o.id)) opens)
-set_up_fresh clock t [] = tt
-set_up_fresh clock t (o ∷ os) = all_append IsFresh (channels_of clock o.device o.id (slice_get t.subspaces o.id)) _ (channels_fresh clock o.device o.id (slice_get t.subspaces o.id)) (set_up_fresh clock t os)
-
--- each journal of a script's run keeps the headline
-pub set_up_headlines : (s : Scenario) (t : Table) → AllOpen t s.opens (length s.opens) → AreHeadlines (asks_of s) (run_of s t)
-set_up_headlines s t h = fresh_headlines (set_up_of s t) (set_up_fresh (clock_of s) t s.opens) (subst AreDistinct (sym (set_up_ids (clock_of s) t s.opens h)) (opens_apart t s.opens h)) (asks_of s)

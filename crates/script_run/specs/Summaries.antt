@@ -3,9 +3,9 @@ use Rattle.std.specs.Prelude.{◌≡◌, ◌≤◌, ℕ, ◌+◌, true, false, L
 use Rattle.std.specs.List.{flat_map}
 use Rattle.pcc_journal.specs.declared.record.Record.{Record}
 use Rattle.pcc_script.specs.Made.{made_scenario_of}
-use Rattle.pcc_setup.specs.SetUps.{IsSetUp}
+use Rattle.pcc_setup.specs.SetUps.{Opens}
+use Rattle.pcc_setup.specs.declared.opening.Opened.{Opened}
 use Rattle.pcc_text.specs.Pieces.{Spelled, Words, Decimal, spelled}
-use Rattle.pcct_table.specs.declared.table.Table.{Table}
 use Rattle.channel_turns.specs.ChannelRuns.{Channel, count_in_flight}
 use Rattle.channel_turns.specs.Replies.{Done, StillPending, TimedOut}
 use Rattle.channel_headline.specs.Asked.{LineReply, Replied}
@@ -69,6 +69,9 @@ summary_text calls run = spelled (summary_pieces calls (counts_of run.replies) (
 
 -- ---- a made-up run
 
--- the text is the summary of the run of a made-up scenario with so many calls, whose journals keep the headline
-abbrev pub IsSummary : ℕ → List ℕ → Type 0
-IsSummary n text = let s = made_scenario_of n in (t : Table) × IsSetUp s t × AreHeadlines (asks_of s) (run_of s t) × (text ≡ summary_text n (run_of s t))
+-- the text is the summary of the run of a made-up scenario with this number of calls, which has no processors; its journals keep the headline
+pub record IsSummary (n : ℕ) (text : List ℕ) : Type 0 where
+  pub opened : List Opened
+  pub opens : Opens (made_scenario_of n) opened
+  pub headline : AreHeadlines (asks_of (made_scenario_of n) []) (run_of (made_scenario_of n) opened [])
+  pub text_is : text ≡ summary_text n (run_of (made_scenario_of n) opened [])

@@ -7,7 +7,8 @@ ghost use Rattle.channel_turns.specs.ChannelRuns.{call_by, fresh, journal_limit,
 ghost use Rattle.script_run.specs.Channels.{IsToldBy, IsWired, bank_start, fresh_channel, moved_up};
 ghost use Rattle.script_run.specs.DeviceChannels.{channel_of};
 ghost use Rattle.script_run.specs.LineOutcomes.{IsPlacedIn};
-ghost use Rattle.script_run.specs.ScriptRuns.{clock_of};
+ghost use Rattle.pcc_setup.specs.Equipment.{CanBegin};
+ghost use Rattle.script_run.specs.ScriptRuns.{clock_of, controller_start, start_of};
 ghost use Rattle.script_run.specs.StepRun.{OfCall, OfRead, OfWish};
 
 use crate::asks::{call_channel, read_channel, set_channel};
@@ -15,7 +16,7 @@ use crate::outcome::LineAnswer;
 use channel_turns::TurnChannel;
 use cpc_package::Binding;
 use cppc_calls::Wish;
-use cppc_device::CppcDevice;
+use cppc_device::{CppcDevice, opening};
 use pcc_exec::Bank;
 use pcc_io::NoMemory;
 use pcc_journal::{JournalHead, Pending, Record};
@@ -31,8 +32,26 @@ pub enum DeviceChannel {
 }
 
 impl DeviceChannel {
-    /// The channel of a Bank with zeros in its device and its space, which nothing was asked of.
-    pub fn new_bank(
+    /// The channel of an opened subspace, which nothing was asked of: a Bank with zeros in its device and its space, or a controller with its
+    /// image in its registers and in its space.
+    pub fn new(
+        alloc: Global,
+        scenario: &Scenario,
+        opened: &Opened,
+    ) -> Result<DeviceChannel, NoMemory>
+        requires wired { IsWired opened.now }
+        requires begins { CanBegin opened.now }
+        requires few { length opened.now.caps < 2 ^ 32 }
+        ensures { IfOk result (λ c. channel_of c ≡ fresh_channel (start_of (clock_of scenario.now) opened.now)) }
+    {
+        if opened.head.cppc {
+            DeviceChannel::new_cppc(alloc, scenario, opened)
+        } else {
+            DeviceChannel::new_bank(alloc, scenario, opened)
+        }
+    }
+
+    fn new_bank(
         alloc: Global,
         scenario: &Scenario,
         opened: &Opened,
@@ -42,17 +61,52 @@ impl DeviceChannel {
     {
         let room = opened.head.room;
         let device = Bank::new(alloc, room)?;
-        let opening = vec![in alloc; 0; room as usize]?;
+        let space = vec![in alloc; 0; room as usize]?;
         let channel = TurnChannel::new(
             alloc,
             opened.head,
             opened.wiring,
             device,
-            &opening,
+            &space,
             scenario.start,
             scenario.step,
         )?;
         Ok(DeviceChannel::Bank(channel))
+    }
+
+    fn new_cppc(
+        alloc: Global,
+        scenario: &Scenario,
+        opened: &Opened,
+    ) -> Result<DeviceChannel, NoMemory>
+        requires wired { IsWired opened.now }
+        requires begins { CanBegin opened.now }
+        requires few { length opened.now.caps < 2 ^ 32 }
+        ensures { IfOk result (λ c. channel_of c ≡ fresh_channel (controller_start opened.now (clock_of scenario.now))) }
+    {
+        let room = opened.wiring.room;
+        let image = opened.image.as_slice();
+        let device = match CppcDevice::new(
+            alloc,
+            room,
+            image,
+            opened.cpus.as_slice(),
+            opened.caps.as_slice(),
+        ) {
+            Ok(device) => device,
+            Err(_) => return Err(NoMemory),
+        };
+        let space = opening(alloc, room, image)?;
+        let channel = TurnChannel::new(
+            alloc,
+            opened.head,
+            opened.wiring,
+            device,
+            &space,
+            scenario.start,
+            scenario.step,
+        )?;
+        Ok(DeviceChannel::Cppc(channel))
     }
 
     /// The head of the journal.

@@ -2,12 +2,14 @@
 ghost use Rattle.std.specs.Prelude.{◌≡◌, ◌<◌, ◌+◌, ℕ, true, IfOk, OnOk, Some, length, map, slice_get};
 ghost use Rattle.pcc_script.specs.declared.limits.TheConstants.{MAX_ACTIONS};
 ghost use Rattle.std.specs.List.{AllByRecursion};
-ghost use Rattle.pcc_setup.specs.SetUps.{Opens};
-ghost use Rattle.script_run.specs.Channels.{AreDistinct, CanRun, IsEarly, IsWired, bank_start, fresh_channel, id_of, ids_of, is_on, moved_up, starts_of};
+ghost use Rattle.pcc_script.specs.Limits.{IsWithin};
+ghost use Rattle.pcc_setup.specs.Equipment.{CanBegin};
+ghost use Rattle.pcc_setup.specs.SetUps.{IsSetUpOf};
+ghost use Rattle.script_run.specs.Channels.{AreDistinct, CanRun, IsEarly, IsWired, id_of, ids_of, is_on, moved_up, starts_of};
 ghost use Rattle.script_run.specs.DeviceChannels.{channel_of, channels_by};
 ghost use Rattle.script_run.specs.declared.channel.DeviceChannel.{DeviceChannel};
 ghost use Rattle.script_run.specs.LineOutcomes.{IsOutcomeOf};
-ghost use Rattle.script_run.specs.ScriptRuns.{clock_of, set_up_of};
+ghost use Rattle.script_run.specs.ScriptRuns.{set_up_of};
 ghost use Rattle.script_run.specs.StepRun.{ask_of, turn_of, wish_of};
 
 use crate::channel::DeviceChannel;
@@ -16,7 +18,7 @@ use cpc_package::Binding;
 use cppc_calls::Wish;
 use pcc_io::NoMemory;
 use pcc_script::{Line, Scenario, Wish1};
-use pcc_setup::OpenedList;
+use pcc_setup::{OpenedList, SetUp, set_up_laws};
 use pcc_wiring::right_wirings;
 use std::alloc::Global;
 use std::marker::Model;
@@ -45,13 +47,15 @@ impl OpenedChannels {
     pub fn open(
         alloc: Global,
         scenario: &Scenario,
-        opened: &OpenedList,
+        set_up: &SetUp,
     ) -> Result<OpenedChannels, NoMemory>
-        requires { Opens scenario.now opened.now }
-        ensures { IfOk result (λ cs. (h : Opens scenario.now opened.now) → channels_by cs ≡ set_up_of scenario.now h.table) }
+        requires within { IsWithin scenario.now }
+        requires set_up { IsSetUpOf scenario.now set_up.now }
+        ensures { IfOk result (λ cs. channels_by cs ≡ set_up_of scenario.now set_up.now.opened) }
     {
         right_wirings();
-        let channels = open_each(alloc, scenario, opened)?;
+        set_up_laws();
+        let channels = open_each(alloc, scenario, &set_up.opened)?;
         Ok(OpenedChannels { channels })
     }
 
@@ -86,12 +90,14 @@ fn open_each(
     scenario: &Scenario,
     opened: &OpenedList,
 ) -> Result<Vec<DeviceChannel>, NoMemory>
-    requires { AllByRecursion IsWired opened.now }
-    ensures { IfOk result (λ v. channels_by v.items ≡ map (λ o. fresh_channel (bank_start o.head (clock_of scenario.now))) opened.now) }
+    requires wired { AllByRecursion IsWired opened.now }
+    requires begin { AllByRecursion CanBegin opened.now }
+    requires few { AllByRecursion (λ o. length o.caps < 2 ^ 32) opened.now }
+    ensures { IfOk result (λ v. channels_by v.items ≡ set_up_of scenario.now opened.now) }
 {
     let mut channels = Vec::new(alloc);
     for i in 0..opened.len() {
-        channels.push(DeviceChannel::new_bank(alloc, scenario, opened.at(i))?)?;
+        channels.push(DeviceChannel::new(alloc, scenario, opened.at(i))?)?;
     }
     Ok(channels)
 }

@@ -20,7 +20,7 @@ use crate::counts::Counts;
 use pcc_io::NoMemory;
 use pcc_journal::Record;
 use pcc_script::{Actions, Scenario, made_scenario, within_limits};
-use pcc_setup::{OpenedList, SetUpError, set_up};
+use pcc_setup::{SetUp, SetUpError, set_up};
 use pcc_text::{Piece, put_pieces};
 use pcct_codec::worked_tables;
 use std::alloc::Global;
@@ -114,15 +114,18 @@ fn summary(
     Ok(out)
 }
 
-// The summary of the run of a script that opens one subspace.
-fn run_summary(alloc: Global, scenario: &Scenario, opened: &OpenedList) -> Result<Vec<u8>, NoMemory>
-    requires within { IsWithin scenario.now }
-    requires built { is_built scenario.now ≡ true }
-    requires opens { Opens scenario.now opened.now }
-    requires alone { length opened.now ≡ 1 }
-    ensures { IfOk result (λ v. (h : Opens scenario.now opened.now) → v.items ≡ summary_text (length scenario.now.actions) (run_of scenario.now h.table)) }
+// The summary of the run of a made-up script, which opens one subspace and has no processors.
+fn run_summary(
+    alloc: Global,
+    calls: u32,
+    scenario: &Scenario,
+    set_up: &SetUp,
+) -> Result<Vec<u8>, NoMemory>
+    requires made { scenario.now ≡ made_scenario_of calls }
+    requires set_up { IsSetUpOf scenario.now set_up.now }
+    ensures { IfOk result (λ v. IsSummary calls v.items) }
 {
-    let mut channels = OpenedChannels::open(alloc, scenario, opened)?;
+    let mut channels = OpenedChannels::open(alloc, scenario, set_up)?;
     let counts = count_lines(alloc, &mut channels, &scenario.actions)?;
     summary(
         alloc,
@@ -142,7 +145,7 @@ pub fn made_summary(alloc: Global, calls: u32) -> Result<Vec<u8>, NoMemory>
     within_limits();
     let scenario = made_scenario(alloc, calls)?;
     match set_up(alloc, &scenario) {
-        Ok(set_up) => run_summary(alloc, &scenario, &set_up.opened),
+        Ok(set_up) => run_summary(alloc, calls, &scenario, &set_up),
         Err(SetUpError::NoMemory) => Err(NoMemory),
         // A made-up script passes all checks.
         Err(SetUpError::Refused { .. }) => unreachable!(),

@@ -1,14 +1,15 @@
 //! The text of `step`: the lines of a script are run in one thread, and their replies and the journals are printed.
-ghost use Rattle.std.specs.Prelude.{◌≡◌, ◌≤◌, ◌<◌, ◌++◌, ◌+◌, ◌^◌, [], ◌∷◌, ℕ, true, length, map, IfOk, OnOk};
+ghost use Rattle.std.specs.Prelude.{◌≡◌, ◌≤◌, ◌<◌, ◌++◌, ◌+◌, ◌^◌, [], ◌∷◌, ℕ, List, length, map, IfOk, OnOk};
 ghost use Rattle.pcc_script.specs.declared.limits.TheConstants.{MAX_ACTIONS};
 ghost use Rattle.std.specs.List.{AllByRecursion, flat_map};
 ghost use Rattle.pcc_script.specs.Limits.{IsWithin};
-ghost use Rattle.pcc_setup.specs.SetUps.{Opens};
-ghost use Rattle.script_run.specs.Built.{is_built};
+ghost use Rattle.cpc_package.specs.declared.binding.Binding.{Binding};
+ghost use Rattle.pcc_setup.specs.Equipment.{ArePlaces};
+ghost use Rattle.pcc_setup.specs.SetUps.{IsSetUpOf, Opens};
 ghost use Rattle.script_run.specs.Channels.{CanRun, IsEarly, starts_of};
 ghost use Rattle.script_run.specs.DeviceChannels.{channels_by};
 ghost use Rattle.script_run.specs.ReplyText.{replies_text};
-ghost use Rattle.script_run.specs.ScriptRuns.{IsStepText, channel_journal};
+ghost use Rattle.script_run.specs.ScriptRuns.{HasPlaces, IsStepText, channel_journal};
 ghost use Rattle.script_run.specs.StepRun.{ask_of, asks_by, step_run, turn_of};
 
 use crate::channel::DeviceChannel;
@@ -18,7 +19,7 @@ use cpc_package::Binding;
 use pcc_io::NoMemory;
 use pcc_journal::put_journal;
 use pcc_script::{Actions, Scenario};
-use pcc_setup::{OpenedList, first_action};
+use pcc_setup::{SetUp, first_action};
 use std::alloc::Global;
 
 // Runs lines from a number on, and puts their replies at the end.
@@ -57,25 +58,36 @@ fn put_journals(out: &mut Vec<u8>, channels: &[DeviceChannel]) -> Result<(), NoM
     Ok(())
 }
 
-/// The replies and the journals of a script, which opens these subspaces.
-pub fn run_text(
-    alloc: Global,
-    scenario: &Scenario,
-    opened: &OpenedList,
-) -> Result<Vec<u8>, NoMemory>
+// The bindings of the processors, in the order of their lines.
+fn bindings_of(alloc: Global, set_up: &SetUp) -> Result<Vec<Binding>, NoMemory>
+    requires { HasPlaces set_up.now }
+    ensures { IfOk result (λ v. (cpus : List Binding) → ArePlaces set_up.now.opened cpus set_up.now.places → v.items ≡ cpus) }
+{
+    let mut cpus = Vec::new(alloc);
+    for i in 0..set_up.places.len() {
+        let place = set_up.places.at(i);
+        let subspace = set_up.opened.at(place.opened as usize);
+        cpus.push(*subspace.cpus.at(place.cpu as usize))?;
+    }
+    Ok(cpus)
+}
+
+/// The replies and the journals of a script with this set-up.
+pub fn run_text(alloc: Global, scenario: &Scenario, set_up: &SetUp) -> Result<Vec<u8>, NoMemory>
     requires within { IsWithin scenario.now }
-    requires built { is_built scenario.now ≡ true }
-    requires opens { Opens scenario.now opened.now }
-    ensures { IfOk result (λ v. (h : Opens scenario.now opened.now) → IsStepText scenario.now h.table v.items) }
+    requires set_up { IsSetUpOf scenario.now set_up.now }
+    ensures { let opened = set_up.now.opened in
+        IfOk result (λ v. (h : Opens scenario.now opened) → IsStepText scenario.now opened h.checked.cpus v.items) }
 {
     let mut out = Vec::new(alloc);
-    let mut channels = OpenedChannels::open(alloc, scenario, opened)?;
+    let mut channels = OpenedChannels::open(alloc, scenario, set_up)?;
+    let cpus = bindings_of(alloc, set_up)?;
     let first = first_action(scenario);
     run_lines(
         alloc,
         &mut out,
         &mut channels,
-        &[],
+        &cpus,
         first,
         &scenario.actions,
     )?;
