@@ -32,7 +32,7 @@ use Rattle.script_run.specs.Built.{is_built, is_built_line}
 use Rattle.script_run.specs.Channels.{CanAsk, CanRun, IsWired, Suits, ids_of, is_on, starts_of}
 use Rattle.script_run.specs.ReplyText.{replies_text}
 use Rattle.script_run.specs.ScriptRuns.{IsStepText, asks_of, channel_journal, run_text, set_up_of, step_text}
-use Rattle.script_run.specs.StepRun.{Ask, OfCall, OfRead, OfWish, ask_of, ask_of_cpu, step_run, wish_of}
+use Rattle.script_run.specs.StepRun.{Ask, OfCall, OfRead, OfWish, ask_of, ask_of_cpu, asks_by, step_run, wish_of}
 use Rattle.script_run.proofs.Several.{open_rest}
 use Rattle.script_run.proofs.Starting.{FitsOn, cpu_fits, cpu_on, cpus_count, ids_are, set_up_headlines, there_at}
 
@@ -118,7 +118,7 @@ pub lines_run : (s : Scenario) (u : SetUp) (k : CanStart s u) (h : Opens s u.ope
 lines_run s u k h within = can_run s u k h s.actions within.actions (each_line (λ (l : Line). action_fault s l ≡ None) s.actions h.checked.named)
 
 -- what `step` prints for it
-pub text_is : (s : Scenario) (os : List Opened) (cpus : List Binding) (cs after : List Channel) (none put text : List ℕ) (first : ℕ) → Opens s os → cs ≡ set_up_of s os → first ≡ first_action s → none ≡ []
+text_is : (s : Scenario) (os : List Opened) (cpus : List Binding) (cs after : List Channel) (none put text : List ℕ) (first : ℕ) → Opens s os → cs ≡ set_up_of s os → first ≡ first_action s → none ≡ []
     → put ≡ none ++ replies_text first (step_run (asks_of s cpus) cs).replies → (step_run (asks_of s cpus) cs).channels ≡ after
     → text ≡ put ++ flat_map channel_journal after → IsStepText s os cpus text
 unfolding step_text
@@ -131,6 +131,13 @@ text_is s os cpus cs after none put text first h opened line empty replies left 
       text_is = subst P opened whole ∙ ap (λ (n : ℕ). run_text n (step_run (asks_of s cpus) (set_up_of s os))) line;
       headline = set_up_headlines s os cpus h;
     }
+
+-- the same, by the processors that the run was given
+pub text_of : (s : Scenario) (os : List Opened) (given cpus : List Binding) (cs after : List Channel) (none put text : List ℕ) (first : ℕ) → given ≡ cpus → Opens s os → cs ≡ set_up_of s os → first ≡ first_action s → none ≡ []
+    → put ≡ none ++ replies_text first (step_run (asks_by given s.actions) cs).replies → (step_run (asks_by given s.actions) cs).channels ≡ after
+    → text ≡ put ++ flat_map channel_journal after → IsStepText s os cpus text
+text_of s os given cpus cs after none put text first same h opened line empty replies left e =
+    subst (λ (bs : List Binding). IsStepText s os bs text) same (text_is s os given cs after none put text first h opened line empty replies left e)
 
 -- ---- wirings
 

@@ -4,7 +4,7 @@ ghost use Rattle.pcc_script.specs.declared.limits.TheConstants.{MAX_ACTIONS};
 ghost use Rattle.std.specs.List.{AllByRecursion};
 ghost use Rattle.pcc_script.specs.Limits.{IsWithin};
 ghost use Rattle.pcc_setup.specs.Equipment.{CanBegin};
-ghost use Rattle.pcc_setup.specs.SetUps.{IsSetUpOf};
+ghost use Rattle.pcc_setup.specs.SetUps.{IsSetUpOf, Opens};
 ghost use Rattle.script_run.specs.Channels.{AreDistinct, CanRun, IsEarly, IsWired, id_of, ids_of, is_on, moved_up, starts_of};
 ghost use Rattle.script_run.specs.DeviceChannels.{channel_of, channels_by};
 ghost use Rattle.script_run.specs.declared.channel.DeviceChannel.{DeviceChannel};
@@ -51,7 +51,10 @@ impl OpenedChannels {
     ) -> Result<OpenedChannels, NoMemory>
         requires within { IsWithin scenario.now }
         requires set_up { IsSetUpOf scenario.now set_up.now }
-        ensures { IfOk result (λ cs. channels_by cs ≡ set_up_of scenario.now set_up.now.opened) }
+        ensures channels { IfOk result (λ cs. channels_by cs ≡ set_up_of scenario.now set_up.now.opened) }
+        // They can run its lines.
+        ensures lines { IfOk result (λ cs. (h : Opens scenario.now set_up.now.opened)
+            → AllByRecursion (CanRun h.checked.cpus (starts_of (channels_by cs))) scenario.now.actions) }
     {
         right_wirings();
         set_up_laws();

@@ -5,14 +5,13 @@ ghost use Rattle.std.specs.List.{AllByRecursion};
 ghost use Rattle.channel_turns.specs.ChannelRuns.{count_in_flight, journal_limit};
 ghost use Rattle.pcc_script.specs.Limits.{IsWithin};
 ghost use Rattle.pcc_script.specs.declared.limits.TheConstants.{MAX_MADE_CALLS};
-ghost use Rattle.pcc_setup.specs.SetUps.{Opens};
+ghost use Rattle.pcc_script.specs.Made.{made_scenario_of};
+ghost use Rattle.pcc_setup.specs.SetUps.{IsSetUpOf};
 ghost use Rattle.pcc_text.specs.Pieces.{spelled};
-ghost use Rattle.script_run.specs.Built.{is_built};
 ghost use Rattle.script_run.specs.Channels.{CanRun, IsEarly, starts_of};
 ghost use Rattle.script_run.specs.DeviceChannels.{channel_of, channels_by};
-ghost use Rattle.script_run.specs.ScriptRuns.{run_of};
 ghost use Rattle.script_run.specs.StepRun.{asks_by, step_run};
-ghost use Rattle.script_run.specs.Summaries.{IsSummary, counts_of, output_sum, summary_pieces, summary_text};
+ghost use Rattle.script_run.specs.Summaries.{IsSummary, counts_of, output_sum, summary_pieces};
 
 use crate::channel::DeviceChannel;
 use crate::channels::OpenedChannels;
@@ -121,6 +120,7 @@ fn run_summary(
     scenario: &Scenario,
     set_up: &SetUp,
 ) -> Result<Vec<u8>, NoMemory>
+    requires within { IsWithin scenario.now }
     requires made { scenario.now ≡ made_scenario_of calls }
     requires set_up { IsSetUpOf scenario.now set_up.now }
     ensures { IfOk result (λ v. IsSummary calls v.items) }
