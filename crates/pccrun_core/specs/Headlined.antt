@@ -6,7 +6,7 @@ use Rattle.pcc_script.specs.declared.scenario.Scenario.{Scenario}
 use Rattle.pcct_table.specs.declared.table.Table.{Table}
 use Rattle.pcc_setup.specs.SetUps.{IsSetUp}
 use Rattle.script_run.specs.Headlines.{AreHeadlines}
-use Rattle.script_run.specs.ScriptRuns.{run_of, step_text}
+use Rattle.script_run.specs.ScriptRuns.{asks_of, run_of, step_text}
 use Rattle.script_run.specs.Summaries.{summary_text}
 use Rattle.pccrun_core.specs.Answers.{AsksFor, AsksToMake, IsServedScript, ReadWhole}
 use Rattle.pccrun_core.specs.Weaving.{IsWoven}
@@ -20,7 +20,7 @@ pub record StepHeadline (left left' held held' : Option (List ℕ)) : Type 0 whe
   pub read : ReadWhole left left' input
   pub served : IsServedScript command.Step input scenario table
   pub text : Appends held held' (step_text scenario table)
-  pub journals : AreHeadlines scenario.actions (run_of scenario table)
+  pub journals : AreHeadlines (asks_of scenario) (run_of scenario table)
 
 -- `weave` has read a script, and written a trace with its journal, which are woven (`IsWoven`, whose `headline` the journal keeps)
 pub record WeaveHeadline (left left' held held' : Option (List ℕ)) : Type 0 where
@@ -38,7 +38,7 @@ pub record MakeHeadline (calls : ℕ) (held held' : Option (List ℕ)) : Type 0 
   pub table : Table
   pub set_up : IsSetUp (made_scenario_of calls) table
   pub text : Appends held held' (summary_text calls (run_of (made_scenario_of calls) table))
-  pub journals : AreHeadlines (made_scenario_of calls).actions (run_of (made_scenario_of calls) table)
+  pub journals : AreHeadlines (asks_of (made_scenario_of calls)) (run_of (made_scenario_of calls) table)
 
 -- one of these, by the words
 pub record Headlined (words : List (List ℕ)) (left left' held held' : Option (List ℕ)) : Type 0 where

@@ -1,29 +1,33 @@
 -- The channels of the opened subspaces, one by one.
 use Rattle.std.proofs.Common.{◌≡◌, ◌≢◌, ℕ, zero, suc, ◌+◌, ◌-◌, ◌^◌, ◌<◌, ◌≤◌, ◌==◌, ◌||◌, Bool, true, false, cond, List, [], ◌∷◌, ◌++◌, length, get_or, map, set, take, drop, refl, sym, ap, ◌∙◌, subst, arith}
 use Rattle.std.specs.Prelude.{Option, Some, None, nat_lt, slice_get}
-use Rattle.std.specs.List.{AllByRecursion, flat_map, list_any}
+use Rattle.std.specs.List.{AllByRecursion, flat_map}
 use Rattle.std.proofs.lemmas.Bool.Decides.{nat_tests}
 use Rattle.std.proofs.lemmas.List.{append-nil, append_assoc, drop_all, drop_more, length-map, length-take, map-append, map-set, take_all, take_more}
 use Rattle.std.proofs.lemmas.List.Concat.{flat_map-append}
-use Rattle.std.proofs.lemmas.Option.{slice_get-get_or}
+use Rattle.std.proofs.lemmas.Option.{slice_get-get_or, slice_get_within}
 use Rattle.std.proofs.Math.Seq.{get_or-append_seam, set-append_seam}
 use Rattle.pcc_journal.specs.Records.{times_of}
 use Rattle.pcc_script.specs.declared.scenario.Line.{Line}
 use Rattle.pcc_script.specs.declared.scenario.Line.TheVariants as line
+use Rattle.pcc_script.specs.declared.scenario.Wish1.{Wish1}
 use Rattle.pcc_setup.specs.declared.opening.Opened.{Opened}
 use Rattle.rate_limit.specs.RateLimits.{earliest_of}
-use Rattle.channel_turns.specs.ChannelRuns.{Answered, Call, Channel, ChannelStart, ChannelState, InFlight, answer_call, answer_unless, completed, next_reading, post_call, refusal_of, after_earlier}
-use Rattle.channel_turns.specs.Outcomes.{IsPlaced, StandsFor}
+use Rattle.cpc_package.specs.declared.binding.Binding.{Binding}
+use Rattle.cppc_calls.specs.Wishes.{wish_fault}
+use Rattle.cppc_calls.specs.declared.wish.SetRefusal.{SetRefusal}
+use Rattle.channel_turns.specs.ChannelRuns.{Answered, Call, Channel, ChannelStart, ChannelState, InFlight, Polled, after_polls, answer_unless, call_by, next_reading, polled, polled_for, post_call, refusal_of}
 use Rattle.channel_turns.specs.Replies.{Reply}
-use Rattle.channel_turns.specs.declared.outcome.Outcome.{Outcome}
-use Rattle.script_run.specs.Channels.{AreDistinct, CanRun, IsAnsweredBy, IsEarly, IsWired, id_of, ids_of, moved_up}
+use Rattle.channel_headline.specs.WishCalls.{LineAnswer as LineTold, WishCall, post_wish, whole_call, wish_after, wish_refusal, wish_unless}
+use Rattle.script_run.specs.Channels.{AreDistinct, CanAsk, CanRun, IsEarly, IsToldBy, IsWired, Suits, id_of, ids_of, is_on, moved_up, starts_of}
 use Rattle.script_run.specs.DeviceChannels.{channel_of, channels_by}
 use Rattle.script_run.specs.declared.channel.DeviceChannel.{DeviceChannel}
-use Rattle.script_run.specs.LineOutcomes.{IsOutcomeOf}
+use Rattle.script_run.specs.declared.outcome.LineAnswer.{LineAnswer}
+use Rattle.script_run.specs.LineOutcomes.{IsOutcomeOf, IsPlacedIn, Tells}
 use Rattle.script_run.specs.ScriptRuns.{channel_journal}
-use Rattle.script_run.specs.StepRun.{Turn, call_on, turn_of}
+use Rattle.script_run.specs.StepRun.{Ask, Asks, LineAsk, Moves, OfCall, OfRead, OfWish, Shown, ShownReply, Turn, answer, ask_of, ask_of_cpu, asked_on, call_of, turn_of, wish_of}
 use Rattle.pcc_text.proofs.Mapped.{mapped_more}
-use Rattle.script_run.proofs.Several.{call_at, channels_waited, turn_ids}
+use Rattle.script_run.proofs.Several.{call_at, channels_waited, turn_starts}
 
 -- what holds of all items holds of the one at a place
 pub item_here : {X : Type 0} (P : X → Type 0) (xs : List X) (i : ℕ) (x : X) → AllByRecursion P xs → i < length xs → x ≡ get_or xs i x → P x
@@ -56,7 +60,7 @@ opened_more f os ds next i o d lt is e of h =
 -- ---- the place of an ID
 
 abbrev pub Has : ℕ → List DeviceChannel → Type 0
-Has id ds = list_any (λ x. x == id) (ids_of (channels_by ds)) ≡ true
+Has id ds = is_on id (starts_of (channels_by ds)) ≡ true
 
 pub rest_starts : (id : ℕ) (ds : List DeviceChannel) → Has id ds → Has id (drop 0 ds)
 rest_starts id ds h = h
@@ -69,7 +73,7 @@ pub rest_has : (id : ℕ) (ds : List DeviceChannel) (i : ℕ) (d : DeviceChannel
 rest_has id ds i d lt is ne h =
     let front : drop i ds ≡ d ∷ drop (i + 1) ds = drop_more ds i d lt ∙ ap (λ (x : DeviceChannel). x ∷ drop (i + 1) ds) (sym is) in
     let differs : (id_of (channel_of d) == id) ≡ false = grind (arith, nat_tests) in
-    rest_of (id_of (channel_of d) == id) (list_any (λ x. x == id) (ids_of (channels_by (drop (i + 1) ds)))) (subst (Has id) front h) differs
+    rest_of (id_of (channel_of d) == id) (is_on id (starts_of (channels_by (drop (i + 1) ds)))) (subst (Has id) front h) differs
 
 pub rest_ends : (id : ℕ) (ds : List DeviceChannel) (i : ℕ) → length ds ≤ i → Has id (drop i ds) → ⊥
 rest_ends id ds i le h = let none : Has id [] = subst (Has id) (drop_all i ds le) h in absurd cc
@@ -115,31 +119,90 @@ moved_end n ds now i le h =
     let most : length (channels_by ds) ≤ i = omega (arith, le, m) in
     h ∙ (λ k. map (moved_up n) (take_all i (channels_by ds) most k) ++ drop_all i (channels_by ds) most k) ∙ append-nil (map (moved_up n) (channels_by ds))
 
--- ---- a call of a line
+-- ---- what a line asks
 
--- what becomes of a call on the channel at a place
-abbrev pub Turned : Line → List DeviceChannel → ℕ → DeviceChannel → Outcome → Type 0
-Turned action ds i new outcome = (reply : Reply) × (turn_of action (channels_by ds) ≡ record { reply = Some reply; channels = channels_by (set ds i new) }) × StandsFor (channel_of new).now.records outcome reply
+-- what becomes of an ask on the channel at a place
+abbrev pub Turned : LineAsk → List DeviceChannel → ℕ → DeviceChannel → LineAnswer → Type 0
+Turned l ds i new told = (reply : ShownReply) × (turn_of l (channels_by ds) ≡ record { reply = Some reply; channels = channels_by (set ds i new) }) × Tells (channel_of new).now.records told reply
 
-pub turned : (action : Line) (ds : List DeviceChannel) (i : ℕ) (d new : DeviceChannel) (worker subspace code : ℕ) (bytes given : List ℕ) (polls hold : ℕ) (outcome : Outcome) → action ≡ line.Call worker subspace code bytes polls hold
-    → given ≡ bytes → AreDistinct (ids_of (channels_by ds)) → i < length ds → d ≡ get_or ds i d
-    → ((x : DeviceChannel) → slice_get ds i ≡ Some x → id_of (channel_of x) ≡ subspace)
-    → IsAnsweredBy (channel_of d) (record { caller = worker; code = code; bytes = given; polls = polls; hold = hold }) (channel_of new) outcome → Turned action ds i new outcome
-turned action ds i d new worker subspace code bytes given polls hold outcome is same apart lt at named answered =
-    let call : Call = record { caller = worker; code = code; bytes = given; polls = polls; hold = hold } in
+pub turned : (l : LineAsk) (ds : List DeviceChannel) (i : ℕ) (d new : DeviceChannel) (id : ℕ) (ask : Ask) (told : LineAnswer) → l ≡ Asks id ask
+    → AreDistinct (ids_of (channels_by ds)) → i < length ds → d ≡ get_or ds i d
+    → ((x : DeviceChannel) → slice_get ds i ≡ Some x → id_of (channel_of x) ≡ id)
+    → IsToldBy (channel_of d) ask (channel_of new) told → Turned l ds i new told
+turned l ds i d new id ask told is apart lt at named answered =
     let c : Channel = channel_of d in
     let cs : List Channel = channels_by ds in
-    let a : Answered = answer_call c.start call c.now in
+    let a : Shown = answer c.start ask c.now in
     let here : slice_get cs i ≡ Some c = slice_get-get_or cs i c (within_by ds i lt) ∙ ap Some (sym (get_by ds i d at)) in
-    let id : id_of c ≡ subspace = named d (slice_get-get_or ds i d lt ∙ ap Some (sym at)) in
-    let P : Channel → Type 0 = λ x. StandsFor x.now.records outcome a.reply in
-    let line_is : action ≡ line.Call worker subspace code given polls hold = is ∙ ap (λ (v : List ℕ). line.Call worker subspace code v polls hold) (sym same) in (
+    let same : id_of c ≡ id = named d (slice_get-get_or ds i d lt ∙ ap Some (sym at)) in
+    let P : Channel → Type 0 = λ x. Tells x.now.records told a.reply in (
       a.reply,
-      ap (λ (l : Line). turn_of l cs) line_is ∙ ap (λ (n : ℕ). call_on n call cs) (sym id) ∙ call_at call cs i c apart here
+      ap (λ (x : LineAsk). turn_of x cs) is ∙ ap (λ (n : ℕ). asked_on n ask cs) (sym same) ∙ call_at ask cs i c apart here
           ∙ ap (λ (x : Channel). record { reply = Some a.reply; channels = set cs i x }) (sym answered.left)
           ∙ ap (λ (v : List Channel). record { reply = Some a.reply; channels = v }) (sym (map-set channel_of ds i new)),
       subst P (sym answered.left) answered.reply,
     )
+
+-- a call, whose bytes are given as a list of their own
+pub call_asks : (cpus : List Binding) (action : Line) (worker subspace code : ℕ) (bytes given : List ℕ) (polls hold : ℕ) → action ≡ line.Call worker subspace code bytes polls hold → given ≡ bytes
+    → ask_of cpus action ≡ Asks subspace (OfCall (call_by worker code given polls hold))
+call_asks cpus action worker subspace code bytes given polls hold is same = ap (ask_of cpus) is ∙ ap (λ (v : List ℕ). Asks subspace (OfCall (call_by worker code v polls hold))) (sym same)
+
+-- a processor that is named is there
+pub cpu_there : (starts : List ChannelStart) (cpus : List Binding) (cpu : ℕ) (f : Binding → Ask) → CanAsk starts (ask_of_cpu (slice_get cpus cpu) f) → cpu < length cpus
+cpu_there starts cpus cpu f h = by (slice_get cpus cpu) refl h
+  where
+    by : (o : Option Binding) → slice_get cpus cpu ≡ o → CanAsk starts (ask_of_cpu o f) → cpu < length cpus
+    by None e k = absurd k
+    by (Some b) e k = slice_get_within cpus cpu b e
+
+-- the processor suits the channel at a place
+pub suits_at : (ds : List DeviceChannel) (i id : ℕ) (d : DeviceChannel) (ask : Ask) → AllByRecursion (λ s. s.head.id ≡ id → Suits s.head.room ask) (starts_of (channels_by ds)) → i < length ds → d ≡ get_or ds i d
+    → id_of (channel_of d) ≡ id → Suits (channel_of d).start.head.room ask
+suits_at [] i id d ask h lt e is = absurd (omega (arith, lt))
+suits_at (x ∷ xs) zero id d ask h lt e is = subst (λ (y : DeviceChannel). id_of (channel_of y) ≡ id → Suits (channel_of y).start.head.room ask) (sym e) h.0 is
+suits_at (x ∷ xs) (suc i) id d ask h lt e is = suits_at xs i id d ask h.1 (omega (arith, lt)) e is
+
+-- a line of a processor, which suits the channel of its subspace
+pub record IsOfCpu (cpus : List Binding) (ds : List DeviceChannel) (l : LineAsk) (binding : Binding) (ask : Ask) (place : ℕ) (d : DeviceChannel) : Type 0 where
+  pub asks : l ≡ Asks binding.subspace ask
+  pub suits : Suits (channel_of d).start.head.room ask
+
+of_cpu : (cpus : List Binding) (ds : List DeviceChannel) (l : LineAsk) (cpu : ℕ) (none : Binding) (f : Binding → Ask) (id place : ℕ) (d : DeviceChannel) → l ≡ ask_of_cpu (slice_get cpus cpu) f
+    → CanAsk (starts_of (channels_by ds)) l → id ≡ (get_or cpus cpu none).subspace → place < length ds → d ≡ get_or ds place d
+    → ((x : DeviceChannel) → slice_get ds place ≡ Some x → id_of (channel_of x) ≡ id)
+    → IsOfCpu cpus ds l (get_or cpus cpu none) (f (get_or cpus cpu none)) place d
+of_cpu cpus ds l cpu none f id place d is can e lt at named =
+    let starts : List ChannelStart = starts_of (channels_by ds) in
+    let b : Binding = get_or cpus cpu none in
+    let within : cpu < length cpus = cpu_there starts cpus cpu f (subst (CanAsk starts) is can) in
+    let asks : l ≡ Asks b.subspace (f b) = is ∙ ap (λ (o : Option Binding). ask_of_cpu o f) (slice_get-get_or cpus cpu none within) in
+    let h : CanAsk starts (Asks b.subspace (f b)) = subst (CanAsk starts) asks can in
+    record { asks = asks; suits = suits_at ds place b.subspace d (f b) h.1 lt at (named d (slice_get-get_or ds place d lt ∙ ap Some (sym at)) ∙ e) }
+
+pub of_read : (cpus : List Binding) (ds : List DeviceChannel) (action : Line) (worker cpu polls hold : ℕ) (none : Binding) (id place : ℕ) (d : DeviceChannel) → action ≡ line.Read worker cpu polls hold
+    → CanAsk (starts_of (channels_by ds)) (ask_of cpus action) → id ≡ (get_or cpus cpu none).subspace → place < length ds → d ≡ get_or ds place d
+    → ((x : DeviceChannel) → slice_get ds place ≡ Some x → id_of (channel_of x) ≡ id)
+    → let b = get_or cpus cpu none in IsOfCpu cpus ds (ask_of cpus action) b (OfRead (record { caller = worker; binding = b; polls = polls; hold = hold })) place d
+of_read cpus ds action worker cpu polls hold none id place d is can e lt at named =
+    of_cpu cpus ds (ask_of cpus action) cpu none (λ b. OfRead (record { caller = worker; binding = b; polls = polls; hold = hold })) id place d (ap (ask_of cpus) is) can e lt at named
+
+pub of_set : (cpus : List Binding) (ds : List DeviceChannel) (action : Line) (worker : ℕ) (wish : Wish1) (polls hold : ℕ) (none : Binding) (id place : ℕ) (d : DeviceChannel) → action ≡ line.Set worker wish polls hold
+    → CanAsk (starts_of (channels_by ds)) (ask_of cpus action) → id ≡ (get_or cpus wish.cpu none).subspace → place < length ds → d ≡ get_or ds place d
+    → ((x : DeviceChannel) → slice_get ds place ≡ Some x → id_of (channel_of x) ≡ id)
+    → let b = get_or cpus wish.cpu none in IsOfCpu cpus ds (ask_of cpus action) b (OfWish (record { caller = worker; binding = b; wish = wish_of wish; polls = polls; hold = hold })) place d
+of_set cpus ds action worker wish polls hold none id place d is can e lt at named =
+    of_cpu cpus ds (ask_of cpus action) wish.cpu none (λ b. OfWish (record { caller = worker; binding = b; wish = wish_of wish; polls = polls; hold = hold })) id place d (ap (ask_of cpus) is) can e lt at named
+
+-- its processor is there, on one of the channels
+pub set_there : (starts : List ChannelStart) (cpus : List Binding) (action : Line) (worker : ℕ) (wish : Wish1) (polls hold : ℕ) (none : Binding) → action ≡ line.Set worker wish polls hold
+    → CanAsk starts (ask_of cpus action) → (wish.cpu < length cpus) × (is_on (get_or cpus wish.cpu none).subspace starts ≡ true)
+set_there starts cpus action worker wish polls hold none is can =
+    let f : Binding → Ask = λ b. OfWish (record { caller = worker; binding = b; wish = wish_of wish; polls = polls; hold = hold }) in
+    let h : CanAsk starts (ask_of_cpu (slice_get cpus wish.cpu) f) = subst (λ (l : Line). CanAsk starts (ask_of cpus l)) is can in
+    let lt : wish.cpu < length cpus = cpu_there starts cpus wish.cpu f h in
+    let k : CanAsk starts (Asks (get_or cpus wish.cpu none).subspace (f (get_or cpus wish.cpu none))) = subst (λ (o : Option Binding). CanAsk starts (ask_of_cpu o f)) (slice_get-get_or cpus wish.cpu none lt) h in
+    (lt, k.0)
 
 set_here : (ds : List DeviceChannel) (i : ℕ) (d : DeviceChannel) → i < length ds → slice_get (set ds i d) i ≡ Some d
 set_here [] i d lt = absurd (omega (arith, lt))
@@ -147,31 +210,59 @@ set_here (x ∷ xs) zero d lt = refl
 set_here (x ∷ xs) (suc i) d lt = set_here xs i d (omega (arith, lt))
 
 -- its outcome
-pub outcome_of : (action : Line) (ds : List DeviceChannel) (i : ℕ) (new : DeviceChannel) (outcome : Outcome) → i < length ds → IsPlaced (length (channel_of new).now.records) outcome → Turned action ds i new outcome
-    → IsOutcomeOf (turn_of action (channels_by ds)).reply (set ds i new) (Some (record { place = i; outcome = outcome }))
-outcome_of action ds i new outcome lt placed t = (new, set_here ds i new lt, placed, (t.0, ap (λ (x : Turn). x.reply) t.1, t.2))
+pub outcome_of : (l : LineAsk) (ds : List DeviceChannel) (i : ℕ) (new : DeviceChannel) (told : LineAnswer) → i < length ds → IsPlacedIn (length (channel_of new).now.records) told → Turned l ds i new told
+    → IsOutcomeOf (turn_of l (channels_by ds)).reply (set ds i new) (Some (record { place = i; answer = told }))
+outcome_of l ds i new told lt placed t = (new, set_here ds i new lt, placed, (t.0, ap (λ (x : Turn). x.reply) t.1, t.2))
 
-pub call_channels : (action : Line) (ds : List DeviceChannel) (i : ℕ) (new : DeviceChannel) (outcome : Outcome) → Turned action ds i new outcome → (turn_of action (channels_by ds)).channels ≡ channels_by (set ds i new)
-call_channels action ds i new outcome t = ap (λ (x : Turn). x.channels) t.1
+pub ask_channels : (l : LineAsk) (ds : List DeviceChannel) (i : ℕ) (new : DeviceChannel) (told : LineAnswer) → Turned l ds i new told → (turn_of l (channels_by ds)).channels ≡ channels_by (set ds i new)
+ask_channels l ds i new told t = ap (λ (x : Turn). x.channels) t.1
 
--- a call adds no time
-same_added : (start : ChannelStart) (call : Call) (now : ChannelState) → (answer_call start call now).now.added ≡ now.added
-same_added start call now = unless (refusal_of start.head call now)
-  where
-    choose : (b : Bool) (x y : Answered) → x.now.added ≡ now.added → y.now.added ≡ now.added → (cond b x y).now.added ≡ now.added
-    choose true x y h k = h
-    choose false x y h k = k
+-- an ask adds no time
+module _ (start : ChannelStart) (added : ℕ) where
+  abbrev Keeps : ChannelState → Type 0
+  Keeps now = now.added ≡ added
 
-    posted : (later : ChannelState) → later.added ≡ now.added → (post_call start call later).now.added ≡ now.added
-    posted later e = choose (nat_lt (next_reading start later) (earliest_of start.head.limits (times_of later.records))) _ _ e (choose (nat_lt call.hold call.polls) _ _ e e)
+  choose : (b : Bool) (x y : Answered) → Keeps x.now → Keeps y.now → Keeps (cond b x y).now
+  choose true x y h k = h
+  choose false x y h k = k
 
-    behind : (o : Option InFlight) → (after_earlier start call.polls (post_call start call) now o).now.added ≡ now.added
-    behind None = posted now refl
-    behind (Some p) = choose (nat_lt p.left call.polls) _ _ (posted (completed start p.command true now) refl) refl
+  posted : (call : Call) (now : ChannelState) → Keeps now → Keeps (post_call start call now).now
+  posted call now e = choose (nat_lt (next_reading start now) (earliest_of start.head.limits (times_of now.records))) _ _ e (choose (nat_lt call.hold call.polls) _ _ e e)
 
-    unless : (o : Option Reply) → (answer_unless start call now o).now.added ≡ now.added
-    unless (Some r) = refl
-    unless None = behind now.in_flight
+  polls_keep : (polls : ℕ) (now : ChannelState) (o : Option InFlight) → Keeps now → Keeps (polled_for start polls now o).now
+  polls_keep polls now None e = e
+  polls_keep polls now (Some p) e = which (nat_lt p.left polls) _ _ e e
+    where
+      which : (b : Bool) (x y : Polled) → Keeps x.now → Keeps y.now → Keeps (cond b x y).now
+      which true x y h k = h
+      which false x y h k = k
+
+  called_keeps : (call : Call) (now : ChannelState) (o : Option Reply) → Keeps now → Keeps (answer_unless start call now o).now
+  called_keeps call now (Some r) e = e
+  called_keeps call now None e = after (polled start call.polls now) (polls_keep call.polls now now.in_flight e)
+    where
+      after : (p : Polled) → Keeps p.now → Keeps (after_polls start call p).now
+      after p k = choose p.free _ _ (posted call p.now k) k
+
+  wish_keeps : (w : WishCall) (now : ChannelState) (o : Option Reply) → Keeps now → Keeps (wish_unless start w now o).now
+  wish_keeps w now (Some r) e = e
+  wish_keeps w now None e = after (polled start w.polls now) (polls_keep w.polls now now.in_flight e)
+    where
+      put : (now : ChannelState) (o : Option SetRefusal) → Keeps now → Keeps (post_wish start w now o).now
+      put now (Some why) k = k
+      put now None k = posted (whole_call w now.object.space) now k
+
+      which : (b : Bool) (x y : LineTold) → Keeps x.now → Keeps y.now → Keeps (cond b x y).now
+      which true x y h k = h
+      which false x y h k = k
+
+      after : (p : Polled) → Keeps p.now → Keeps (wish_after start w p).now
+      after p k = which p.free _ _ (put p.now (wish_fault w.binding p.now.object.space w.wish) k) k
+
+same_added : (start : ChannelStart) (ask : Ask) (now : ChannelState) → (answer start ask now).now.added ≡ now.added
+same_added start (OfCall call) now = called_keeps start now.added call now (refusal_of start.head call now) refl
+same_added start (OfRead r) now = called_keeps start now.added (call_of r) now (refusal_of start.head (call_of r) now) refl
+same_added start (OfWish w) now = wish_keeps start now.added w now (wish_refusal start.head now) refl
 
 -- what holds of the Banks holds with another one at a place
 all_set : (P : Channel → Type 0) (bs : List Channel) (i : ℕ) (b : Channel) → AllByRecursion P bs → P b → AllByRecursion P (set bs i b)
@@ -187,13 +278,13 @@ later : (count : ℕ) (b : Channel) → IsEarly count b → IsEarly (count + 1) 
 later count b h = let t = h.taken in let a = h.added in record { taken = omega (arith, t); added = omega (arith, a) }
 
 -- three readings more, and no added time
-pub call_early : (ds : List DeviceChannel) (i : ℕ) (d new : DeviceChannel) (call : Call) (outcome : Outcome) (count : ℕ) → i < length ds → d ≡ get_or ds i d → IsAnsweredBy (channel_of d) call (channel_of new) outcome
+pub ask_early : (ds : List DeviceChannel) (i : ℕ) (d new : DeviceChannel) (ask : Ask) (told : LineAnswer) (count : ℕ) → i < length ds → d ≡ get_or ds i d → IsToldBy (channel_of d) ask (channel_of new) told
     → (channel_of new).now.taken ≤ (channel_of d).now.taken + 3 → AllByRecursion (IsEarly count) (channels_by ds) → AllByRecursion (IsEarly (count + 1)) (channels_by (set ds i new))
-call_early ds i d new call outcome count lt is answered few h =
+ask_early ds i d new ask told count lt is answered few h =
     let c : Channel = channel_of d in
     let cs : List Channel = channels_by ds in
     let here : IsEarly count c = item_here (IsEarly count) cs i c h (within_by ds i lt) (get_by ds i d is) in
-    let added : (channel_of new).now.added ≡ c.now.added = ap (λ (x : Channel). x.now.added) answered.left ∙ same_added c.start call c.now in
+    let added : (channel_of new).now.added ≡ c.now.added = ap (λ (x : Channel). x.now.added) answered.left ∙ same_added c.start ask c.now in
     let t = here.taken in
     let a = here.added in
     subst (AllByRecursion (IsEarly (count + 1))) (sym (map-set channel_of ds i new))
@@ -206,10 +297,10 @@ early_at ds i d lt is h =
     let t = here.taken in
     omega (arith, t)
 
-pub call_ids : (ds : List DeviceChannel) (i : ℕ) (d new : DeviceChannel) → i < length ds → d ≡ get_or ds i d → (channel_of new).start ≡ (channel_of d).start → ids_of (channels_by (set ds i new)) ≡ ids_of (channels_by ds)
-call_ids [] i d new lt is e = absurd (omega (arith, lt))
-call_ids (x ∷ xs) zero d new lt is e = ap (λ (s : ChannelStart). s.head.id ∷ ids_of (channels_by xs)) (e ∙ ap (λ (y : DeviceChannel). (channel_of y).start) is)
-call_ids (x ∷ xs) (suc i) d new lt is e = ap (λ (v : List ℕ). id_of (channel_of x) ∷ v) (call_ids xs i d new (omega (arith, lt)) is e)
+pub ask_starts : (ds : List DeviceChannel) (i : ℕ) (d new : DeviceChannel) → i < length ds → d ≡ get_or ds i d → (channel_of new).start ≡ (channel_of d).start → starts_of (channels_by (set ds i new)) ≡ starts_of (channels_by ds)
+ask_starts [] i d new lt is e = absurd (omega (arith, lt))
+ask_starts (x ∷ xs) zero d new lt is e = ap (λ (s : ChannelStart). s ∷ starts_of (channels_by xs)) (e ∙ ap (λ (y : DeviceChannel). (channel_of y).start) is)
+ask_starts (x ∷ xs) (suc i) d new lt is e = ap (λ (v : List ChannelStart). (channel_of x).start ∷ v) (ask_starts xs i d new (omega (arith, lt)) is e)
 
 -- ---- a `wait` line
 
@@ -217,15 +308,15 @@ wait_fits : (n : ℕ) (bs : List Channel) → n ≤ 2 ^ 64 - 1 → AllByRecursio
 wait_fits n [] le h = tt
 wait_fits n (b ∷ bs) le h = let a = h.0.added in (omega (arith, a, le), wait_fits n bs le h.1)
 
-pub wait_turn : (n : ℕ) (cs now : List Channel) → n ≤ 2 ^ 64 - 1 → AllByRecursion (IsEarly 65536) cs → now ≡ map (moved_up n) cs → (turn_of (line.Wait n) cs).channels ≡ now
+pub wait_turn : (n : ℕ) (cs now : List Channel) → n ≤ 2 ^ 64 - 1 → AllByRecursion (IsEarly 65536) cs → now ≡ map (moved_up n) cs → (turn_of (Moves n) cs).channels ≡ now
 wait_turn n cs now le early e = channels_waited n cs (wait_fits n cs le early) ∙ sym e
 
-pub wait_ids : (n : ℕ) (cs now : List Channel) → now ≡ map (moved_up n) cs → ids_of now ≡ ids_of cs
-wait_ids n cs now e = ap ids_of e ∙ same cs
+pub wait_starts : (n : ℕ) (cs now : List Channel) → now ≡ map (moved_up n) cs → starts_of now ≡ starts_of cs
+wait_starts n cs now e = ap starts_of e ∙ same cs
   where
-    same : (xs : List Channel) → ids_of (map (moved_up n) xs) ≡ ids_of xs
+    same : (xs : List Channel) → starts_of (map (moved_up n) xs) ≡ starts_of xs
     same [] = refl
-    same (x ∷ xs) = ap (λ (v : List ℕ). id_of x ∷ v) (same xs)
+    same (x ∷ xs) = ap (λ (v : List ChannelStart). x.start ∷ v) (same xs)
 
 pub wait_early : (n : ℕ) (bs now : List Channel) (count : ℕ) → now ≡ map (moved_up n) bs → n ≤ 2 ^ 64 - 1 → AllByRecursion (IsEarly count) bs → AllByRecursion (IsEarly (count + 1)) now
 wait_early n bs now count e le h = subst (AllByRecursion (IsEarly (count + 1))) (sym e) (all bs h)
@@ -248,13 +339,13 @@ one_more_journal ds i d text put next lt is e h =
 
 -- ---- between lines
 
--- the IDs stay, so the channels can run the next line too
-pub can_still : (begin cs : List Channel) (ls : List Line) (i : ℕ) (l : Line) → AllByRecursion (CanRun (ids_of begin)) ls → i < length ls → l ≡ get_or ls i l → ids_of cs ≡ ids_of begin → CanRun (ids_of cs) l
-can_still begin cs ls i l h lt is e = subst (λ (ids : List ℕ). CanRun ids l) (sym e) (item_here (CanRun (ids_of begin)) ls i l h lt is)
+-- the starts stay, so the channels can run the next line too
+pub can_still : (cpus : List Binding) (begin cs : List Channel) (ls : List Line) (i : ℕ) (l : Line) → AllByRecursion (CanRun cpus (starts_of begin)) ls → i < length ls → l ≡ get_or ls i l → starts_of cs ≡ starts_of begin → CanRun cpus (starts_of cs) l
+can_still cpus begin cs ls i l h lt is e = subst (λ (starts : List ChannelStart). CanRun cpus starts l) (sym e) (item_here (CanRun cpus (starts_of begin)) ls i l h lt is)
 
 pub early_still : (cs : List Channel) (i : ℕ) → i < 65536 → AllByRecursion (IsEarly i) cs → AllByRecursion (IsEarly 65536) cs
 early_still cs i lt h = all_more (IsEarly i) (IsEarly 65536) cs (λ c e. let t = e.taken in let a = e.added in record { taken = omega (arith, t, lt); added = omega (arith, a, lt) }) h
 
--- what a line leaves has the same IDs
-pub ids_left : (l : Line) (begin cs next : List Channel) → (turn_of l cs).channels ≡ next → ids_of cs ≡ ids_of begin → ids_of next ≡ ids_of begin
-ids_left l begin cs next left e = ap ids_of (sym left) ∙ turn_ids l cs ∙ e
+-- what a line leaves has the same starts
+pub starts_left : (l : LineAsk) (begin cs next : List Channel) → (turn_of l cs).channels ≡ next → starts_of cs ≡ starts_of begin → starts_of next ≡ starts_of begin
+starts_left l begin cs next left e = ap starts_of (sym left) ∙ turn_starts l cs ∙ e

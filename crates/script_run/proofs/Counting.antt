@@ -5,28 +5,31 @@ use Rattle.std.proofs.lemmas.List.{take_all}
 use Rattle.std.proofs.lemmas.List.Sums.{fold_push, sum_by-cons, sum_by_more}
 use Rattle.pcc_journal.specs.declared.record.Record.{Record}
 use Rattle.pcc_script.specs.declared.scenario.Line.{Line}
+use Rattle.cpc_package.specs.declared.binding.Binding.{Binding}
 use Rattle.channel_turns.specs.ChannelRuns.{Channel}
-use Rattle.channel_turns.specs.Replies.{Reply, Done, BadCode, TooLong, JournalFull, StillPending, TooSoon, TimedOut}
-use Rattle.script_run.specs.StepRun.{step_run, turn_of}
-use Rattle.script_run.specs.Summaries.{IsUnder, counted, counts_of, none_counted, output_sum}
+use Rattle.channel_turns.specs.Replies.{Done, BadCode, TooLong, JournalFull, StillPending, TooSoon, TimedOut}
+use Rattle.channel_headline.specs.Asked.{LineReply, Refused, Replied}
+use Rattle.script_run.specs.Headlines.{own_reply}
+use Rattle.script_run.specs.StepRun.{LineAsk, ShownReply, asks_by, step_run, turn_of}
+use Rattle.script_run.specs.Summaries.{IsUnder, added, counted, counts_of, none_counted, output_sum}
 use Rattle.script_run.specs.declared.counts.Counts.{Counts}
-use Rattle.script_run.proofs.Steps.{Going, going_end, going_more, going_start}
+use Rattle.script_run.proofs.Steps.{Going, behind_lines, going_end, going_more, going_start}
 
 -- ---- counts
 
 -- the replies of the lines so far were counted
-pub record Counting (lines : List Line) (begin : List Channel) (i : ℕ) (now : List Channel) (counts : Counts) : Type 0 where
-  pub told : List (Option Reply)
+pub record Counting (lines : List LineAsk) (begin : List Channel) (i : ℕ) (now : List Channel) (counts : Counts) : Type 0 where
+  pub told : List (Option ShownReply)
   pub going : Going lines begin i now told
   pub counts_are : counts ≡ counts_of told
   pub under : IsUnder i counts
 
-pub counting_start : (lines : List Line) (begin : List Channel) → Counting lines begin 0 begin none_counted
+pub counting_start : (lines : List LineAsk) (begin : List Channel) → Counting lines begin 0 begin none_counted
 counting_start lines begin = record { told = []; going = going_start lines begin; counts_are = refl; under = record { ok = omega arith; error = omega arith; timed_out = omega arith; still_pending = omega arith; other = omega arith } }
 
 -- a count grows by one at most
-one_more : (i : ℕ) (c : Counts) (r : Option Reply) → IsUnder i c → IsUnder (i + 1) (counted c r)
-one_more i c r h = grows r (record { ok = omega (arith, ok); error = omega (arith, error); timed_out = omega (arith, timed_out); still_pending = omega (arith, still_pending); other = omega (arith, other) })
+one_more : (i : ℕ) (c : Counts) (r : Option ShownReply) → IsUnder i c → IsUnder (i + 1) (counted c r)
+one_more i c r h = all r (record { ok = omega (arith, ok); error = omega (arith, error); timed_out = omega (arith, timed_out); still_pending = omega (arith, still_pending); other = omega (arith, other) })
   where
     ok : c.ok ≤ i
     ok = h.ok
@@ -43,21 +46,25 @@ one_more i c r h = grows r (record { ok = omega (arith, ok); error = omega (arit
     other : c.other ≤ i
     other = h.other
 
-    grows : (r : Option Reply) → IsUnder (i + 1) c → IsUnder (i + 1) (counted c r)
-    grows None w = w
-    grows (Some (Done false output)) w = record { ok = omega (arith, ok); error = w.error; timed_out = w.timed_out; still_pending = w.still_pending; other = w.other }
-    grows (Some (Done true output)) w = record { ok = w.ok; error = omega (arith, error); timed_out = w.timed_out; still_pending = w.still_pending; other = w.other }
-    grows (Some (TimedOut looks)) w = record { ok = w.ok; error = w.error; timed_out = omega (arith, timed_out); still_pending = w.still_pending; other = w.other }
-    grows (Some (StillPending looks)) w = record { ok = w.ok; error = w.error; timed_out = w.timed_out; still_pending = omega (arith, still_pending); other = w.other }
-    grows (Some (BadCode code)) w = record { ok = w.ok; error = w.error; timed_out = w.timed_out; still_pending = w.still_pending; other = omega (arith, other) }
-    grows (Some (TooLong len room)) w = record { ok = w.ok; error = w.error; timed_out = w.timed_out; still_pending = w.still_pending; other = omega (arith, other) }
-    grows (Some JournalFull) w = record { ok = w.ok; error = w.error; timed_out = w.timed_out; still_pending = w.still_pending; other = omega (arith, other) }
-    grows (Some (TooSoon reading earliest)) w = record { ok = w.ok; error = w.error; timed_out = w.timed_out; still_pending = w.still_pending; other = omega (arith, other) }
+    grows : (r : LineReply) → IsUnder (i + 1) c → IsUnder (i + 1) (added c r)
+    grows (Replied (Done false output)) w = record { ok = omega (arith, ok); error = w.error; timed_out = w.timed_out; still_pending = w.still_pending; other = w.other }
+    grows (Replied (Done true output)) w = record { ok = w.ok; error = omega (arith, error); timed_out = w.timed_out; still_pending = w.still_pending; other = w.other }
+    grows (Replied (TimedOut looks)) w = record { ok = w.ok; error = w.error; timed_out = omega (arith, timed_out); still_pending = w.still_pending; other = w.other }
+    grows (Replied (StillPending looks)) w = record { ok = w.ok; error = w.error; timed_out = w.timed_out; still_pending = omega (arith, still_pending); other = w.other }
+    grows (Replied (BadCode code)) w = record { ok = w.ok; error = w.error; timed_out = w.timed_out; still_pending = w.still_pending; other = omega (arith, other) }
+    grows (Replied (TooLong len room)) w = record { ok = w.ok; error = w.error; timed_out = w.timed_out; still_pending = w.still_pending; other = omega (arith, other) }
+    grows (Replied JournalFull) w = record { ok = w.ok; error = w.error; timed_out = w.timed_out; still_pending = w.still_pending; other = omega (arith, other) }
+    grows (Replied (TooSoon reading earliest)) w = record { ok = w.ok; error = w.error; timed_out = w.timed_out; still_pending = w.still_pending; other = omega (arith, other) }
+    grows (Refused why) w = record { ok = w.ok; error = w.error; timed_out = w.timed_out; still_pending = w.still_pending; other = omega (arith, other) }
 
-pub counting_more : (lines : List Line) (begin now next : List Channel) (i : ℕ) (l : Line) (counts counts' : Counts) → i < length lines → l ≡ get_or lines i l → counts' ≡ counted counts (turn_of l now).reply → (turn_of l now).channels ≡ next
+    all : (r : Option ShownReply) → IsUnder (i + 1) c → IsUnder (i + 1) (counted c r)
+    all None w = w
+    all (Some reply) w = grows (own_reply reply) w
+
+pub counting_more : (lines : List LineAsk) (begin now next : List Channel) (i : ℕ) (l : LineAsk) (counts counts' : Counts) → i < length lines → l ≡ get_or lines i l → counts' ≡ counted counts (turn_of l now).reply → (turn_of l now).channels ≡ next
     → Counting lines begin i now counts → Counting lines begin (i + 1) next counts'
 counting_more lines begin now next i l counts counts' lt is more left h =
-    let reply : Option Reply = (turn_of l now).reply in
+    let reply : Option ShownReply = (turn_of l now).reply in
     record {
       told = h.told ++ reply ∷ [];
       going = going_more lines begin now next h.told i l lt is left h.going;
@@ -65,11 +72,15 @@ counting_more lines begin now next i l counts counts' lt is more left h =
       under = subst (IsUnder (i + 1)) (sym more) (one_more i counts reply h.under);
     }
 
-pub counting_end : (lines : List Line) (begin now : List Channel) (i : ℕ) (counts : Counts) → length lines ≤ i → Counting lines begin i now counts
+pub counting_end : (lines : List LineAsk) (begin now : List Channel) (i : ℕ) (counts : Counts) → length lines ≤ i → Counting lines begin i now counts
     → (counts ≡ counts_of (step_run lines begin).replies) × ((step_run lines begin).channels ≡ now)
 counting_end lines begin now i counts le h =
     let all = going_end lines begin now h.told i le h.going in
     (h.counts_are ∙ ap counts_of all.0, all.1)
+
+pub counting_lines_end : (cpus : List Binding) (lines : List Line) (begin now : List Channel) (i : ℕ) (counts : Counts) → length lines ≤ i → Counting (asks_by cpus lines) begin i now counts
+    → (counts ≡ counts_of (step_run (asks_by cpus lines) begin).replies) × ((step_run (asks_by cpus lines) begin).channels ≡ now)
+counting_lines_end cpus lines begin now i counts le h = counting_end (asks_by cpus lines) begin now i counts (behind_lines cpus lines i le) h
 
 pub wider : (i limit : ℕ) (c : Counts) → i ≤ limit → IsUnder i c → IsUnder limit c
 wider i limit c le h =

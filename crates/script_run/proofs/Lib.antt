@@ -3,6 +3,12 @@ pub mod Steps
 pub mod Headlines
 pub mod Several
 mod ChannelLists
+pub mod Starting
 pub mod OpenedScripts
 mod Counting
 mod MadeUp
+mod Values
+mod Told
+mod Wishes
+pub mod Requests
+pub mod Ranged

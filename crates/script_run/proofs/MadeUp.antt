@@ -24,12 +24,14 @@ use Rattle.pcct_table.specs.declared.subspace.Subspace.{Subspace}
 use Rattle.channel_turns.specs.ChannelRuns.{Channel, count_in_flight}
 use Rattle.script_run.specs.DeviceChannels.{channel_of, channels_by}
 use Rattle.script_run.specs.declared.channel.DeviceChannel.{DeviceChannel}
-use Rattle.script_run.specs.ScriptRuns.{clock_of, run_of, set_up_of}
-use Rattle.script_run.specs.Built.{is_built, is_built_line}
+use Rattle.script_run.specs.ScriptRuns.{asks_of, clock_of, run_of, set_up_of, start_of}
 use Rattle.script_run.specs.StepRun.{Run, step_run}
 use Rattle.script_run.specs.Summaries.{IsSummary, count_pending, counts_of, records_of, summary_pieces, summary_text}
 use Rattle.script_run.specs.declared.counts.Counts.{Counts}
-use Rattle.script_run.proofs.Several.{equipped_channels, has_structure, opened_channel, run_length, set_up_headlines, set_up_opened}
+use Rattle.script_run.proofs.Several.{has_structure, run_length}
+use Rattle.script_run.proofs.Starting.{cpus_count, set_up_headlines}
+use Rattle.script_run.specs.Channels.{fresh_channel}
+use Rattle.cpc_package.specs.declared.binding.Binding.{Binding}
 
 -- ---- the summary
 
@@ -38,29 +40,24 @@ if_ok_more (Ok x) P Q f h = f x h
 if_ok_more (Err e) P Q f h = tt
 
 -- it leaves one channel
-pub some_channel : (s : Scenario) (os : List Opened) (cs after : List Channel) → Opens s os → length os ≡ 1 → ((h : Opens s os) → cs ≡ set_up_of s h.table) → (step_run s.actions cs).channels ≡ after → length after ≡ 1
-some_channel s os cs after h alone opened left =
-    ap length (sym left) ∙ run_length s.actions cs
-    ∙ ap length (opened h ∙ set_up_opened s h.table ∙ sym (equipped_channels (clock_of s) h.checked.cpus s.caps (opened_by h.table s.opens))
-    ∙ ap (map (opened_channel (clock_of s))) (sym h.list_is)) ∙ length-map os (opened_channel (clock_of s)) ∙ alone
-
-pub some_device : (s : Scenario) (os : List Opened) (cs : List Channel) (after : List DeviceChannel) → Opens s os → length os ≡ 1 → ((h : Opens s os) → cs ≡ set_up_of s h.table) → (step_run s.actions cs).channels ≡ channels_by after → length after ≡ 1
-some_device s os cs after h alone opened left = sym (length-map after channel_of) ∙ some_channel s os cs (channels_by after) h alone opened left
+pub some_device : (s : Scenario) (os : List Opened) (cs : List Channel) (after : List DeviceChannel) → length os ≡ 1 → cs ≡ set_up_of s os → (step_run (asks_of s []) cs).channels ≡ channels_by after → length after ≡ 1
+some_device s os cs after alone opened left =
+    sym (length-map after channel_of) ∙ ap length (sym left) ∙ run_length (asks_of s []) cs ∙ ap length opened ∙ length-map os (λ (o : Opened). fresh_channel (start_of (clock_of s) o)) ∙ alone
 
 -- the summary of the one channel of a run
-pub summary_is : (s : Scenario) (os : List Opened) (cs : List Channel) (after : List DeviceChannel) (d : DeviceChannel) (counts : Counts) (n : ℕ) (text : List ℕ) → length os ≡ 1 → ((h : Opens s os) → cs ≡ set_up_of s h.table) → n ≡ length s.actions
-    → counts ≡ counts_of (step_run s.actions cs).replies → (step_run s.actions cs).channels ≡ channels_by after → d ≡ get_or after 0 d
-    → text ≡ spelled (summary_pieces n counts (channel_of d).now.records (count_in_flight (channel_of d).now.in_flight)) → (h : Opens s os) → text ≡ summary_text (length s.actions) (run_of s h.table)
+pub summary_is : (s : Scenario) (os : List Opened) (cs : List Channel) (after : List DeviceChannel) (d : DeviceChannel) (counts : Counts) (n : ℕ) (text : List ℕ) → length os ≡ 1 → cs ≡ set_up_of s os → n ≡ length s.actions
+    → counts ≡ counts_of (step_run (asks_of s []) cs).replies → (step_run (asks_of s []) cs).channels ≡ channels_by after → d ≡ get_or after 0 d
+    → text ≡ spelled (summary_pieces n counts (channel_of d).now.records (count_in_flight (channel_of d).now.in_flight)) → text ≡ summary_text (length s.actions) (run_of s os [])
 unfolding summary_text
-summary_is s os cs after d counts n text alone opened calls are left first e h =
+summary_is s os cs after d counts n text alone opened calls are left first e =
     let c : Channel = channel_of d in
-    let r : Run = step_run s.actions cs in
-    let one : after ≡ d ∷ [] = only after (some_device s os cs after h alone opened left) first in
+    let r : Run = step_run (asks_of s []) cs in
+    let one : after ≡ d ∷ [] = only after (some_device s os cs after alone opened left) first in
     let is : r.channels ≡ c ∷ [] = left ∙ ap channels_by one in
     let records : c.now.records ≡ records_of r.channels = sym (append-nil c.now.records) ∙ ap records_of (sym is) in
     let alone_is : count_in_flight c.now.in_flight ≡ count_pending (c ∷ []) = omega arith in
     let pending : count_in_flight c.now.in_flight ≡ count_pending r.channels = alone_is ∙ ap count_pending (sym is) in
-    e ∙ (λ k. spelled (summary_pieces (calls k) (are k) (records k) (pending k))) ∙ ap (λ (v : List Channel). summary_text (length s.actions) (step_run s.actions v)) (opened h)
+    e ∙ (λ k. spelled (summary_pieces (calls k) (are k) (records k) (pending k))) ∙ ap (λ (v : List Channel). summary_text (length s.actions) (step_run (asks_of s []) v)) opened
   where
     only : (xs : List DeviceChannel) → length xs ≡ 1 → d ≡ get_or xs 0 d → xs ≡ d ∷ []
     only [] l f = absurd (omega (arith, l))
@@ -77,10 +74,6 @@ each_call P (x ∷ xs) h (suc i) l e = each_call P xs h i l e
 all_calls : (p : Line → Bool) (places : List ℕ) → ((place : ℕ) → p (made_call place) ≡ true) → list_all p (map made_call places) ≡ true
 all_calls p [] h = refl
 all_calls p (x ∷ xs) h = rw (h x) (all_calls p xs h)
-
-pub made_built : (n : ℕ) → is_built (made_scenario_of n) ≡ true
-unfolding made_scenario_of made_calls
-made_built n = all_calls is_built_line (range_with_len 0 n) (λ place. refl)
 
 -- it has no processors
 pub made_packages : (n : ℕ) (s : Scenario) → s ≡ made_scenario_of n → AllByRecursion (λ bytes. length bytes < 2 ^ 32) s.cpus
@@ -121,11 +114,21 @@ pub made_kept : (n : ℕ) (s : Scenario) (text : List ℕ) → s ≡ made_scenar
 made_kept n s text is table h =
     set_up_kept (made_scenario_of n) one_generic h.0 (made_set_up n (subst (λ (v : List ℕ). TableBytes v one_generic) table_is table)) (subst (λ (u : Scenario). SetUpRefused u h.0) is h.1)
 
-pub made_text : (n : ℕ) (s : Scenario) (os : List Opened) (text : List ℕ) → s ≡ made_scenario_of n → Opens s os → ((h : Opens s os) → text ≡ summary_text (length s.actions) (run_of s h.table)) → IsSummary n text
+pub made_text : (n : ℕ) (s : Scenario) (os : List Opened) (text : List ℕ) → s ≡ made_scenario_of n → Opens s os → text ≡ summary_text (length s.actions) (run_of s os []) → IsSummary n text
 made_text n s os text is h e =
-    let set_up : IsSetUp (made_scenario_of n) h.table = subst (λ (u : Scenario). IsSetUp u h.table) is h.checked in (
-      h.table,
-      set_up,
-      set_up_headlines (made_scenario_of n) h.table set_up.all_open,
-      e h ∙ (λ k. summary_text (length (is k).actions) (run_of (is k) h.table)) ∙ ap (λ (m : ℕ). summary_text m (run_of (made_scenario_of n) h.table)) (made_length n),
-    )
+    let k : Opens (made_scenario_of n) os = subst (λ (u : Scenario). Opens u os) is h in
+    record {
+      opened = os;
+      opens = k;
+      headline = set_up_headlines (made_scenario_of n) os [] k;
+      text_is = e ∙ (λ i. summary_text (length (is i).actions) (run_of (is i) os [])) ∙ ap (λ (m : ℕ). summary_text m (run_of (made_scenario_of n) os [])) (made_length n);
+    }
+
+-- it has no processors
+pub made_cpus : (n : ℕ) (s : Scenario) (os : List Opened) → s ≡ made_scenario_of n → (h : Opens s os) → h.checked.cpus ≡ []
+unfolding made_scenario_of
+made_cpus n s os is h = none h.checked.cpus (sym (cpus_count s os h) ∙ ap (λ (u : Scenario). length u.cpus) is)
+  where
+    none : (cpus : List Binding) → length cpus ≡ 0 → cpus ≡ []
+    none [] e = refl
+    none (b ∷ bs) e = absurd (cc e)

@@ -1,6 +1,6 @@
 -- What a script opens: its channels, their IDs and its lines.
-use Rattle.std.proofs.Common.{◌≡◌, ℕ, zero, suc, ◌<◌, ◌==◌, ◌&&◌, ◌||◌, Bool, true, false, cond, List, [], ◌∷◌, ◌++◌, length, map, refl, sym, ap, ◌∙◌, subst, arith}
-use Rattle.std.specs.Prelude.{Option, Some, None, slice_get}
+use Rattle.std.proofs.Common.{◌≡◌, ℕ, zero, suc, ◌<◌, ◌≤◌, ◌^◌, ◌==◌, ◌&&◌, ◌||◌, Bool, true, false, cond, List, [], ◌∷◌, ◌++◌, length, map, refl, sym, ap, ◌∙◌, subst, arith}
+use Rattle.std.specs.Prelude.{Option, Some, None, nat_lt, slice_get}
 use Rattle.std.specs.List.{AllByRecursion, flat_map, list_all, list_any}
 use Rattle.pcct_table.specs.declared.subspace.Subspace.{Subspace}
 use Rattle.pcct_table.specs.Subspaces.{kind_of}
@@ -11,40 +11,31 @@ use Rattle.pcc_script.specs.declared.scenario.Device.{Device}
 use Rattle.pcc_script.specs.declared.scenario.OpenLine.{OpenLine}
 use Rattle.pcc_script.specs.declared.scenario.Scenario.{Scenario}
 use Rattle.pcc_script.specs.Limits.{IsAction, IsWithin}
-use Rattle.pcc_setup.specs.declared.action.ActionFault.TheVariants.{NotBank}
+use Rattle.pcc_setup.specs.declared.action.ActionFault.TheVariants.{NoCpu, NotBank}
 use Rattle.pcc_setup.specs.declared.opening.Opened.{Opened}
 use Rattle.cpc_package.specs.declared.binding.Binding.{Binding}
 use Rattle.pcc_script.specs.declared.scenario.CapLine.{CapLine}
-use Rattle.pcc_setup.specs.Equipment.{equipped}
+use Rattle.pcc_setup.specs.Equipment.{CanBegin, equipped}
 use Rattle.pcc_setup.specs.Openings.{AllOpen, asks_on, head_of, image_of, opened_by, structure_fault, wired_fault}
-use Rattle.pcc_setup.specs.SetUps.{Opens, action_fault, first_action, is_bank, opens_bank, opens_banks}
+use Rattle.pcc_setup.specs.SetUps.{IsSetUpOf, Opens, action_fault, first_action, is_bank, opens_bank, opens_banks}
+use Rattle.pcc_setup.specs.declared.setup.SetUp.{SetUp}
+use Rattle.cpc_package.specs.Bindings as bindings
+use Rattle.cpc_package.specs.Bindings.{LiesIn}
+use Rattle.std.proofs.lemmas.Bool.Decides.{nat_tests}
 use Rattle.pcc_steps.specs.Wires.{IsRight}
 use Rattle.pcc_wiring.specs.declared.fault.Asks.{Asks}
 use Rattle.pcc_wiring.specs.declared.fault.WiringFault.{WiringFault}
 use Rattle.pcc_wiring.specs.Faults.{fault_of}
 use Rattle.pcc_wiring.specs.Wirings.{wiring_with}
-use Rattle.channel_turns.specs.ChannelRuns.{Channel}
-use Rattle.script_run.specs.Built.{is_built, is_built_line}
-use Rattle.script_run.specs.Channels.{AreDistinct, CanRun, IsEarly, IsOnOneOf, IsWired, ids_of}
+use Rattle.channel_turns.specs.ChannelRuns.{Call, Channel, ChannelStart, call_by}
+use Rattle.script_run.specs.Channels.{CanAsk, CanRun, IsWired, Suits, ids_of, is_on, starts_of}
 use Rattle.script_run.specs.ReplyText.{replies_text}
-use Rattle.script_run.specs.ScriptRuns.{IsStepText, channel_journal, clock_of, run_text, set_up_of, step_text}
-use Rattle.script_run.specs.StepRun.{step_run}
-use Rattle.script_run.proofs.Several.{equipped_channels, open_rest, opened_channel, opens_apart, set_up_headlines, set_up_ids, set_up_opened}
+use Rattle.script_run.specs.ScriptRuns.{IsStepText, asks_of, channel_journal, run_of, run_text, set_up_of, step_text}
+use Rattle.script_run.specs.StepRun.{Ask, LineAsk, OfCall, OfRead, OfWish, ask_of, ask_of_cpu, asks_by, step_run, wish_of}
+use Rattle.script_run.proofs.Several.{open_rest}
+use Rattle.script_run.proofs.Starting.{FitsOn, cpu_fits, cpu_on, cpus_count, ids_are, set_up_headlines, there_at}
 
--- ---- the channels of a script
-
--- they are those of what it opens
-pub opened_channels : (s : Scenario) (os : List Opened) (cs : List Channel) → cs ≡ map (opened_channel (clock_of s)) os → (h : Opens s os) → cs ≡ set_up_of s h.table
-opened_channels s os cs e h =
-    e ∙ ap (map (opened_channel (clock_of s))) h.list_is ∙ equipped_channels (clock_of s) h.checked.cpus s.caps (opened_by h.table s.opens) ∙ sym (set_up_opened s h.table)
-
--- their IDs are those of the lines
-ids_are : (s : Scenario) (os : List Opened) (cs : List Channel) → (h : Opens s os) → cs ≡ set_up_of s h.table → ids_of cs ≡ map (λ o. o.id) s.opens
-ids_are s os cs h e = ap ids_of e ∙ set_up_ids (clock_of s) h.table s.opens h.checked.all_open
-
--- no two have one ID
-pub opened_apart : (s : Scenario) (os : List Opened) (cs : List Channel) → Opens s os → cs ≡ map (opened_channel (clock_of s)) os → AreDistinct (ids_of cs)
-opened_apart s os cs h e = subst AreDistinct (sym (ids_are s os cs h (opened_channels s os cs e h))) (opens_apart h.table s.opens h.checked.all_open)
+-- ---- the lines of a script
 
 -- an ID that some line opens as a Bank is one of them
 bank_among : (id : ℕ) (opens : List OpenLine) → opens_bank id opens ≡ true → list_any (λ x. x == id) (map (λ o. o.id) opens) ≡ true
@@ -59,60 +50,85 @@ bank_of : (b : Bool) → cond b None (Some NotBank) ≡ None → b ≡ true
 bank_of true e = refl
 bank_of false e = absurd cc
 
-named : (s : Scenario) (l : Line) → action_fault s l ≡ None → IsOnOneOf (map (λ o. o.id) s.opens) l
-named s (line.Call worker subspace code bytes polls hold) h = bank_among subspace s.opens (bank_of (opens_bank subspace s.opens) h)
-named s (line.Read worker cpu polls hold) h = tt
-named s (line.Set worker wish polls hold) h = tt
-named s (line.Wait n) h = tt
+-- among the starts as among the IDs
+on_as_ids : (id : ℕ) (cs : List Channel) → is_on id (starts_of cs) ≡ list_any (λ x. x == id) (ids_of cs)
+on_as_ids id [] = refl
+on_as_ids id (c ∷ cs) = ap (λ (b : Bool). (c.start.head.id == id) || b) (on_as_ids id cs)
+
+-- a call asks nothing of a processor
+calls_suit : (id : ℕ) (call : Call) (starts : List ChannelStart) → AllByRecursion (λ s. s.head.id ≡ id → Suits s.head.room (OfCall call)) starts
+calls_suit id call [] = tt
+calls_suit id call (s ∷ ss) = (λ e. tt, calls_suit id call ss)
+
+no_cpu : (b : Bool) → cond b None (Some NoCpu) ≡ None → b ≡ true
+no_cpu true e = refl
+no_cpu false e = absurd (cc e)
+
+-- what opened subspaces must have for a run
+pub record CanStart (s : Scenario) (u : SetUp) : Type 0 where
+  pub set_up : IsSetUpOf s u
+  pub begins : AllByRecursion CanBegin u.opened
+  pub wired : AllByRecursion IsWired u.opened
+
+-- a processor that has a line is asked on its channel
+asks_cpu : (s : Scenario) (u : SetUp) (k : CanStart s u) (h : Opens s u.opened) (cpu : ℕ) (f : Binding → Ask) → ((room : ℕ) (b : Binding) → bindings.IsRight b × LiesIn room b → Suits room (f b))
+    → nat_lt cpu (length s.cpus) ≡ true → CanAsk (starts_of (set_up_of s u.opened)) (ask_of_cpu (slice_get h.checked.cpus cpu) f)
+asks_cpu s u k h cpu f suits t =
+    let few : cpu < length s.cpus = grind (arith, nat_tests) in
+    let count : length s.cpus ≡ length h.checked.cpus = cpus_count s u.opened h in
+    let there : (b : Binding) × (slice_get h.checked.cpus cpu ≡ Some b) = there_at h.checked.cpus cpu (omega (arith, few, count)) in
+    rw there.1 (cpu_on s u h k.set_up cpu there.0 there.1, all_suit there.0 (starts_of (set_up_of s u.opened)) (cpu_fits s u.opened h k.begins k.wired cpu there.0 there.1))
+  where
+    all_suit : (b : Binding) (starts : List ChannelStart) → AllByRecursion (FitsOn b) starts → AllByRecursion (λ st. st.head.id ≡ b.subspace → Suits st.head.room (f b)) starts
+    all_suit b [] h = tt
+    all_suit b (st ∷ sts) h = (λ e. suits st.head.room b (h.0 e), all_suit b sts h.1)
+
+named : (s : Scenario) (u : SetUp) (k : CanStart s u) (h : Opens s u.opened) (l : Line) → action_fault s l ≡ None → CanAsk (starts_of (set_up_of s u.opened)) (ask_of h.checked.cpus l)
+named s u k h (line.Call worker subspace code bytes polls hold) e =
+    let cs : List Channel = set_up_of s u.opened in (
+      on_as_ids subspace cs ∙ ap (list_any (λ x. x == subspace)) (ids_are s u.opened h) ∙ bank_among subspace s.opens (bank_of (opens_bank subspace s.opens) e),
+      calls_suit subspace (call_by worker code bytes polls hold) (starts_of cs),
+    )
+named s u k h (line.Read worker cpu polls hold) e = asks_cpu s u k h cpu (λ b. OfRead (record { caller = worker; binding = b; polls = polls; hold = hold })) (λ room b fit. fit) (no_cpu (nat_lt cpu (length s.cpus)) e)
+named s u k h (line.Set worker wish polls hold) e = asks_cpu s u k h wish.cpu (λ b. OfWish (record { caller = worker; binding = b; wish = wish_of wish; polls = polls; hold = hold })) (λ room b fit. fit) (no_cpu (nat_lt wish.cpu (length s.cpus)) e)
+named s u k h (line.Wait n) e = tt
 
 each_line : (P : Line → Type 0) (ls : List Line) → ((i : ℕ) (l : Line) → i < length ls → slice_get ls i ≡ Some l → P l) → AllByRecursion P ls
 each_line P [] h = tt
 each_line P (l ∷ ls) h = (h zero l (omega arith) refl, each_line P ls (λ i x lt e. h (suc i) x (omega (arith, lt)) e))
 
--- what runs no line yet
-pub channels_early : (s : Scenario) (os : List Opened) (cs : List Channel) → (h : Opens s os) → ((k : Opens s os) → cs ≡ set_up_of s k.table) → AllByRecursion (IsEarly 0) cs
-channels_early s os cs h e = subst (AllByRecursion (IsEarly 0)) (sym (e h ∙ set_up_opened s h.table)) (all (opened_by h.table s.opens))
-  where
-    all : (os : List Opened) → AllByRecursion (IsEarly 0) (map (opened_channel (clock_of s)) os)
-    all [] = tt
-    all (o ∷ os) = (record { taken = omega arith; added = omega arith }, all os)
-
-pub left_of : (a b : Bool) → (a && b) ≡ true → a ≡ true
-left_of true b e = refl
-left_of false b e = absurd cc
-
-pub both_of : (a b : Bool) → (a && b) ≡ true → b ≡ true
-both_of true b e = e
-both_of false b e = absurd cc
-
-pub built_lines : (s : Scenario) → is_built s ≡ true → list_all is_built_line s.actions ≡ true
-built_lines s h = both_of (opens_banks s) (list_all is_built_line s.actions) h
-
-can_run : (ids : List ℕ) (ls : List Line) → AllByRecursion IsAction ls → list_all is_built_line ls ≡ true → AllByRecursion (IsOnOneOf ids) ls → AllByRecursion (CanRun ids) ls
-can_run ids [] within built on = tt
-can_run ids (l ∷ ls) within built on =
-    (record { within = within.0; built = left_of (is_built_line l) (list_all is_built_line ls) built; named = on.0 }, can_run ids ls within.1 (both_of (is_built_line l) (list_all is_built_line ls) built) on.1)
+can_run : (s : Scenario) (u : SetUp) (k : CanStart s u) (h : Opens s u.opened) (ls : List Line) → AllByRecursion IsAction ls → AllByRecursion (λ l. action_fault s l ≡ None) ls
+    → AllByRecursion (CanRun h.checked.cpus (starts_of (set_up_of s u.opened))) ls
+can_run s u k h [] within right = tt
+can_run s u k h (l ∷ ls) within right = (record { within = within.0; asks = named s u k h l right.0 }, can_run s u k h ls within.1 right.1)
 
 -- the channels of a script can run its lines
-pub lines_run : (s : Scenario) (os : List Opened) (cs : List Channel) → IsWithin s → is_built s ≡ true → (h : Opens s os) → ((k : Opens s os) → cs ≡ set_up_of s k.table) → AllByRecursion (CanRun (ids_of cs)) s.actions
-lines_run s os cs within built h e =
-    let on : AllByRecursion (IsOnOneOf (map (λ o. o.id) s.opens)) s.actions = each_line (IsOnOneOf (map (λ o. o.id) s.opens)) s.actions (λ i l lt at. named s l (h.checked.named i l lt at)) in
-    subst (λ (ids : List ℕ). AllByRecursion (CanRun ids) s.actions) (sym (ids_are s os cs h (e h))) (can_run (map (λ o. o.id) s.opens) s.actions within.actions (built_lines s built) on)
+pub lines_run : (s : Scenario) (u : SetUp) (k : CanStart s u) (h : Opens s u.opened) → IsWithin s → AllByRecursion (CanRun h.checked.cpus (starts_of (set_up_of s u.opened))) s.actions
+lines_run s u k h within = can_run s u k h s.actions within.actions (each_line (λ (l : Line). action_fault s l ≡ None) s.actions h.checked.named)
 
 -- what `step` prints for it
-pub text_is : (s : Scenario) (os : List Opened) (cs after : List Channel) (none put text : List ℕ) (first : ℕ) → ((k : Opens s os) → cs ≡ set_up_of s k.table) → first ≡ first_action s → none ≡ []
-    → put ≡ none ++ replies_text first (step_run s.actions cs).replies → (step_run s.actions cs).channels ≡ after
-    → text ≡ put ++ flat_map channel_journal after → (h : Opens s os) → IsStepText s h.table text
+text_is : (s : Scenario) (os : List Opened) (cpus : List Binding) (cs after : List Channel) (none put text : List ℕ) (first : ℕ) → Opens s os → cs ≡ set_up_of s os → first ≡ first_action s → none ≡ []
+    → put ≡ none ++ replies_text first (step_run (asks_of s cpus) cs).replies → (step_run (asks_of s cpus) cs).channels ≡ after
+    → text ≡ put ++ flat_map channel_journal after → IsStepText s os cpus text
 unfolding step_text
-text_is s os cs after none put text first opened line empty replies left e h =
-    let P : List Channel → Type 0 = λ v. text ≡ run_text first (step_run s.actions v) in
-    let whole : text ≡ run_text first (step_run s.actions cs) =
-    e ∙ ap (λ (v : List ℕ). v ++ flat_map channel_journal after) (replies ∙ ap (λ (v : List ℕ). v ++ replies_text first (step_run s.actions cs).replies) empty)
-    ∙ ap (λ (v : List Channel). replies_text first (step_run s.actions cs).replies ++ flat_map channel_journal v) (sym left) in
+text_is s os cpus cs after none put text first h opened line empty replies left e =
+    let asks : List LineAsk = asks_of s cpus in
+    let P : List Channel → Type 0 = λ v. text ≡ run_text first (step_run asks v) in
+    let whole : text ≡ run_text first (step_run asks cs) =
+    e ∙ ap (λ (v : List ℕ). v ++ flat_map channel_journal after) (replies ∙ ap (λ (v : List ℕ). v ++ replies_text first (step_run asks cs).replies) empty)
+    ∙ ap (λ (v : List Channel). replies_text first (step_run asks cs).replies ++ flat_map channel_journal v) (sym left) in
     record {
-      text_is = subst P (opened h) whole ∙ ap (λ (n : ℕ). run_text n (step_run s.actions (set_up_of s h.table))) line;
-      headline = set_up_headlines s h.table h.checked.all_open;
+      text_is = subst P opened whole ∙ ap (λ (n : ℕ). run_text n (step_run asks (set_up_of s os))) line;
+      headline = set_up_headlines s os cpus h;
     }
+
+-- the same, by the processors that the run was given
+pub text_of : (s : Scenario) (os : List Opened) (given cpus : List Binding) (cs after : List Channel) (none put text : List ℕ) (first : ℕ) → Opens s os → given ≡ cpus → cs ≡ set_up_of s os
+    → first ≡ first_action s → none ≡ []
+    → put ≡ none ++ replies_text first (step_run (asks_by given s.actions) cs).replies → (step_run (asks_by given s.actions) cs).channels ≡ after
+    → text ≡ put ++ flat_map channel_journal after → IsStepText s os cpus text
+text_of s os given cpus cs after none put text first h same opened line empty replies left e =
+    subst (λ (bs : List Binding). IsStepText s os bs text) same (text_is s os given cs after none put text first h opened line empty replies left e)
 
 -- ---- wirings
 
@@ -147,3 +163,8 @@ equipped_wired cpus caps (o ∷ os) h = (record { right = h.0.right; head = h.0.
 pub wired : AreRight → (s : Scenario) (os : List Opened) → Opens s os → AllByRecursion IsWired os
 wired right s os h =
     subst (AllByRecursion IsWired) (sym h.list_is) (equipped_wired h.checked.cpus s.caps (opened_by h.table s.opens) (opened_wired right h.table s.opens h.checked.all_open))
+
+-- a script has few caps
+pub few_caps : (s : Scenario) (os : List Opened) → IsWithin s → AllByRecursion (λ o. length o.caps ≤ length s.caps) os → AllByRecursion (λ o. length o.caps < 2 ^ 32) os
+few_caps s [] within h = tt
+few_caps s (o ∷ os) within h = let le = h.0 in let most = within.few_caps in (omega (arith, le, most), few_caps s os within h.1)

@@ -1,33 +1,22 @@
 -- Several opened subspaces: a call is answered by the channel with its ID, and each journal is that of a run on its channel alone.
-use Rattle.std.proofs.Common.{◌≡◌, ◌≢◌, ℕ, ◌+◌, ◌-◌, ◌^◌, ◌<◌, min, Bool, true, false, cond, ◌||◌, List, [], ◌∷◌, ◌++◌, length, get_or, map, set, take, drop, zero, suc, refl, sym, ap, ◌∙◌, subst, inl, inr, arith}
-use Rattle.std.specs.Prelude.{Option, Some, None, ◌==◌, ◌&&◌, slice_get}
-use Rattle.std.specs.List.{AllByRecursion, find, flat_map}
+use Rattle.std.proofs.Common.{◌≡◌, ◌≢◌, ℕ, ◌+◌, ◌-◌, ◌^◌, ◌<◌, min, Bool, true, false, cond, ◌||◌, List, [], ◌∷◌, ◌++◌, length, get_or, map, set, take, zero, suc, refl, sym, ap, ◌∙◌, subst, inl, inr, arith}
+use Rattle.std.specs.Prelude.{Option, Some, None, ◌==◌, slice_get}
+use Rattle.std.specs.List.{AllByRecursion, find}
 use Rattle.std.specs.Option.{option_map}
 use Rattle.std.proofs.lemmas.Bool.{cases_eq, cond_both, eq-eqb, eqb-true, eqb-false, ne_eqb}
 use Rattle.std.proofs.lemmas.List.{length-map}
 use Rattle.std.proofs.lemmas.Option.{same_Some, slice_get-get_or, slice_get_within}
 use Rattle.pcct_table.specs.declared.subspace.Subspace.{Subspace}
 use Rattle.pcct_table.specs.declared.table.Table.{Table}
-use Rattle.pcc_script.specs.declared.scenario.Line.{Line}
-use Rattle.pcc_script.specs.declared.scenario.Line.TheVariants as line
 use Rattle.pcc_script.specs.declared.scenario.Device.{Device}
 use Rattle.pcc_script.specs.declared.scenario.OpenLine.{OpenLine}
-use Rattle.pcc_script.specs.declared.scenario.Scenario.{Scenario}
-use Rattle.pcc_setup.specs.declared.action.ActionFault.TheVariants.{NotBank}
-use Rattle.pcc_setup.specs.declared.opening.Opened.{Opened}
-use Rattle.cpc_package.specs.declared.binding.Binding.{Binding}
-use Rattle.pcc_script.specs.declared.scenario.CapLine.{CapLine}
-use Rattle.pcc_setup.specs.Equipment.{equipped}
-use Rattle.pcc_setup.specs.Openings.{AllOpen, opened_by, opened_with, opens_id, structure_fault}
-use Rattle.pcc_setup.specs.SetUps.{action_fault, is_bank, opens_bank}
-use Rattle.script_run.specs.Channels.{AreDistinct, bank_start, fresh_channel, id_of, moved_up}
+use Rattle.pcc_setup.specs.Openings.{AllOpen, opens_id, structure_fault}
+use Rattle.script_run.specs.Channels.{AreDistinct, fresh_channel, id_of, moved_up}
 use Rattle.script_run.specs.Headlines.{AreHeadlines, KeepsHeadline, line_on, lines_on}
-use Rattle.channel_turns.specs.Replies.{Reply}
-use Rattle.script_run.specs.ScriptRuns.{channels_of, clock_of, run_of, set_up_of}
-use Rattle.channel_turns.specs.ChannelRuns.{Call, Channel, ChannelStart, ScriptClock, answer_call, fresh}
+use Rattle.channel_turns.specs.ChannelRuns.{Channel, ChannelStart, fresh}
 use Rattle.channel_headline.specs.ChannelLog.{ChannelLine}
 use Rattle.channel_headline.specs.Runs.{HeadlineOf}
-use Rattle.script_run.specs.StepRun.{Run, Turn, call_on, step_run, turn_of, waited}
+use Rattle.script_run.specs.StepRun.{Ask, Asks, LineAsk, Moves, Nothing, Run, ShownReply, Turn, answer, asked_on, step_run, turn_of, waited}
 use Rattle.script_run.proofs.Headlines.{run_headlines}
 
 -- ---- lists
@@ -65,8 +54,8 @@ abbrev pub channel_on : ℕ → List Channel → Option Channel
 channel_on id cs = find (λ c. c.start.head.id == id) cs
 
 -- a channel that has answered a call
-abbrev pub called : Call → Channel → Channel
-called call c = record c { now = (answer_call c.start call c.now).now }
+abbrev pub called : Ask → Channel → Channel
+called ask c = record c { now = (answer c.start ask c.now).now }
 
 -- what holds of all channels holds of it, and it has the ID
 found_has : (P : Channel → Type 0) (id : ℕ) (cs : List Channel) (c : Channel) → AllByRecursion P cs → channel_on id cs ≡ Some c → P c × (id_of c ≡ id)
@@ -104,60 +93,60 @@ channel_at (d ∷ ds) (suc i) c apart e =
 -- ---- a call
 
 -- its reply is that of the channel with its ID
-pub call_reply : (id : ℕ) (call : Call) (cs : List Channel) → (call_on id call cs).reply ≡ option_map (λ c. (answer_call c.start call c.now).reply) (channel_on id cs)
-call_reply id call [] = refl
-call_reply id call (c ∷ cs) =
-    cond_both (c.start.head.id == id) _ _ (λ (t : Turn). t.reply ≡ option_map (λ (d : Channel). (answer_call d.start call d.now).reply) (channel_on id (c ∷ cs)))
+pub call_reply : (id : ℕ) (ask : Ask) (cs : List Channel) → (asked_on id ask cs).reply ≡ option_map (λ c. (answer c.start ask c.now).reply) (channel_on id cs)
+call_reply id ask [] = refl
+call_reply id ask (c ∷ cs) =
+    cond_both (c.start.head.id == id) _ _ (λ (t : Turn). t.reply ≡ option_map (λ (d : Channel). (answer d.start ask d.now).reply) (channel_on id (c ∷ cs)))
     (λ test. rw test refl)
-    (λ test. rw test (call_reply id call cs))
+    (λ test. rw test (call_reply id ask cs))
 
 -- that channel has answered it
-pub call_channel : (id : ℕ) (call : Call) (cs : List Channel) → channel_on id (call_on id call cs).channels ≡ option_map (called call) (channel_on id cs)
-call_channel id call [] = refl
-call_channel id call (c ∷ cs) =
-    cond_both (c.start.head.id == id) _ _ (λ (t : Turn). channel_on id t.channels ≡ option_map (called call) (channel_on id (c ∷ cs)))
+pub call_channel : (id : ℕ) (ask : Ask) (cs : List Channel) → channel_on id (asked_on id ask cs).channels ≡ option_map (called ask) (channel_on id cs)
+call_channel id ask [] = refl
+call_channel id ask (c ∷ cs) =
+    cond_both (c.start.head.id == id) _ _ (λ (t : Turn). channel_on id t.channels ≡ option_map (called ask) (channel_on id (c ∷ cs)))
     (λ test. rw test refl)
-    (λ test. rw test (call_channel id call cs))
+    (λ test. rw test (call_channel id ask cs))
 
 -- a channel with another ID is as before
-pub call_other : (id other : ℕ) (call : Call) (cs : List Channel) → id ≢ other → channel_on other (call_on id call cs).channels ≡ channel_on other cs
-call_other id other call [] differs = refl
-call_other id other call (c ∷ cs) differs =
+pub call_other : (id other : ℕ) (ask : Ask) (cs : List Channel) → id ≢ other → channel_on other (asked_on id ask cs).channels ≡ channel_on other cs
+call_other id other ask [] differs = refl
+call_other id other ask (c ∷ cs) differs =
     cond_both (c.start.head.id == id) _ _ (λ (t : Turn). channel_on other t.channels ≡ channel_on other (c ∷ cs))
     (λ test.
     let unlike : (c.start.head.id == other) ≡ false = ne_eqb (id_of c) other (λ same. differs (sym (eqb-true (id_of c) id test) ∙ same)) in
     rw unlike refl)
-    (λ test. ap (λ (o : Option Channel). cond (c.start.head.id == other) (Some c) o) (call_other id other call cs differs))
+    (λ test. ap (λ (o : Option Channel). cond (c.start.head.id == other) (Some c) o) (call_other id other ask cs differs))
 
-pub call_starts : (id : ℕ) (call : Call) (cs : List Channel) → map (λ c. c.start) (call_on id call cs).channels ≡ map (λ c. c.start) cs
-call_starts id call [] = refl
-call_starts id call (c ∷ cs) =
+pub call_starts : (id : ℕ) (ask : Ask) (cs : List Channel) → map (λ c. c.start) (asked_on id ask cs).channels ≡ map (λ c. c.start) cs
+call_starts id ask [] = refl
+call_starts id ask (c ∷ cs) =
     cond_both (c.start.head.id == id) _ _ (λ (t : Turn). map (λ (d : Channel). d.start) t.channels ≡ c.start ∷ map (λ (d : Channel). d.start) cs)
     (λ test. refl)
-    (λ test. ap (λ (v : List ChannelStart). c.start ∷ v) (call_starts id call cs))
+    (λ test. ap (λ (v : List ChannelStart). c.start ∷ v) (call_starts id ask cs))
 
 -- a call is answered where some channel has its ID
-pub call_answers : (id : ℕ) (call : Call) (cs : List Channel) (c : Channel) → channel_on id cs ≡ Some c → (call_on id call cs).reply ≡ Some (answer_call c.start call c.now).reply
-call_answers id call cs c e = call_reply id call cs ∙ ap (option_map (λ (d : Channel). (answer_call d.start call d.now).reply)) e
+pub call_answers : (id : ℕ) (ask : Ask) (cs : List Channel) (c : Channel) → channel_on id cs ≡ Some c → (asked_on id ask cs).reply ≡ Some (answer c.start ask c.now).reply
+call_answers id ask cs c e = call_reply id ask cs ∙ ap (option_map (λ (d : Channel). (answer d.start ask d.now).reply)) e
 
-pub call_answered : (id : ℕ) (call : Call) (cs : List Channel) (i : ℕ) (c : Channel) → slice_get cs i ≡ Some c → c.start.head.id ≡ id → (reply : Reply) × ((call_on id call cs).reply ≡ Some reply)
-call_answered id call cs i c e is =
+pub call_answered : (id : ℕ) (ask : Ask) (cs : List Channel) (i : ℕ) (c : Channel) → slice_get cs i ≡ Some c → c.start.head.id ≡ id → (reply : ShownReply) × ((asked_on id ask cs).reply ≡ Some reply)
+call_answered id ask cs i c e is =
     let P : ℕ → Type 0 = λ n. (d : Channel) × (channel_on n cs ≡ Some d) in
     let found : (d : Channel) × (channel_on id cs ≡ Some d) = subst P is (channel_found cs i c e) in
-    ((answer_call found.0.start call found.0.now).reply, call_answers id call cs found.0 found.1)
+    ((answer found.0.start ask found.0.now).reply, call_answers id ask cs found.0 found.1)
 
 -- where no two have one ID, a call is answered by the channel at the place of its ID, and changes that place alone
-pub call_at : (call : Call) (cs : List Channel) (i : ℕ) (c : Channel) → AreDistinct (map id_of cs) → slice_get cs i ≡ Some c
-    → call_on c.start.head.id call cs ≡ record { reply = Some (answer_call c.start call c.now).reply; channels = set cs i (called call c) }
-call_at call [] i c apart e = absurd cc
-call_at call (d ∷ ds) zero c apart e =
+pub call_at : (ask : Ask) (cs : List Channel) (i : ℕ) (c : Channel) → AreDistinct (map id_of cs) → slice_get cs i ≡ Some c
+    → asked_on c.start.head.id ask cs ≡ record { reply = Some (answer c.start ask c.now).reply; channels = set cs i (called ask c) }
+call_at ask [] i c apart e = absurd cc
+call_at ask (d ∷ ds) zero c apart e =
     let same : d ≡ c = same_Some d c e in
     let test : (d.start.head.id == id_of c) ≡ true = eq-eqb (id_of d) (id_of c) (ap id_of same) in
-    rw test (ap (λ (x : Channel). record { reply = Some (answer_call x.start call x.now).reply; channels = called call x ∷ ds }) same)
-call_at call (d ∷ ds) (suc i) c apart e =
+    rw test (ap (λ (x : Channel). record { reply = Some (answer x.start ask x.now).reply; channels = called ask x ∷ ds }) same)
+call_at ask (d ∷ ds) (suc i) c apart e =
     let differs : id_of d ≢ id_of c = all_at (λ m. id_of d ≢ m) (map id_of ds) i (id_of c) apart.0 (map_at id_of ds i c e) in
     let test : (d.start.head.id == id_of c) ≡ false = ne_eqb (id_of d) (id_of c) differs in
-    rw test (ap (λ (t : Turn). record { reply = t.reply; channels = d ∷ t.channels }) (call_at call ds i c apart.1 e))
+    rw test (ap (λ (t : Turn). record { reply = t.reply; channels = d ∷ t.channels }) (call_at ask ds i c apart.1 e))
 
 -- a channel that is found stands at some place
 pub found_place : (id : ℕ) (cs : List Channel) (c : Channel) → channel_on id cs ≡ Some c → (i : ℕ) × (slice_get cs i ≡ Some c) × (c.start.head.id ≡ id)
@@ -187,81 +176,75 @@ waited_channel n id (c ∷ cs) = at (c.start.head.id == id) (waited_channel n id
     at false later = later
 
 -- what a line makes of the channel with an ID, and how that channel sees the line, is a matter of that channel alone
-turn_channel : (l : Line) (id : ℕ) (cs ds : List Channel) → channel_on id cs ≡ channel_on id ds → channel_on id (turn_of l cs).channels ≡ channel_on id (turn_of l ds).channels
-turn_channel (line.Call worker subspace code bytes polls hold) id cs ds e =
-    let call : Call = record { caller = worker; code = code; bytes = bytes; polls = polls; hold = hold } in
-    let P : ℕ → Type 0 = λ n. channel_on id (call_on n call cs).channels ≡ channel_on id (call_on n call ds).channels in
+turn_channel : (l : LineAsk) (id : ℕ) (cs ds : List Channel) → channel_on id cs ≡ channel_on id ds → channel_on id (turn_of l cs).channels ≡ channel_on id (turn_of l ds).channels
+turn_channel (Asks subspace ask) id cs ds e =
+    let P : ℕ → Type 0 = λ n. channel_on id (asked_on n ask cs).channels ≡ channel_on id (asked_on n ask ds).channels in
     elim (cases_eq id subspace) [
-      | inl same ↦ subst P same (call_channel id call cs ∙ ap (option_map (called call)) e ∙ sym (call_channel id call ds))
-      | inr differs ↦ call_other subspace id call cs (λ same. differs (sym same)) ∙ e ∙ sym (call_other subspace id call ds (λ same. differs (sym same)))
+      | inl same ↦ subst P same (call_channel id ask cs ∙ ap (option_map (called ask)) e ∙ sym (call_channel id ask ds))
+      | inr differs ↦ call_other subspace id ask cs (λ same. differs (sym same)) ∙ e ∙ sym (call_other subspace id ask ds (λ same. differs (sym same)))
     ]
-turn_channel (line.Wait n) id cs ds e = waited_channel n id cs ∙ ap (option_map (waited n)) e ∙ sym (waited_channel n id ds)
-turn_channel (line.Read worker cpu polls hold) id cs ds e = e
-turn_channel (line.Set worker wish polls hold) id cs ds e = e
+turn_channel (Moves n) id cs ds e = waited_channel n id cs ∙ ap (option_map (waited n)) e ∙ sym (waited_channel n id ds)
+turn_channel Nothing id cs ds e = e
 
-turn_sees : (l : Line) (id : ℕ) (cs ds : List Channel) → channel_on id cs ≡ channel_on id ds → line_on id l (turn_of l cs).reply ≡ line_on id l (turn_of l ds).reply
-turn_sees (line.Call worker subspace code bytes polls hold) id cs ds e =
-    let call : Call = record { caller = worker; code = code; bytes = bytes; polls = polls; hold = hold } in
-    let P : ℕ → Type 0 = λ n. (call_on n call cs).reply ≡ (call_on n call ds).reply in
+turn_sees : (l : LineAsk) (id : ℕ) (cs ds : List Channel) → channel_on id cs ≡ channel_on id ds → line_on id l (turn_of l cs).reply ≡ line_on id l (turn_of l ds).reply
+turn_sees (Asks subspace ask) id cs ds e =
+    let P : ℕ → Type 0 = λ n. (asked_on n ask cs).reply ≡ (asked_on n ask ds).reply in
     elim (cases_eq id subspace) [
-      | inl same ↦ ap (line_on id (line.Call worker subspace code bytes polls hold)) (subst P same (call_reply id call cs ∙ ap (option_map (λ (c : Channel). (answer_call c.start call c.now).reply)) e ∙ sym (call_reply id call ds)))
+      | inl same ↦ ap (line_on id (Asks subspace ask)) (subst P same (call_reply id ask cs ∙ ap (option_map (λ (c : Channel). (answer c.start ask c.now).reply)) e ∙ sym (call_reply id ask ds)))
       | inr differs ↦ let unlike : (id == subspace) ≡ false = ne_eqb id subspace differs in rw unlike refl
     ]
-turn_sees (line.Wait n) id cs ds e = refl
-turn_sees (line.Read worker cpu polls hold) id cs ds e = refl
-turn_sees (line.Set worker wish polls hold) id cs ds e = refl
+turn_sees (Moves n) id cs ds e = refl
+turn_sees Nothing id cs ds e = refl
 
 waited_starts : (n : ℕ) (cs : List Channel) → map (λ c. c.start) (map (waited n) cs) ≡ map (λ c. c.start) cs
 waited_starts n cs = map_map (λ (c : Channel). c.start) (waited n) cs
 
-pub turn_starts : (l : Line) (cs : List Channel) → map (λ c. c.start) (turn_of l cs).channels ≡ map (λ c. c.start) cs
-turn_starts (line.Call worker subspace code bytes polls hold) cs = call_starts subspace (record { caller = worker; code = code; bytes = bytes; polls = polls; hold = hold }) cs
-turn_starts (line.Wait n) cs = waited_starts n cs
-turn_starts (line.Read worker cpu polls hold) cs = refl
-turn_starts (line.Set worker wish polls hold) cs = refl
+pub turn_starts : (l : LineAsk) (cs : List Channel) → map (λ c. c.start) (turn_of l cs).channels ≡ map (λ c. c.start) cs
+turn_starts (Asks subspace ask) cs = call_starts subspace ask cs
+turn_starts (Moves n) cs = waited_starts n cs
+turn_starts Nothing cs = refl
 
 -- ---- a run
 
-pub run_starts : (ls : List Line) (cs : List Channel) → map (λ c. c.start) (step_run ls cs).channels ≡ map (λ c. c.start) cs
+pub run_starts : (ls : List LineAsk) (cs : List Channel) → map (λ c. c.start) (step_run ls cs).channels ≡ map (λ c. c.start) cs
 run_starts [] cs = refl
 run_starts (l ∷ ls) cs = run_starts ls (turn_of l cs).channels ∙ turn_starts l cs
 
-same_ids : (cs ds : List Channel) → map (λ c. c.start) cs ≡ map (λ c. c.start) ds → map id_of cs ≡ map id_of ds
+pub same_ids : (cs ds : List Channel) → map (λ c. c.start) cs ≡ map (λ c. c.start) ds → map id_of cs ≡ map id_of ds
 same_ids cs ds e = sym (map_map (λ (s : ChannelStart). s.head.id) (λ (c : Channel). c.start) cs) ∙ ap (map (λ (s : ChannelStart). s.head.id)) e ∙ map_map (λ (s : ChannelStart). s.head.id) (λ (c : Channel). c.start) ds
 
 same_length : (cs ds : List Channel) → map (λ c. c.start) cs ≡ map (λ c. c.start) ds → length cs ≡ length ds
 same_length cs ds e = sym (length-map cs (λ (c : Channel). c.start)) ∙ ap length e ∙ length-map ds (λ (c : Channel). c.start)
 
-pub turn_ids : (l : Line) (cs : List Channel) → map id_of (turn_of l cs).channels ≡ map id_of cs
+pub turn_ids : (l : LineAsk) (cs : List Channel) → map id_of (turn_of l cs).channels ≡ map id_of cs
 turn_ids l cs = same_ids (turn_of l cs).channels cs (turn_starts l cs)
 
-pub run_ids : (ls : List Line) (cs : List Channel) → map id_of (step_run ls cs).channels ≡ map id_of cs
+pub run_ids : (ls : List LineAsk) (cs : List Channel) → map id_of (step_run ls cs).channels ≡ map id_of cs
 run_ids ls cs = same_ids (step_run ls cs).channels cs (run_starts ls cs)
 
-pub turn_length : (l : Line) (cs : List Channel) → length (turn_of l cs).channels ≡ length cs
+pub turn_length : (l : LineAsk) (cs : List Channel) → length (turn_of l cs).channels ≡ length cs
 turn_length l cs = same_length (turn_of l cs).channels cs (turn_starts l cs)
 
-pub run_length : (ls : List Line) (cs : List Channel) → length (step_run ls cs).channels ≡ length cs
+pub run_length : (ls : List LineAsk) (cs : List Channel) → length (step_run ls cs).channels ≡ length cs
 run_length ls cs = same_length (step_run ls cs).channels cs (run_starts ls cs)
 
 -- what a run makes of the channel with an ID, and how that channel sees the line, is a matter of that channel alone
-pub run_channel : (ls : List Line) (id : ℕ) (cs ds : List Channel) → channel_on id cs ≡ channel_on id ds → channel_on id (step_run ls cs).channels ≡ channel_on id (step_run ls ds).channels
+pub run_channel : (ls : List LineAsk) (id : ℕ) (cs ds : List Channel) → channel_on id cs ≡ channel_on id ds → channel_on id (step_run ls cs).channels ≡ channel_on id (step_run ls ds).channels
 run_channel [] id cs ds e = e
 run_channel (l ∷ ls) id cs ds e = run_channel ls id (turn_of l cs).channels (turn_of l ds).channels (turn_channel l id cs ds e)
 
-pub run_sees : (ls : List Line) (id : ℕ) (cs ds : List Channel) → channel_on id cs ≡ channel_on id ds → lines_on id ls (step_run ls cs).replies ≡ lines_on id ls (step_run ls ds).replies
+pub run_sees : (ls : List LineAsk) (id : ℕ) (cs ds : List Channel) → channel_on id cs ≡ channel_on id ds → lines_on id ls (step_run ls cs).replies ≡ lines_on id ls (step_run ls ds).replies
 run_sees [] id cs ds e = refl
 run_sees (l ∷ ls) id cs ds e =
     let here : line_on id l (turn_of l cs).reply ≡ line_on id l (turn_of l ds).reply = turn_sees l id cs ds e in
     let later : lines_on id ls (step_run ls (turn_of l cs).channels).replies ≡ lines_on id ls (step_run ls (turn_of l ds).channels).replies = run_sees ls id (turn_of l cs).channels (turn_of l ds).channels (turn_channel l id cs ds e) in
     ap (λ (v : List ChannelLine). v ++ lines_on id ls (step_run ls (turn_of l cs).channels).replies) here ∙ ap (λ (v : List ChannelLine). line_on id l (turn_of l ds).reply ++ v) later
 
-no_channels : (ls : List Line) → (step_run ls []).channels ≡ []
+no_channels : (ls : List LineAsk) → (step_run ls []).channels ≡ []
 no_channels [] = refl
-no_channels (line.Call worker subspace code bytes polls hold ∷ ls) = no_channels ls
-no_channels (line.Wait n ∷ ls) = no_channels ls
-no_channels (line.Read worker cpu polls hold ∷ ls) = no_channels ls
-no_channels (line.Set worker wish polls hold ∷ ls) = no_channels ls
+no_channels (Asks subspace ask ∷ ls) = no_channels ls
+no_channels (Moves n ∷ ls) = no_channels ls
+no_channels (Nothing ∷ ls) = no_channels ls
 
 only_one : (id : ℕ) (cs : List Channel) (d : Channel) → length cs ≡ 1 → channel_on id cs ≡ Some d → cs ≡ d ∷ []
 only_one id [] d one e = absurd cc
@@ -273,7 +256,7 @@ only_one id (c ∷ []) d one e = at (c.start.head.id == id) e
 only_one id (c ∷ x ∷ xs) d one e = absurd (omega arith)
 
 -- where no two have one ID, a run leaves at each place the channel that a run on that channel alone leaves
-pub runs_apart : (ls : List Line) (cs : List Channel) (i : ℕ) (c : Channel) → AreDistinct (map id_of cs) → slice_get cs i ≡ Some c
+pub runs_apart : (ls : List LineAsk) (cs : List Channel) (i : ℕ) (c : Channel) → AreDistinct (map id_of cs) → slice_get cs i ≡ Some c
     → (d : Channel) × (slice_get (step_run ls cs).channels i ≡ Some d) × ((step_run ls (c ∷ [])).channels ≡ d ∷ [])
 runs_apart ls cs i c apart e =
     let r : Run = step_run ls cs in
@@ -296,11 +279,11 @@ runs_apart ls cs i c apart e =
 abbrev pub IsFresh : Channel → Type 0
 IsFresh c = c.now ≡ fresh c.start
 
-other_replies : (ls : List Line) (rs qs : List (Option Reply)) (c : Channel) → lines_on (id_of c) ls rs ≡ lines_on (id_of c) ls qs → KeepsHeadline ls rs c → KeepsHeadline ls qs c
+other_replies : (ls : List LineAsk) (rs qs : List (Option ShownReply)) (c : Channel) → lines_on (id_of c) ls rs ≡ lines_on (id_of c) ls qs → KeepsHeadline ls rs c → KeepsHeadline ls qs c
 other_replies ls rs qs c e h = let P : List ChannelLine → Type 0 = λ v. HeadlineOf c.start v c.now in subst P e h
 
 -- the channel that a run leaves with an ID
-left_headline : (ls : List Line) (cs : List Channel) (d : Channel) (o : Option Channel) → AllByRecursion IsFresh cs → channel_on (id_of d) cs ≡ o → channel_on (id_of d) (step_run ls cs).channels ≡ Some d → KeepsHeadline ls (step_run ls cs).replies d
+left_headline : (ls : List LineAsk) (cs : List Channel) (d : Channel) (o : Option Channel) → AllByRecursion IsFresh cs → channel_on (id_of d) cs ≡ o → channel_on (id_of d) (step_run ls cs).channels ≡ Some d → KeepsHeadline ls (step_run ls cs).replies d
 left_headline ls cs d None new e found =
     let none : channel_on (id_of d) (step_run ls cs).channels ≡ channel_on (id_of d) (step_run ls []).channels = run_channel ls (id_of d) cs [] e in
     let empty : channel_on (id_of d) (step_run ls []).channels ≡ None = ap (channel_on (id_of d)) (no_channels ls) in
@@ -318,7 +301,7 @@ left_headline ls cs d (Some c) new e found =
     other_replies ls (step_run ls alone).replies (step_run ls cs).replies d (run_sees ls (id_of d) alone cs same) kept
 
 -- the journals of fresh channels with distinct IDs keep the headline
-pub fresh_headlines : (cs : List Channel) → AllByRecursion IsFresh cs → AreDistinct (map id_of cs) → (ls : List Line) → AreHeadlines ls (step_run ls cs)
+pub fresh_headlines : (cs : List Channel) → AllByRecursion IsFresh cs → AreDistinct (map id_of cs) → (ls : List LineAsk) → AreHeadlines ls (step_run ls cs)
 fresh_headlines cs new apart ls =
     let r : Run = step_run ls cs in
     let left : AreDistinct (map id_of r.channels) = subst AreDistinct (sym (run_ids ls cs)) apart in
@@ -332,7 +315,7 @@ all_fresh : (starts : List ChannelStart) → AllByRecursion IsFresh (map fresh_c
 all_fresh [] = tt
 all_fresh (s ∷ ss) = (refl, all_fresh ss)
 
-pub run_headlines_all : (starts : List ChannelStart) → HasDistinctIds starts → (ls : List Line) → AreHeadlines ls (step_run ls (map fresh_channel starts))
+pub run_headlines_all : (starts : List ChannelStart) → HasDistinctIds starts → (ls : List LineAsk) → AreHeadlines ls (step_run ls (map fresh_channel starts))
 run_headlines_all starts apart ls = fresh_headlines (map fresh_channel starts) (all_fresh starts) (subst AreDistinct (sym (map_map id_of fresh_channel starts)) apart) ls
 
 -- ---- the channels of a script
@@ -363,70 +346,3 @@ once t o os h i p at =
 pub opens_apart : (t : Table) (opens : List OpenLine) → AllOpen t opens (length opens) → AreDistinct (map (λ o. o.id) opens)
 opens_apart t [] h = tt
 opens_apart t (o ∷ os) h = (all_map (λ m. o.id ≢ m) (λ (p : OpenLine). p.id) os (all_from (λ (p : OpenLine). o.id ≢ p.id) os (once t o os h)), opens_apart t os (open_rest t o os h))
-
--- each line opens the channel of its ID
-pub set_up_ids : (clock : ScriptClock) (t : Table) (opens : List OpenLine) → AllOpen t opens (length opens) → map id_of (flat_map (λ o. channels_of clock o.device o.id (slice_get t.subspaces o.id)) opens) ≡ map (λ o. o.id) opens
-set_up_ids clock t [] h = refl
-set_up_ids clock t (o ∷ os) h =
-    let there : (u : Subspace) × (slice_get t.subspaces o.id ≡ Some u) = has_structure o.device false (slice_get t.subspaces o.id) (h zero o (omega arith) refl) in
-    rw there.1 (ap (λ (v : List ℕ). o.id ∷ v) (set_up_ids clock t os (open_rest t o os h)))
-
--- the channel of what is opened
-abbrev pub opened_channel : ScriptClock → Opened → Channel
-opened_channel clock o = fresh_channel (bank_start o.head clock)
-
--- the processors and the caps of what is opened change no channel
-pub equipped_channels : (clock : ScriptClock) (cpus : List Binding) (caps : List CapLine) (os : List Opened)
-    → map (opened_channel clock) (map (equipped cpus caps) os) ≡ map (opened_channel clock) os
-equipped_channels clock cpus caps [] = refl
-equipped_channels clock cpus caps (o ∷ os) = ap (λ (v : List Channel). opened_channel clock o ∷ v) (equipped_channels clock cpus caps os)
-
--- the channels of a script are those of what it opens, with nothing asked of them
-pub set_up_opened : (s : Scenario) (t : Table) → set_up_of s t ≡ map (opened_channel (clock_of s)) (opened_by t s.opens)
-set_up_opened s t = all s.opens
-  where
-    opened : (d : Device) (id : ℕ) (u : Option Subspace) (cs : List Channel) (os : List Opened) → cs ≡ map (opened_channel (clock_of s)) os
-        → channels_of (clock_of s) d id u ++ cs ≡ map (opened_channel (clock_of s)) (opened_with d id t.flags u ++ os)
-    opened d id None cs os h = h
-    opened d id (Some u) cs os h = ap (λ (v : List Channel). channels_of (clock_of s) d id (Some u) ++ v) h
-
-    all : (opens : List OpenLine) → flat_map (λ (o : OpenLine). channels_of (clock_of s) o.device o.id (slice_get t.subspaces o.id)) opens ≡ map (opened_channel (clock_of s)) (opened_by t opens)
-    all [] = refl
-    all (o ∷ os) = opened o.device o.id (slice_get t.subspaces o.id) _ (opened_by t os) (all os)
-
--- a call on a subspace that the script opens is answered by a channel that stands in the list
-pub named_found : (id : ℕ) (cs : List Channel) (opens : List OpenLine) → map id_of cs ≡ map (λ o. o.id) opens → opens_bank id opens ≡ true → (c : Channel) × (channel_on id cs ≡ Some c)
-named_found id [] [] e named = absurd cc
-named_found id [] (o ∷ os) e named = absurd cc
-named_found id (c ∷ cs) [] e named = absurd cc
-named_found id (c ∷ cs) (o ∷ os) e named =
-    let first : id_of c ≡ o.id = ap (λ (v : List ℕ). get_or v 0 0) e in
-    let rest : map id_of cs ≡ map (λ (x : OpenLine). x.id) os = ap (drop 1) e in
-    at (c.start.head.id == id) (o.id == id) (is_bank o.device) (ap (λ (n : ℕ). n == id) first) named (named_found id cs os rest)
-  where
-    at : (a b is : Bool) → a ≡ b → ((b && is) || opens_bank id os) ≡ true → (opens_bank id os ≡ true → (x : Channel) × (channel_on id cs ≡ Some x)) → (x : Channel) × (cond a (Some c) (channel_on id cs) ≡ Some x)
-    at true b is same h later = (c, refl)
-    at false true is same h later = absurd cc
-    at false false is same h later = later h
-
-pub named_reply : (s : Scenario) (cs : List Channel) (worker subspace code : ℕ) (bytes : List ℕ) (polls hold : ℕ) → map id_of cs ≡ map (λ o. o.id) s.opens → action_fault s (line.Call worker subspace code bytes polls hold) ≡ None
-    → (c : Channel) × (channel_on subspace cs ≡ Some c) × ((turn_of (line.Call worker subspace code bytes polls hold) cs).reply ≡ Some (answer_call c.start (record { caller = worker; code = code; bytes = bytes; polls = polls; hold = hold }) c.now).reply)
-named_reply s cs worker subspace code bytes polls hold ids right =
-    let found : (c : Channel) × (channel_on subspace cs ≡ Some c) = named_found subspace cs s.opens ids (named (opens_bank subspace s.opens) right) in
-    (found.0, found.1, call_answers subspace _ cs found.0 found.1)
-  where
-    named : (b : Bool) → cond b None (Some NotBank) ≡ None → b ≡ true
-    named true h = refl
-    named false h = absurd cc
-
-channels_fresh : (clock : ScriptClock) (d : Device) (id : ℕ) (o : Option Subspace) → AllByRecursion IsFresh (channels_of clock d id o)
-channels_fresh clock d id None = tt
-channels_fresh clock d id (Some u) = (refl, tt)
-
-pub set_up_fresh : (clock : ScriptClock) (t : Table) (opens : List OpenLine) → AllByRecursion IsFresh (flat_map (λ o. channels_of clock o.device o.id (slice_get t.subspaces o.id)) opens)
-set_up_fresh clock t [] = tt
-set_up_fresh clock t (o ∷ os) = all_append IsFresh (channels_of clock o.device o.id (slice_get t.subspaces o.id)) _ (channels_fresh clock o.device o.id (slice_get t.subspaces o.id)) (set_up_fresh clock t os)
-
--- each journal of a script's run keeps the headline
-pub set_up_headlines : (s : Scenario) (t : Table) → AllOpen t s.opens (length s.opens) → AreHeadlines s.actions (run_of s t)
-set_up_headlines s t h = fresh_headlines (set_up_of s t) (set_up_fresh (clock_of s) t s.opens) (subst AreDistinct (sym (set_up_ids (clock_of s) t s.opens h)) (opens_apart t s.opens h)) s.actions

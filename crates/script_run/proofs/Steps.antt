@@ -1,29 +1,29 @@
 -- The lines of a served script, one after the other.
-use Rattle.std.proofs.Common.{◌≡◌, ℕ, suc, ◌+◌, ◌<◌, ◌≤◌, List, [], ◌∷◌, ◌++◌, length, drop, get_or, refl, sym, ap, ◌∙◌, arith}
+use Rattle.std.proofs.Common.{◌≡◌, ℕ, zero, suc, ◌+◌, ◌<◌, ◌≤◌, List, [], ◌∷◌, ◌++◌, length, drop, get_or, refl, sym, ap, ◌∙◌, arith}
 use Rattle.std.specs.Prelude.{Option, Some, None}
-use Rattle.std.proofs.lemmas.List.{append_assoc, append-nil, drop_all, drop_more, length-append}
+use Rattle.std.proofs.lemmas.List.{append_assoc, append-nil, drop_all, drop_more, length-append, length-map}
 use Rattle.pcc_script.specs.declared.scenario.Line.{Line}
+use Rattle.cpc_package.specs.declared.binding.Binding.{Binding}
 use Rattle.channel_turns.specs.ChannelRuns.{Channel}
-use Rattle.channel_turns.specs.Replies.{Reply}
-use Rattle.script_run.specs.ReplyText.{replies_text, reply_text}
-use Rattle.script_run.specs.StepRun.{Run, step_run, turn_of}
+use Rattle.script_run.specs.ReplyText.{replies_text, shown_text}
+use Rattle.script_run.specs.StepRun.{LineAsk, Run, ShownReply, ask_of, asks_by, step_run, turn_of}
 
 -- lines that are run up to one of them: the replies so far and those of the rest are those of all, and the rest leaves what all leave
-pub record Going (lines : List Line) (begin : List Channel) (i : ℕ) (now : List Channel) (told : List (Option Reply)) : Type 0 where
+pub record Going (lines : List LineAsk) (begin : List Channel) (i : ℕ) (now : List Channel) (told : List (Option ShownReply)) : Type 0 where
   pub replies : told ++ (step_run (drop i lines) now).replies ≡ (step_run lines begin).replies
   pub channels : (step_run (drop i lines) now).channels ≡ (step_run lines begin).channels
   pub count : length told ≡ i
 
-pub going_start : (lines : List Line) (begin : List Channel) → Going lines begin 0 begin []
+pub going_start : (lines : List LineAsk) (begin : List Channel) → Going lines begin 0 begin []
 going_start lines begin = record { replies = refl; channels = refl; count = refl }
 
-pub going_more : (lines : List Line) (begin now next : List Channel) (told : List (Option Reply)) (i : ℕ) (l : Line) → i < length lines → l ≡ get_or lines i l → (turn_of l now).channels ≡ next
+pub going_more : (lines : List LineAsk) (begin now next : List Channel) (told : List (Option ShownReply)) (i : ℕ) (l : LineAsk) → i < length lines → l ≡ get_or lines i l → (turn_of l now).channels ≡ next
     → Going lines begin i now told → Going lines begin (i + 1) next (told ++ (turn_of l now).reply ∷ [])
 going_more lines begin now next told i l lt is left h =
-    let rest : List Line = drop (i + 1) lines in
-    let reply : Option Reply = (turn_of l now).reply in
-    let front : drop i lines ≡ l ∷ rest = drop_more lines i l lt ∙ ap (λ (x : Line). x ∷ rest) (sym is) in
-    let run : step_run (drop i lines) now ≡ step_run (l ∷ rest) now = ap (λ (v : List Line). step_run v now) front in
+    let rest : List LineAsk = drop (i + 1) lines in
+    let reply : Option ShownReply = (turn_of l now).reply in
+    let front : drop i lines ≡ l ∷ rest = drop_more lines i l lt ∙ ap (λ (x : LineAsk). x ∷ rest) (sym is) in
+    let run : step_run (drop i lines) now ≡ step_run (l ∷ rest) now = ap (λ (v : List LineAsk). step_run v now) front in
     let behind : step_run rest (turn_of l now).channels ≡ step_run rest next = ap (step_run rest) left in
     let len = length-append told (reply ∷ []) in
     let before = h.count in
@@ -34,40 +34,40 @@ going_more lines begin now next told i l lt is left h =
       count = omega arith;
     }
 
-pub going_end : (lines : List Line) (begin now : List Channel) (told : List (Option Reply)) (i : ℕ) → length lines ≤ i → Going lines begin i now told
+pub going_end : (lines : List LineAsk) (begin now : List Channel) (told : List (Option ShownReply)) (i : ℕ) → length lines ≤ i → Going lines begin i now told
     → (told ≡ (step_run lines begin).replies) × ((step_run lines begin).channels ≡ now)
 going_end lines begin now told i le h =
-    let run : step_run (drop i lines) now ≡ record { replies = []; channels = now } = ap (λ (v : List Line). step_run v now) (drop_all i lines le) in (
+    let run : step_run (drop i lines) now ≡ record { replies = []; channels = now } = ap (λ (v : List LineAsk). step_run v now) (drop_all i lines le) in (
       sym (append-nil told) ∙ ap (λ (r : Run). told ++ r.replies) (sym run) ∙ h.replies,
       sym h.channels ∙ ap (λ (r : Run). r.channels) run,
     )
 
 -- ---- the text of the replies
 
-replies_text-more : (first : ℕ) (rs : List (Option Reply)) (reply : Option Reply) → replies_text first (rs ++ reply ∷ []) ≡ replies_text first rs ++ replies_text (first + length rs) (reply ∷ [])
+replies_text-more : (first : ℕ) (rs : List (Option ShownReply)) (reply : Option ShownReply) → replies_text first (rs ++ reply ∷ []) ≡ replies_text first rs ++ replies_text (first + length rs) (reply ∷ [])
 replies_text-more first [] reply = let none : first ≡ first + 0 = omega arith in ap (λ (n : ℕ). replies_text n (reply ∷ [])) none
 replies_text-more first (None ∷ rs) reply =
     let number : first + 1 + length rs ≡ first + suc (length rs) = omega arith in
     replies_text-more (first + 1) rs reply ∙ ap (λ (n : ℕ). replies_text (first + 1) rs ++ replies_text n (reply ∷ [])) number
 replies_text-more first (Some r ∷ rs) reply =
     let number : first + 1 + length rs ≡ first + suc (length rs) = omega arith in
-    ap (λ (v : List ℕ). reply_text first r ++ v) (replies_text-more (first + 1) rs reply ∙ ap (λ (n : ℕ). replies_text (first + 1) rs ++ replies_text n (reply ∷ [])) number)
-    ∙ sym (append_assoc (reply_text first r) (replies_text (first + 1) rs) (replies_text (first + suc (length rs)) (reply ∷ [])))
+    ap (λ (v : List ℕ). shown_text first r ++ v) (replies_text-more (first + 1) rs reply ∙ ap (λ (n : ℕ). replies_text (first + 1) rs ++ replies_text n (reply ∷ [])) number)
+    ∙ sym (append_assoc (shown_text first r) (replies_text (first + 1) rs) (replies_text (first + suc (length rs)) (reply ∷ [])))
 
 -- the replies so far were put
-pub record Putting (first : ℕ) (lines : List Line) (begin : List Channel) (before : List ℕ) (i : ℕ) (now : List Channel) (put : List ℕ) : Type 0 where
-  pub told : List (Option Reply)
+pub record Putting (first : ℕ) (lines : List LineAsk) (begin : List Channel) (before : List ℕ) (i : ℕ) (now : List Channel) (put : List ℕ) : Type 0 where
+  pub told : List (Option ShownReply)
   pub going : Going lines begin i now told
   pub text : put ≡ before ++ replies_text first told
 
-pub putting_start : (first : ℕ) (lines : List Line) (begin : List Channel) (put : List ℕ) → Putting first lines begin put 0 begin put
+pub putting_start : (first : ℕ) (lines : List LineAsk) (begin : List Channel) (put : List ℕ) → Putting first lines begin put 0 begin put
 putting_start first lines begin put = record { told = []; going = going_start lines begin; text = sym (append-nil put) }
 
-pub putting_more : (first line : ℕ) (lines : List Line) (begin now next : List Channel) (before put put' : List ℕ) (i : ℕ) (l : Line) → i < length lines → l ≡ get_or lines i l → line ≡ first + i
+pub putting_more : (first line : ℕ) (lines : List LineAsk) (begin now next : List Channel) (before put put' : List ℕ) (i : ℕ) (l : LineAsk) → i < length lines → l ≡ get_or lines i l → line ≡ first + i
     → put' ≡ put ++ replies_text line ((turn_of l now).reply ∷ []) → (turn_of l now).channels ≡ next
     → Putting first lines begin before i now put → Putting first lines begin before (i + 1) next put'
 putting_more first line lines begin now next before put put' i l lt is at written left h =
-    let reply : Option Reply = (turn_of l now).reply in
+    let reply : Option ShownReply = (turn_of l now).reply in
     let number : line ≡ first + length h.told = at ∙ ap (λ (n : ℕ). first + n) (sym h.going.count) in
     record {
       told = h.told ++ reply ∷ [];
@@ -76,8 +76,28 @@ putting_more first line lines begin now next before put put' i l lt is at writte
           ∙ ap (λ (n : ℕ). before ++ (replies_text first h.told ++ replies_text n (reply ∷ []))) number ∙ ap (λ (v : List ℕ). before ++ v) (sym (replies_text-more first h.told reply));
     }
 
-pub putting_end : (first : ℕ) (lines : List Line) (begin now : List Channel) (before put : List ℕ) (i : ℕ) → length lines ≤ i → Putting first lines begin before i now put
+pub putting_end : (first : ℕ) (lines : List LineAsk) (begin now : List Channel) (before put : List ℕ) (i : ℕ) → length lines ≤ i → Putting first lines begin before i now put
     → (put ≡ before ++ replies_text first (step_run lines begin).replies) × ((step_run lines begin).channels ≡ now)
 putting_end first lines begin now before put i le h =
     let all = going_end lines begin now h.told i le h.going in
-    (h.text ∙ ap (λ (rs : List (Option Reply)). before ++ replies_text first rs) all.0, all.1)
+    (h.text ∙ ap (λ (rs : List (Option ShownReply)). before ++ replies_text first rs) all.0, all.1)
+
+-- ---- lines, by what they ask
+
+pub asked_at : (cpus : List Binding) (ls : List Line) (i : ℕ) (l : Line) → l ≡ get_or ls i l → ask_of cpus l ≡ get_or (asks_by cpus ls) i (ask_of cpus l)
+asked_at cpus ls i l e = ap (ask_of cpus) e ∙ each ls i
+  where
+    each : (xs : List Line) (k : ℕ) → ask_of cpus (get_or xs k l) ≡ get_or (asks_by cpus xs) k (ask_of cpus l)
+    each [] k = refl
+    each (x ∷ xs) zero = refl
+    each (x ∷ xs) (suc k) = each xs k
+
+pub within_lines : (cpus : List Binding) (ls : List Line) (i : ℕ) → i < length ls → i < length (asks_by cpus ls)
+within_lines cpus ls i lt = let n : length (asks_by cpus ls) ≡ length ls = length-map ls (ask_of cpus) in omega (arith, lt, n)
+
+pub behind_lines : (cpus : List Binding) (ls : List Line) (i : ℕ) → length ls ≤ i → length (asks_by cpus ls) ≤ i
+behind_lines cpus ls i le = let n : length (asks_by cpus ls) ≡ length ls = length-map ls (ask_of cpus) in omega (arith, le, n)
+
+pub putting_lines_end : (cpus : List Binding) (first : ℕ) (lines : List Line) (begin now : List Channel) (before put : List ℕ) (i : ℕ) → length lines ≤ i → Putting first (asks_by cpus lines) begin before i now put
+    → (put ≡ before ++ replies_text first (step_run (asks_by cpus lines) begin).replies) × ((step_run (asks_by cpus lines) begin).channels ≡ now)
+putting_lines_end cpus first lines begin now before put i le h = putting_end first (asks_by cpus lines) begin now before put i (behind_lines cpus lines i le) h

@@ -1,19 +1,21 @@
 -- The channels of the opened subspaces, in the order of their lines.
-use Rattle.std.specs.Prelude.{◌≡◌, ◌≢◌, ◌≤◌, ℕ, ◌-◌, ◌*◌, ◌^◌, ◌==◌, true, List, [], ◌∷◌, map, replicate}
+use Rattle.std.specs.Prelude.{◌≡◌, ◌≢◌, ◌≤◌, ℕ, ◌-◌, ◌*◌, ◌^◌, ◌==◌, Bool, true, List, [], ◌∷◌, map, replicate}
 use Rattle.std.specs.List.{AllByRecursion, list_any}
 use Rattle.pcc_history.specs.Devices.{bank_exec}
 use Rattle.pcc_journal.specs.declared.text.JournalHead.{JournalHead}
 use Rattle.pcc_script.specs.Limits.{IsAction}
 use Rattle.pcc_script.specs.declared.scenario.Line.{Line}
-use Rattle.pcc_script.specs.declared.scenario.Line.TheVariants as line
 use Rattle.pcc_setup.specs.declared.opening.Opened.{Opened}
+use Rattle.cpc_package.specs.Bindings as bindings
+use Rattle.cpc_package.specs.Bindings.{LiesIn}
+use Rattle.cpc_package.specs.declared.binding.Binding.{Binding}
 use Rattle.pcc_steps.specs.Wires.{IsRight}
 use Rattle.channel_core.specs.Readings.{more_time}
-use Rattle.channel_turns.specs.ChannelRuns.{Call, Channel, ChannelStart, ScriptClock, answer_call, fresh}
-use Rattle.channel_turns.specs.Outcomes.{StandsFor}
+use Rattle.channel_turns.specs.ChannelRuns.{Channel, ChannelStart, ScriptClock, fresh}
 use Rattle.channel_turns.specs.Standing.{IsHeadOf}
-use Rattle.channel_turns.specs.declared.outcome.Outcome.{Outcome}
-use Rattle.script_run.specs.Built.{is_built_line}
+use Rattle.script_run.specs.LineOutcomes.{Tells}
+use Rattle.script_run.specs.StepRun.{Ask, Asks, LineAsk, Moves, Nothing, OfCall, OfRead, OfWish, answer, ask_of}
+use Rattle.script_run.specs.declared.outcome.LineAnswer.{LineAnswer}
 
 -- ---- one channel
 
@@ -34,10 +36,10 @@ pub record IsWired (o : Opened) : Type 0 where
 abbrev pub moved_up : ℕ → Channel → Channel
 moved_up n c = record c { now = record c.now { added = more_time n c.now.added } }
 
--- the outcome of a call stands for its reply, and the call leaves the channel so
-pub record IsAnsweredBy (old : Channel) (call : Call) (new : Channel) (outcome : Outcome) : Type 0 where
-  pub reply : let a = answer_call old.start call old.now in StandsFor a.now.records outcome a.reply
-  pub left : new ≡ record old { now = (answer_call old.start call old.now).now }
+-- what is told of an ask stands for its reply, and the ask leaves the channel so
+pub record IsToldBy (old : Channel) (ask : Ask) (new : Channel) (told : LineAnswer) : Type 0 where
+  pub reply : let a = answer old.start ask old.now in Tells a.now.records told a.reply
+  pub left : new ≡ record old { now = (answer old.start ask old.now).now }
 
 -- it has given at most three readings a line, and its clock was moved up by at most the greatest number a line
 pub record IsEarly (lines : ℕ) (c : Channel) : Type 0 where
@@ -57,13 +59,27 @@ abbrev pub AreDistinct : List ℕ → Type 0
 AreDistinct [] = Unit {0}
 AreDistinct (n ∷ ns) = AllByRecursion (λ m. n ≢ m) ns × AreDistinct ns
 
--- a call is on one of these IDs
-abbrev pub IsOnOneOf : List ℕ → Line → Type 0
-IsOnOneOf ids (line.Call worker subspace code bytes polls hold) = list_any (λ id. id == subspace) ids ≡ true
-IsOnOneOf ids _ = Unit {0}
+-- what stays of the channels
+abbrev pub starts_of : List Channel → List ChannelStart
+starts_of channels = map (λ c. c.start) channels
 
--- channels with these IDs can run a line
-pub record CanRun (ids : List ℕ) (l : Line) : Type 0 where
+-- one of them has this ID
+abbrev pub is_on : ℕ → List ChannelStart → Bool
+is_on id starts = list_any (λ s. s.head.id == id) starts
+
+-- the fields of a processor lie in a space of room bytes
+abbrev pub Suits : ℕ → Ask → Type 0
+Suits room (OfCall call) = Unit {0}
+Suits room (OfRead r) = bindings.IsRight r.binding × LiesIn room r.binding
+Suits room (OfWish w) = bindings.IsRight w.binding × LiesIn room w.binding
+
+-- something is asked of one of the channels, and of a processor of its space
+abbrev pub CanAsk : List ChannelStart → LineAsk → Type 0
+CanAsk starts (Asks id ask) = (is_on id starts ≡ true) × AllByRecursion (λ s. s.head.id ≡ id → Suits s.head.room ask) starts
+CanAsk starts (Moves n) = Unit {0}
+CanAsk starts Nothing = ⊥
+
+-- channels with these starts can run a line, which may name these processors
+pub record CanRun (cpus : List Binding) (starts : List ChannelStart) (l : Line) : Type 0 where
   pub within : IsAction l
-  pub built : is_built_line l ≡ true
-  pub named : IsOnOneOf ids l
+  pub asks : CanAsk starts (ask_of cpus l)

@@ -1,17 +1,35 @@
 -- The outcome of a line.
-use Rattle.std.specs.Prelude.{◌≡◌, List, length, Option, Some, None, slice_get}
+use Rattle.std.specs.Prelude.{◌≡◌, ℕ, List, length, Option, Some, None, slice_get}
+use Rattle.pcc_journal.specs.declared.record.Record.{Record}
+use Rattle.cpc_package.specs.declared.binding.Binding.{Binding}
+use Rattle.cppc_device.specs.Ranges.{values_in}
 use Rattle.channel_turns.specs.Outcomes.{IsPlaced, StandsFor}
 use Rattle.channel_turns.specs.Replies.{Reply}
+use Rattle.channel_headline.specs.Asked.{Refused, Replied}
 use Rattle.script_run.specs.DeviceChannels.{channel_of}
+use Rattle.script_run.specs.StepRun.{ByChannel, ShownReply, Values}
 use Rattle.script_run.specs.declared.channel.DeviceChannel.{DeviceChannel}
+use Rattle.script_run.specs.declared.outcome.LineAnswer.{LineAnswer}
+use Rattle.script_run.specs.declared.outcome.LineAnswer.TheVariants as told
 use Rattle.script_run.specs.declared.outcome.LineOutcome.{LineOutcome}
 
+-- what is told of an ask stands for this reply, by the records of its channel
+abbrev pub Tells : List Record → LineAnswer → ShownReply → Type 0
+Tells records (told.Called outcome) reply = (r : Reply) × (reply ≡ ByChannel (Replied r)) × StandsFor records outcome r
+Tells records (told.Read values) reply = (binding : Binding) × (output : List ℕ) × (reply ≡ Values binding output) × (values.entries ≡ values_in binding output)
+Tells records (told.Refused why) reply = reply ≡ ByChannel (Refused why)
+
+-- the place of a record that is told of is below the length of the journal
+abbrev pub IsPlacedIn : ℕ → LineAnswer → Type 0
+IsPlacedIn len (told.Called outcome) = IsPlaced len outcome
+IsPlacedIn len _ = Unit {0}
+
 -- the outcome of a line stands for this reply, by the records of its channel; a line without a reply has none
-abbrev pub IsOutcomeOf : Option Reply → List DeviceChannel → Option LineOutcome → Type 0
+abbrev pub IsOutcomeOf : Option ShownReply → List DeviceChannel → Option LineOutcome → Type 0
 IsOutcomeOf reply channels None = reply ≡ None
-IsOutcomeOf reply channels (Some o) = (d : DeviceChannel) × (slice_get channels o.place ≡ Some d) × IsPlaced (length (channel_of d).now.records) o.outcome
-    × ((r : Reply) × (reply ≡ Some r) × StandsFor (channel_of d).now.records o.outcome r)
+IsOutcomeOf reply channels (Some o) = (d : DeviceChannel) × (slice_get channels o.place ≡ Some d) × IsPlacedIn (length (channel_of d).now.records) o.answer
+    × ((r : ShownReply) × (reply ≡ Some r) × Tells (channel_of d).now.records o.answer r)
 
 -- it stands for some reply
 abbrev pub HasReply : List DeviceChannel → Option LineOutcome → Type 0
-HasReply channels outcome = (reply : Option Reply) × IsOutcomeOf reply channels outcome
+HasReply channels outcome = (reply : Option ShownReply) × IsOutcomeOf reply channels outcome

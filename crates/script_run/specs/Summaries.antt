@@ -3,15 +3,16 @@ use Rattle.std.specs.Prelude.{◌≡◌, ◌≤◌, ℕ, ◌+◌, true, false, L
 use Rattle.std.specs.List.{flat_map}
 use Rattle.pcc_journal.specs.declared.record.Record.{Record}
 use Rattle.pcc_script.specs.Made.{made_scenario_of}
-use Rattle.pcc_setup.specs.SetUps.{IsSetUp}
+use Rattle.pcc_setup.specs.SetUps.{Opens}
+use Rattle.pcc_setup.specs.declared.opening.Opened.{Opened}
 use Rattle.pcc_text.specs.Pieces.{Spelled, Words, Decimal, spelled}
-use Rattle.pcct_table.specs.declared.table.Table.{Table}
 use Rattle.channel_turns.specs.ChannelRuns.{Channel, count_in_flight}
-use Rattle.channel_turns.specs.Replies.{Reply, Done, StillPending, TimedOut}
+use Rattle.channel_turns.specs.Replies.{Done, StillPending, TimedOut}
+use Rattle.channel_headline.specs.Asked.{LineReply, Replied}
 use Rattle.script_run.specs.declared.counts.Counts.{Counts}
-use Rattle.script_run.specs.Headlines.{AreHeadlines}
-use Rattle.script_run.specs.ScriptRuns.{run_of}
-use Rattle.script_run.specs.StepRun.{Run}
+use Rattle.script_run.specs.Headlines.{AreHeadlines, own_reply}
+use Rattle.script_run.specs.ScriptRuns.{asks_of, run_of}
+use Rattle.script_run.specs.StepRun.{Run, ShownReply}
 
 -- ---- counts of replies
 
@@ -19,19 +20,19 @@ abbrev pub none_counted : Counts
 none_counted = record { ok = 0; error = 0; timed_out = 0; still_pending = 0; other = 0 }
 
 -- one reply more
-abbrev pub added : Counts → Reply → Counts
-added c (Done false output) = record c { ok = c.ok + 1 }
-added c (Done true output) = record c { error = c.error + 1 }
-added c (TimedOut looks) = record c { timed_out = c.timed_out + 1 }
-added c (StillPending looks) = record c { still_pending = c.still_pending + 1 }
+abbrev pub added : Counts → LineReply → Counts
+added c (Replied (Done false output)) = record c { ok = c.ok + 1 }
+added c (Replied (Done true output)) = record c { error = c.error + 1 }
+added c (Replied (TimedOut looks)) = record c { timed_out = c.timed_out + 1 }
+added c (Replied (StillPending looks)) = record c { still_pending = c.still_pending + 1 }
 added c _ = record c { other = c.other + 1 }
 
--- a line without a reply counts for nothing
-abbrev pub counted : Counts → Option Reply → Counts
+-- numbers that are shown count as their command; a line without a reply counts for nothing
+abbrev pub counted : Counts → Option ShownReply → Counts
 counted c None = c
-counted c (Some reply) = added c reply
+counted c (Some reply) = added c (own_reply reply)
 
-abbrev pub counts_of : List (Option Reply) → Counts
+abbrev pub counts_of : List (Option ShownReply) → Counts
 counts_of rs = fold counted none_counted rs
 
 -- each count is so much at most
@@ -68,6 +69,9 @@ summary_text calls run = spelled (summary_pieces calls (counts_of run.replies) (
 
 -- ---- a made-up run
 
--- the text is the summary of the run of a made-up scenario with so many calls, whose journals keep the headline
-abbrev pub IsSummary : ℕ → List ℕ → Type 0
-IsSummary n text = let s = made_scenario_of n in (t : Table) × IsSetUp s t × AreHeadlines s.actions (run_of s t) × (text ≡ summary_text n (run_of s t))
+-- the text is the summary of the run of a made-up scenario with this number of calls, which has no processors; its journals keep the headline
+pub record IsSummary (n : ℕ) (text : List ℕ) : Type 0 where
+  pub opened : List Opened
+  pub opens : Opens (made_scenario_of n) opened
+  pub headline : AreHeadlines (asks_of (made_scenario_of n) []) (run_of (made_scenario_of n) opened [])
+  pub text_is : text ≡ summary_text n (run_of (made_scenario_of n) opened [])

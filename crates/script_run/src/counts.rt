@@ -4,10 +4,13 @@ ghost use Rattle.pcc_script.specs.declared.limits.TheConstants.{MAX_ACTIONS};
 ghost use Rattle.channel_turns.specs.Outcomes.{IsPlaced, StandsFor};
 ghost use Rattle.channel_turns.specs.Replies.{Reply};
 ghost use Rattle.script_run.specs.Summaries.{IsUnder, added, counted, none_counted};
-ghost use Rattle.script_run.specs.LineOutcomes.{HasReply, IsOutcomeOf};
+ghost use Rattle.channel_headline.specs.Asked.{Replied};
+ghost use Rattle.script_run.specs.Headlines.{own_reply};
+ghost use Rattle.script_run.specs.LineOutcomes.{HasReply, IsOutcomeOf, IsPlacedIn, Tells};
+ghost use Rattle.script_run.specs.StepRun.{ShownReply};
 
 use crate::channel::DeviceChannel;
-use crate::outcome::LineOutcome;
+use crate::outcome::{LineAnswer, LineOutcome};
 use channel_turns::Outcome;
 use pcc_journal::Record;
 
@@ -39,19 +42,32 @@ impl Counts {
     pub fn count(&mut self, channels: &[DeviceChannel], outcome: Option<LineOutcome>)
         requires reply { HasReply channels.now outcome }
         requires under { IsUnder MAX_ACTIONS self.old }
-        ensures { (reply : Option Reply) → IsOutcomeOf reply channels.now outcome → self.new ≡ counted self.old reply }
+        ensures { (reply : Option ShownReply) → IsOutcomeOf reply channels.now outcome → self.new ≡ counted self.old reply }
     {
         match outcome {
             None => {}
-            Some(LineOutcome { place, outcome }) => self.add(outcome, channels[place].records()),
+            Some(LineOutcome { place, answer }) => self.add(answer, channels[place].records()),
         }
     }
 
-    // Counts the reply that an outcome stands for.
-    fn add(&mut self, outcome: Outcome, records: &[Record])
+    // Counts the reply that is told of an ask.
+    fn add(&mut self, answer: LineAnswer, records: &[Record])
+        requires placed { IsPlacedIn (length records.now) answer }
+        requires under { IsUnder MAX_ACTIONS self.old }
+        ensures { (reply : ShownReply) → Tells records.now answer reply → self.new ≡ added self.old (own_reply reply) }
+    {
+        match answer {
+            LineAnswer::Called(outcome) => self.add_call(outcome, records),
+            LineAnswer::Read(_) => self.ok += 1,
+            LineAnswer::Refused(_) => self.other += 1,
+        }
+    }
+
+    // Counts the reply that the outcome of a call stands for.
+    fn add_call(&mut self, outcome: Outcome, records: &[Record])
         requires placed { IsPlaced (length records.now) outcome }
         requires under { IsUnder MAX_ACTIONS self.old }
-        ensures { (reply : Reply) → StandsFor records.now outcome reply → self.new ≡ added self.old reply }
+        ensures { (reply : Reply) → StandsFor records.now outcome reply → self.new ≡ added self.old (Replied reply) }
     {
         match outcome {
             Outcome::Done { place } => {

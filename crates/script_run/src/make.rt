@@ -1,18 +1,17 @@
 //! The summary of `make N`: a made-up script of `N` calls is run as `step` runs one, and its replies and records are counted.
-ghost use Rattle.std.specs.Prelude.{◌≡◌, ◌≤◌, ◌<◌, ◌++◌, ◌*◌, ◌^◌, ℕ, true, length, map, sum, IfOk, OnOk};
+ghost use Rattle.std.specs.Prelude.{◌≡◌, ◌≤◌, ◌<◌, ◌++◌, ◌*◌, ◌^◌, [], ℕ, true, length, map, sum, IfOk, OnOk};
 ghost use Rattle.pcc_script.specs.declared.limits.TheConstants.{MAX_ACTIONS};
 ghost use Rattle.std.specs.List.{AllByRecursion};
 ghost use Rattle.channel_turns.specs.ChannelRuns.{count_in_flight, journal_limit};
 ghost use Rattle.pcc_script.specs.Limits.{IsWithin};
 ghost use Rattle.pcc_script.specs.declared.limits.TheConstants.{MAX_MADE_CALLS};
-ghost use Rattle.pcc_setup.specs.SetUps.{Opens};
+ghost use Rattle.pcc_script.specs.Made.{made_scenario_of};
+ghost use Rattle.pcc_setup.specs.SetUps.{IsSetUpOf};
 ghost use Rattle.pcc_text.specs.Pieces.{spelled};
-ghost use Rattle.script_run.specs.Built.{is_built};
-ghost use Rattle.script_run.specs.Channels.{CanRun, IsEarly, ids_of};
+ghost use Rattle.script_run.specs.Channels.{CanRun, IsEarly, starts_of};
 ghost use Rattle.script_run.specs.DeviceChannels.{channel_of, channels_by};
-ghost use Rattle.script_run.specs.ScriptRuns.{run_of};
-ghost use Rattle.script_run.specs.StepRun.{step_run};
-ghost use Rattle.script_run.specs.Summaries.{IsSummary, counts_of, output_sum, summary_pieces, summary_text};
+ghost use Rattle.script_run.specs.StepRun.{asks_by, step_run};
+ghost use Rattle.script_run.specs.Summaries.{IsSummary, counts_of, output_sum, summary_pieces};
 
 use crate::channel::DeviceChannel;
 use crate::channels::OpenedChannels;
@@ -20,27 +19,27 @@ use crate::counts::Counts;
 use pcc_io::NoMemory;
 use pcc_journal::Record;
 use pcc_script::{Actions, Scenario, made_scenario, within_limits};
-use pcc_setup::{OpenedList, SetUpError, set_up};
+use pcc_setup::{SetUp, SetUpError, set_up};
 use pcc_text::{Piece, put_pieces};
 use pcct_codec::worked_tables;
 use std::alloc::Global;
 
 // Runs lines, and counts their replies.
-#[tactic(auto, using(crate::proofs::Counting::counting_start, crate::proofs::Counting::counting_end, crate::proofs::ChannelLists::can_still, crate::proofs::ChannelLists::early_still))]
+#[tactic(auto, using(crate::proofs::Counting::counting_start, crate::proofs::Counting::counting_lines_end, crate::proofs::ChannelLists::can_still, crate::proofs::ChannelLists::early_still))]
 fn count_lines(
     alloc: Global,
     channels: &mut OpenedChannels,
     actions: &Actions,
 ) -> Result<Counts, NoMemory>
-    requires lines { AllByRecursion (CanRun (ids_of (channels_by channels.old))) actions.now }
+    requires lines { AllByRecursion (CanRun [] (starts_of (channels_by channels.old))) actions.now }
     requires few { length actions.now ≤ MAX_ACTIONS }
     requires early { AllByRecursion (IsEarly 0) (channels_by channels.old) }
-    ensures counts { IfOk result (λ counts. counts ≡ counts_of (step_run actions.now (channels_by channels.old)).replies) }
-    ensures channels { OnOk result ((step_run actions.now (channels_by channels.old)).channels ≡ channels_by channels.new) }
+    ensures counts { IfOk result (λ counts. counts ≡ counts_of (step_run (asks_by [] actions.now) (channels_by channels.old)).replies) }
+    ensures channels { OnOk result ((step_run (asks_by [] actions.now) (channels_by channels.old)).channels ≡ channels_by channels.new) }
 {
     let mut counts = Counts::new();
     for i in 0..actions.len() {
-        let outcome = channels.run(alloc, actions.at(i))?;
+        let outcome = channels.run(alloc, &[], actions.at(i))?;
         counts.count(channels.as_slice(), outcome);
     }
     Ok(counts)
@@ -114,15 +113,19 @@ fn summary(
     Ok(out)
 }
 
-// The summary of the run of a script that opens one subspace.
-fn run_summary(alloc: Global, scenario: &Scenario, opened: &OpenedList) -> Result<Vec<u8>, NoMemory>
+// The summary of the run of a made-up script, which opens one subspace and has no processors.
+fn run_summary(
+    alloc: Global,
+    calls: u32,
+    scenario: &Scenario,
+    set_up: &SetUp,
+) -> Result<Vec<u8>, NoMemory>
     requires within { IsWithin scenario.now }
-    requires built { is_built scenario.now ≡ true }
-    requires opens { Opens scenario.now opened.now }
-    requires alone { length opened.now ≡ 1 }
-    ensures { IfOk result (λ v. (h : Opens scenario.now opened.now) → v.items ≡ summary_text (length scenario.now.actions) (run_of scenario.now h.table)) }
+    requires made { scenario.now ≡ made_scenario_of calls }
+    requires set_up { IsSetUpOf scenario.now set_up.now }
+    ensures { IfOk result (λ v. IsSummary calls v.items) }
 {
-    let mut channels = OpenedChannels::open(alloc, scenario, opened)?;
+    let mut channels = OpenedChannels::open(alloc, scenario, set_up)?;
     let counts = count_lines(alloc, &mut channels, &scenario.actions)?;
     summary(
         alloc,
@@ -142,7 +145,7 @@ pub fn made_summary(alloc: Global, calls: u32) -> Result<Vec<u8>, NoMemory>
     within_limits();
     let scenario = made_scenario(alloc, calls)?;
     match set_up(alloc, &scenario) {
-        Ok(set_up) => run_summary(alloc, &scenario, &set_up.opened),
+        Ok(set_up) => run_summary(alloc, calls, &scenario, &set_up),
         Err(SetUpError::NoMemory) => Err(NoMemory),
         // A made-up script passes all checks.
         Err(SetUpError::Refused { .. }) => unreachable!(),

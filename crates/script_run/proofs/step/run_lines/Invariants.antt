@@ -1,12 +1,13 @@
 use Rattle.std.proofs.Common.{◌≡◌}
 use Rattle.std.specs.List.{AllByRecursion}
-use Rattle.script_run.specs.Channels.{IsEarly, ids_of}
+use Rattle.script_run.specs.Channels.{IsEarly, starts_of}
 use Rattle.script_run.specs.DeviceChannels.{channels_by}
+use Rattle.script_run.specs.StepRun.{asks_by}
 use Rattle.script_run.proofs.Steps.{Putting}
 use Rattle.script_run.proofs.step.run_lines.Given as goal
 
--- the lines before were run, and the IDs are those at the start
+-- the lines before were run, and the starts are those at the start
 abbrev pub invariant-loop-i : goal.invariant-loop-i
 invariant-loop-i l =
-    Putting l.first l.actions (channels_by l.initial.channels) l.initial.out.items l.i (channels_by l.channels) l.out.items
-    × (ids_of (channels_by l.channels) ≡ ids_of (channels_by l.initial.channels)) × AllByRecursion (IsEarly l.i) (channels_by l.channels)
+    Putting l.first (asks_by l.cpus l.actions) (channels_by l.initial.channels) l.initial.out.items l.i (channels_by l.channels) l.out.items
+    × (starts_of (channels_by l.channels) ≡ starts_of (channels_by l.initial.channels)) × AllByRecursion (IsEarly l.i) (channels_by l.channels)
