@@ -1,7 +1,7 @@
 -- What a script opens: its channels, their IDs and its lines.
 use Rattle.std.proofs.Common.{◌≡◌, ℕ, zero, suc, ◌<◌, ◌≤◌, ◌^◌, ◌==◌, ◌&&◌, ◌||◌, Bool, true, false, cond, List, [], ◌∷◌, ◌++◌, length, map, refl, sym, ap, ◌∙◌, subst, arith}
 use Rattle.std.specs.Prelude.{Option, Some, None, nat_lt, slice_get}
-use Rattle.std.specs.List.{AllByRecursion, flat_map, list_all, list_any}
+use Rattle.std.specs.List.{AllByRecursion, flat_map, list_any}
 use Rattle.pcct_table.specs.declared.subspace.Subspace.{Subspace}
 use Rattle.pcct_table.specs.Subspaces.{kind_of}
 use Rattle.pcct_table.specs.declared.table.Table.{Table}
@@ -17,7 +17,7 @@ use Rattle.cpc_package.specs.declared.binding.Binding.{Binding}
 use Rattle.pcc_script.specs.declared.scenario.CapLine.{CapLine}
 use Rattle.pcc_setup.specs.Equipment.{CanBegin, equipped}
 use Rattle.pcc_setup.specs.Openings.{AllOpen, asks_on, head_of, image_of, opened_by, structure_fault, wired_fault}
-use Rattle.pcc_setup.specs.SetUps.{IsSetUpOf, Opens, action_fault, first_action, is_bank, opens_bank, opens_banks}
+use Rattle.pcc_setup.specs.SetUps.{IsSetUpOf, Opens, action_fault, first_action, is_bank, opens_bank}
 use Rattle.pcc_setup.specs.declared.setup.SetUp.{SetUp}
 use Rattle.cpc_package.specs.Bindings as bindings
 use Rattle.cpc_package.specs.Bindings.{LiesIn}
@@ -30,7 +30,7 @@ use Rattle.pcc_wiring.specs.Wirings.{wiring_with}
 use Rattle.channel_turns.specs.ChannelRuns.{Call, Channel, ChannelStart, call_by}
 use Rattle.script_run.specs.Channels.{CanAsk, CanRun, IsWired, Suits, ids_of, is_on, starts_of}
 use Rattle.script_run.specs.ReplyText.{replies_text}
-use Rattle.script_run.specs.ScriptRuns.{IsStepText, asks_of, channel_journal, run_of, run_text, set_up_of, step_text}
+use Rattle.script_run.specs.ScriptRuns.{IsStepText, asks_of, channel_journal, run_text, set_up_of, step_text}
 use Rattle.script_run.specs.StepRun.{Ask, LineAsk, OfCall, OfRead, OfWish, ask_of, ask_of_cpu, asks_by, step_run, wish_of}
 use Rattle.script_run.proofs.Several.{open_rest}
 use Rattle.script_run.proofs.Starting.{FitsOn, cpu_fits, cpu_on, cpus_count, ids_are, set_up_headlines, there_at}

@@ -1,6 +1,6 @@
 -- The channels of what a script opens, before its first line.
 use Rattle.std.proofs.Common.{◌≡◌, ℕ, zero, suc, ◌+◌, ◌<◌, ◌≤◌, ◌==◌, ◌||◌, Bool, true, false, cond, List, [], ◌∷◌, ◌++◌, length, get_or, map, filter, take, refl, sym, ap, ◌∙◌, subst, arith}
-use Rattle.std.specs.Prelude.{Option, Some, None, slice_get}
+use Rattle.std.specs.Prelude.{Some, slice_get}
 use Rattle.std.specs.List.{AllByRecursion, AllZip}
 use Rattle.std.proofs.lemmas.Bool.{eq-eqb, eqb-true}
 use Rattle.std.proofs.lemmas.Option.{same_Some, slice_get-get_or, slice_get_within}
@@ -14,12 +14,7 @@ use Rattle.cpc_package.specs.Bindings as bindings
 use Rattle.cpc_package.specs.Bindings.{LiesIn}
 use Rattle.cpc_package.specs.declared.binding.Binding.{Binding}
 use Rattle.pcc_setup.specs.Equipment.{ArePlaces, CanBegin, IsPlaceOf, cpus_on, equipped}
-use Rattle.pcc_bytes.specs.Bytes.{IsBytes}
-use Rattle.pcc_bytes.proofs.Bytes.{IsBytes-nil}
-use Rattle.pcc_script.specs.Limits.{IsDevice, IsOpen, IsWithin}
-use Rattle.pcc_script.specs.declared.scenario.Device.{Device}
-use Rattle.pcc_script.specs.declared.scenario.Device.TheVariants.{Bank, Cppc}
-use Rattle.pcc_setup.specs.Openings.{AllOpen, image_of, opened_by, opened_with}
+use Rattle.pcc_setup.specs.Openings.{AllOpen, opened_by}
 use Rattle.pcc_setup.specs.SetUps.{IsSetUpOf, Opens}
 use Rattle.pcc_setup.specs.declared.opening.Opened.{Opened}
 use Rattle.pcc_setup.specs.declared.places.CpuPlace.{CpuPlace}
