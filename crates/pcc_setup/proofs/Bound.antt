@@ -116,7 +116,7 @@ zip_take R [] (y ∷ ys) (suc n) h = absurd h
 zip_take R (x ∷ xs) [] (suc n) h = absurd h
 zip_take R (x ∷ xs) (y ∷ ys) (suc n) h = (h.0, zip_take R xs ys n h.1)
 
-zip_push : {A B : Type 0} (R : A → B → Type 0) (xs : List A) (ys : List B) (x : A) (y : B) → AllZip R xs ys → R x y → AllZip R (xs ++ x ∷ []) (ys ++ y ∷ [])
+pub zip_push : {A B : Type 0} (R : A → B → Type 0) (xs : List A) (ys : List B) (x : A) (y : B) → AllZip R xs ys → R x y → AllZip R (xs ++ x ∷ []) (ys ++ y ∷ [])
 zip_push R [] [] x y h r = (r, tt)
 zip_push R [] (b ∷ ys) x y h r = absurd h
 zip_push R (a ∷ xs) [] x y h r = absurd h

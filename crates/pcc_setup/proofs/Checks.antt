@@ -1,6 +1,10 @@
 -- The checks of a set-up, from the first to the last.
-use Rattle.std.proofs.Common.{◌≡◌, ℕ, ◌+◌, ◌<◌, ◌≤◌, List, length, map, take, sym, ap, ◌∙◌, subst}
-use Rattle.std.specs.Prelude.{Some, slice_get}
+use Rattle.std.proofs.Common.{◌≡◌, ℕ, ◌+◌, ◌^◌, ◌<◌, List, length, map, sym, ap, ◌∙◌, subst, arith, Result, Ok, Err}
+use Rattle.std.specs.Prelude.{IsErrAnd, MatchResult, Some, slice_get}
+use Rattle.std.specs.List.{AllByRecursion}
+use Rattle.std.proofs.lemmas.List.{length-map}
+use Rattle.pcc_script.specs.declared.scenario.CapLine.{CapLine}
+use Rattle.pcc_script.specs.declared.scenario.OpenLine.{OpenLine}
 use Rattle.pcct_table.specs.declared.table.Table.{Table}
 use Rattle.pcct_codec.specs.Tables.{TableBytes}
 use Rattle.cpc_package.specs.declared.binding.Binding.{Binding}
@@ -12,16 +16,16 @@ use Rattle.pcc_setup.specs.declared.action.ActionFault.{ActionFault}
 use Rattle.pcc_setup.specs.declared.opening.Opened.{Opened}
 use Rattle.pcc_setup.specs.declared.places.CpuPlace.{CpuPlace}
 use Rattle.pcc_setup.specs.declared.refusal.InputError.{InputError}
-use Rattle.pcc_setup.specs.declared.refusal.InputError.TheVariants as error
-use Rattle.pcc_setup.specs.declared.refusal.Refusal.{Refusal}
 use Rattle.pcc_setup.specs.declared.refusal.Refusal.TheVariants as refusal
-use Rattle.pcc_setup.specs.Equipment.{AreCapsRight, ArePlaces, CapRefused, StartInside, StartRefused, equipped}
+use Rattle.pcc_setup.specs.Equipment.{AreCapsRight, ArePlaces, CapRefused, IsHoused, StartInside, StartRefused, equipped}
 use Rattle.pcc_setup.specs.Openings.{AllOpen, memories_by, opened_by}
 use Rattle.pcc_setup.specs.Processors.{AreBound, CpuRefused}
 use Rattle.pcc_setup.specs.RefusalText.{IsRefusedFor}
-use Rattle.pcc_setup.specs.SetUps.{ActionRefused, AfterCaps, AfterCpus, AfterMemories, AfterOpens, AfterTable, AllNamed, FirstAction, FirstMeeting, IsSetUp, MeetRefused, OpenRefused, Opens, SetUpRefused, TableRefused, action_fault, first_action}
+use Rattle.pcc_setup.specs.SetUps.{ActionRefused, AfterCaps, AfterCpus, AfterMemories, AfterOpens, AfterTable, AllNamed, FirstAction, FirstMeeting, IsSetUp, IsSetUpOf, MeetRefused, OpenRefused, Opens, SetUpRefused, TableRefused, action_fault, first_action}
 use Rattle.pcc_setup.proofs.Bound.{one_bound}
+use Rattle.pcc_setup.specs.declared.setup.SetUp.{SetUp}
 use Rattle.pcc_setup.proofs.Chain.{behind, here}
+use Rattle.pcc_setup.proofs.Housing.{all_housed, few_opened, small_rooms}
 use Rattle.pcct_codec.proofs.Headers.{one_table}
 
 -- ---- errors of a check, as those of all
@@ -79,10 +83,40 @@ pub wrong_action : (s : Scenario) (t : Table) (os : List Opened) (cpus : List Bi
 wrong_action s t os cpus e opened apart is bound capped inside h = after_caps s t os cpus e opened apart is bound capped
     (behind {X = Unit {0}} (λ ok. StartInside os cpus (length cpus)) (StartRefused os cpus) (λ ok. ActionRefused s) tt e inside h)
 
+-- ---- what a function passes on
+
+-- the error of a call, handed on
+pub passed_on : (s : Scenario) (t : Table) (r : Result SetUp InputError) (e : InputError) → IsErrAnd r (λ x. x ≡ e) → IsRefusedFor (AfterTable s t) e
+    → MatchResult r (IsSetUpOf s) (IsRefusedFor (AfterTable s t))
+passed_on s t (Ok u) e h refused = absurd h
+passed_on s t (Err x) e h refused = subst (IsRefusedFor (AfterTable s t)) (sym h) refused
+
+-- a fact of two values, of values that are the same
+pub two : {A B : Type 0} (P : A → B → Type 0) (a b : A) (x y : B) → a ≡ b → x ≡ y → P a x → P b y
+two {A = A} {B = B} P a b x y e d h = subst (λ (v : B). P b v) d (subst (λ (v : A). P v x) e h)
+
+-- each processor has its controller among the opened subspaces that have what they get
+pub housed_by : (t : Table) (opens : List OpenLine) (lines : List (List ℕ)) (caps k : List CapLine) (os new now : List Opened) (cpus front back : List Binding) → os ≡ opened_by t opens
+    → AreBound os lines cpus → front ≡ cpus → back ≡ cpus → new ≡ map (equipped front k) os → now ≡ new → AllByRecursion (IsHoused now back) back
+housed_by t opens lines caps k os new now cpus front back is bound same alike made read =
+    let given : now ≡ map (equipped cpus k) os = read ∙ made ∙ ap (λ (v : List Binding). map (equipped v k) os) same in
+    let housed : AllByRecursion (IsHoused now cpus) cpus = all_housed os now lines cpus k (small_rooms t os opens is) bound given in
+    subst (λ (v : List Binding). AllByRecursion (IsHoused now v) v) (sym alike) housed
+
+pub few_by : (bytes : List ℕ) (t : Table) (opens : List OpenLine) (front : List Binding) (k : List CapLine) (os new now : List Opened) → TableBytes bytes t
+    → AllOpen t opens (length opens) → os ≡ opened_by t opens → new ≡ map (equipped front k) os → now ≡ new → length now < 2 ^ 32
+few_by bytes t opens front k os new now h opened is made read =
+    let count : length now ≡ length os = ap length (read ∙ made) ∙ length-map os (equipped front k) in
+    let few : length os < 2 ^ 32 = subst (λ (v : List Opened). length v < 2 ^ 32) (sym is) (few_opened bytes t opens h opened) in
+    omega (arith, count, few)
+
 -- ---- single checks
 
 pub first_meeting : (ms all : List (ℕ × ℕ × ℕ)) (found : Overlap) → ms ≡ all → IsFirstOverlap ms found → MeetRefused all (refusal.Meet found) × Unit {0}
 first_meeting ms all found is first = (FirstMeeting found (subst (λ (v : List (ℕ × ℕ × ℕ)). IsFirstOverlap v found) is first), tt)
+
+pub still_apart : (ms all : List (ℕ × ℕ × ℕ)) → ms ≡ all → AreApart ms → AreApart all
+still_apart ms all is apart = subst AreApart is apart
 
 pub first_action_wrong : (s : Scenario) (place line : ℕ) (l : Line) (fault : ActionFault) → slice_get s.actions place ≡ Some l → AllNamed s place → action_fault s l ≡ Some fault
     → line ≡ first_action s + place → ActionRefused s (refusal.Action line fault) × Unit {0}

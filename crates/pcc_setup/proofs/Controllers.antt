@@ -1,8 +1,8 @@
 -- What is opened has controllers that can begin: each processor is bound to the one controller with its ID.
-use Rattle.std.proofs.Common.{◌≡◌, ◌≢◌, ◌⊎◌, inl, inr, ℕ, zero, suc, ◌+◌, ◌<◌, ◌≤◌, ◌==◌, ◌&&◌, ◌||◌, not, Bool, true, false, cond, leb, ltb, List, [], ◌∷◌, ◌++◌, length, get_or, map, take, refl, sym, ap, ◌∙◌, subst, arith}
-use Rattle.std.specs.Prelude.{All, AllPairs, Option, Some, None, IfSome, filter, find, slice_get}
+use Rattle.std.proofs.Common.{◌≡◌, ◌≢◌, ◌⊎◌, inl, inr, ℕ, zero, suc, ◌+◌, ◌<◌, ◌≤◌, ◌==◌, ◌||◌, not, Bool, true, false, cond, leb, ltb, List, [], ◌∷◌, ◌++◌, length, map, take, refl, sym, ap, ◌∙◌, subst, arith}
+use Rattle.std.specs.Prelude.{All, AllPairs, Option, Some, None, filter, slice_get}
 use Rattle.std.specs.List.{AllByRecursion, AllZip, list_all, list_any}
-use Rattle.std.proofs.lemmas.Bool.{and_parts, cond_both, eqb-false, eqb-true, ltb-true, lt-ltb}
+use Rattle.std.proofs.lemmas.Bool.{and_parts, cond_both, eqb-false, eqb-true, leb-true, ltb-true, lt-ltb}
 use Rattle.std.proofs.lemmas.List.{length-map}
 use Rattle.std.proofs.lemmas.List.Elements.{All-from_recursion}
 use Rattle.std.proofs.lemmas.List.Kept.{AllPairs-filter}
@@ -24,21 +24,20 @@ use Rattle.cpc_package.specs.declared.binding.BindFault.{BindFault}
 use Rattle.cpc_package.specs.declared.binding.Binding.{Binding}
 use Rattle.cpc_package.specs.declared.entry.Entry.{Entry}
 use Rattle.cpc_package.proofs.Bound.{is_binding, is_right, lies_in}
-use Rattle.cppc_device.specs.Openings.{cap_order, device_fault, opening, order_after, order_fault}
-use Rattle.cppc_device.specs.Ranges.{Fits, InRange}
-use Rattle.cppc_device.specs.declared.cap.Cap.{Cap}
+use Rattle.cppc_device.specs.Openings.{cap_order, device_fault, order_after, order_fault}
+use Rattle.cppc_device.specs.Ranges.{InRange}
 use Rattle.cppc_device.specs.declared.device.DeviceFault.{DeviceFault}
 use Rattle.cppc_device.specs.declared.device.DeviceFault.TheVariants.{ImageTooLong}
 use Rattle.cppc_device.proofs.Alone.{one_fits}
 use Rattle.pcc_setup.specs.declared.opening.Opened.{Opened}
 use Rattle.pcc_setup.specs.declared.opening.OpenFault.{OpenFault}
 use Rattle.pcc_setup.specs.declared.opening.OpenFault.TheVariants.{ImageLong}
-use Rattle.pcc_setup.specs.Openings.{AllOpen, asks_on, image_fault, image_of, line_fault, opened_by, opened_with, opens_id, structure_fault, wired_fault}
-use Rattle.pcc_setup.specs.Processors.{AreBound, Binds, channel_of, controller_named, controller_on, controls, entries_fault, fault_on, named_subspace, unfit}
-use Rattle.pcc_setup.specs.Equipment.{AreCapsRight, CanBegin, IsStarting, StartInside, StartsInside, cap_of, caps_on, cpus_on, equipped, is_cap_right, is_elsewhere, registers_of}
+use Rattle.pcc_setup.specs.Openings.{AllOpen, asks_on, image_fault, image_of, opened_by, opened_with, opens_id, structure_fault, wired_fault}
+use Rattle.pcc_setup.specs.Processors.{AreBound, Binds, channel_of, controller_named, controller_on, controls, fault_on, named_subspace, unfit}
+use Rattle.pcc_setup.specs.Equipment.{AreCapsRight, CanBegin, CanLook, IsStarting, StartInside, StartsInside, cap_of, caps_on, cpus_on, equipped, is_elsewhere, registers_of}
 use Rattle.pcc_setup.specs.SetUps.{IsSetUp, Opens}
 use Rattle.pcc_setup.proofs.Checking.{if_some, of_some}
-use Rattle.pcc_setup.proofs.FirstFaults.{some_none, some_same}
+use Rattle.pcc_setup.proofs.FirstFaults.{some_same}
 
 split : (b : Bool) → (b ≡ true) ⊎ (b ≡ false)
 split true = inl refl
@@ -47,7 +46,7 @@ split false = inr refl
 truth : {P : Type 0} (b : Bool) → b ≡ true → b ≡ false → P
 truth b h k = absurd cc
 
-nothing : {A : Type 0} (x : A) → None ≡ Some x → ⊥
+pub nothing : {A : Type 0} (x : A) → None ≡ Some x → ⊥
 nothing x e = absurd cc
 
 all_from : {A : Type 0} (P : A → Type 0) (xs : List A) → ((i : ℕ) (x : A) → slice_get xs i ≡ Some x → P x) → AllByRecursion P xs
@@ -67,7 +66,7 @@ all_kept P Q test (x ∷ xs) f h =
 
 -- ---- no ID is opened twice
 
-abbrev Distinct : List Opened → Type 0
+abbrev pub Distinct : List Opened → Type 0
 Distinct [] = Unit {0}
 Distinct (o ∷ os) = AllByRecursion (λ p. o.head.id ≢ p.head.id) os × Distinct os
 
@@ -97,7 +96,7 @@ others t id (p ∷ ps) h = with_structure (slice_get t.subspaces p.id) (others t
     with_structure None rest = rest
     with_structure (Some u) rest = (h.0, rest)
 
-distinct : (t : Table) (lines : List OpenLine) → AllOpen t lines (length lines) → Distinct (opened_by t lines)
+pub distinct : (t : Table) (lines : List OpenLine) → AllOpen t lines (length lines) → Distinct (opened_by t lines)
 distinct t [] h = tt
 distinct t (p ∷ ps) h = with_structure (slice_get t.subspaces p.id) (distinct t ps (open_rest t p ps h))
   where
@@ -106,7 +105,7 @@ distinct t (p ∷ ps) h = with_structure (slice_get t.subspaces p.id) (distinct 
     with_structure (Some u) rest = (others t p.id ps (all_from (λ q. p.id ≢ q.id) ps (once t p ps h)), rest)
 
 -- an ID has one controller
-found_in : (P : Opened → Type 0) (id : ℕ) (os : List Opened) (x : Opened) → AllByRecursion P os → controller_on id os ≡ Some x → P x × (controls id x ≡ true)
+pub found_in : (P : Opened → Type 0) (id : ℕ) (os : List Opened) (x : Opened) → AllByRecursion P os → controller_on id os ≡ Some x → P x × (controls id x ≡ true)
 found_in P id [] x h e = absurd (nothing x e)
 found_in P id (y ∷ os) x h e = by_test (controls id y) refl e (found_in P id os x h.1)
   where
@@ -115,7 +114,7 @@ found_in P id (y ∷ os) x h e = by_test (controls id y) refl e (found_in P id o
     by_test true is e later = let same : y ≡ x = some_same y x e in (subst P same h.0, subst (λ (z : Opened). controls id z ≡ true) same is)
     by_test false is e later = later e
 
-named_by : (id : ℕ) (o : Opened) → controls id o ≡ true → o.head.id ≡ id
+pub named_by : (id : ℕ) (o : Opened) → controls id o ≡ true → o.head.id ≡ id
 named_by id o h = eqb-true o.head.id id (and_parts o.head.cppc (o.head.id == id) h).1
 
 pub one_controller : (os : List Opened) (i : ℕ) (o x : Opened) → Distinct os → slice_get os i ≡ Some o → controller_on o.head.id os ≡ Some x → o ≡ x
@@ -211,16 +210,22 @@ all_good os [] (b ∷ cpus) h = absurd h
 all_good os (l ∷ lines) [] h = absurd h
 all_good os (l ∷ lines) (b ∷ cpus) h = (is_good os l b h.0, all_good os lines cpus h.1)
 
--- its registers can be looked at when it starts
-pub starting : (os : List Opened) (b : Binding) → IsGood os b → IsStarting os b
-starting os b h = if_some (λ o. Fits o.wiring.room b) (controller_on b.subspace os) h.controller h.is (one_fits h.controller.wiring.room b h.right h.inside)
+abbrev HasShortImage : Opened → Type 0
+HasShortImage o = leb (length o.image) o.wiring.room ≡ true
 
-pub all_starting : (os : List Opened) (lines : List (List ℕ)) (cpus : List Binding) → AreBound os lines cpus → AllByRecursion (IsStarting os) cpus
-all_starting os lines cpus h = more cpus (all_good os lines cpus h.each)
+-- its registers can be looked at when it starts
+starting : (os : List Opened) (b : Binding) → AllByRecursion HasShortImage os → IsGood os b → IsStarting os b
+starting os b short h =
+    let test : leb (length h.controller.image) h.controller.wiring.room ≡ true = (found_in HasShortImage b.subspace os h.controller short h.is).0 in
+    if_some (CanLook b) (controller_on b.subspace os) h.controller h.is
+    (record { fits = one_fits h.controller.wiring.room b h.right h.inside; short = leb-true (length h.controller.image) h.controller.wiring.room test })
+
+all_starting : (os : List Opened) (lines : List (List ℕ)) (cpus : List Binding) → AllByRecursion HasShortImage os → AreBound os lines cpus → AllByRecursion (IsStarting os) cpus
+all_starting os lines cpus short h = more cpus (all_good os lines cpus h.each)
   where
     more : (bs : List Binding) → AllByRecursion (IsGood os) bs → AllByRecursion (IsStarting os) bs
     more [] k = tt
-    more (b ∷ bs) k = (starting os b k.0, more bs k.1)
+    more (b ∷ bs) k = (starting os b short k.0, more bs k.1)
 
 -- ---- the processors of one opened subspace
 
@@ -253,7 +258,7 @@ own os i o b d at test h =
       right = h.good.right;
       inside = subst (λ (x : Opened). LiesIn x.wiring.room b) same h.good.inside;
       range = subst (λ (x : Opened). InRange b (registers_of x)) same
-      (of_some (λ x. InRange b (registers_of x)) (controller_on b.subspace os) h.good.controller h.good.is h.inside);
+          (of_some (λ x. InRange b (registers_of x)) (controller_on b.subspace os) h.good.controller h.good.is h.inside);
     }
 
 all_own : (os : List Opened) (cpus : List Binding) (i : ℕ) (o : Opened) → Distinct os → slice_get os i ≡ Some o → AllByRecursion (Starts os) cpus
@@ -265,9 +270,6 @@ parts P Q [] f h = tt
 parts P Q (x ∷ xs) f h = (f x h.0, parts P Q xs f h.1)
 
 -- ---- the image
-
-abbrev HasShortImage : Opened → Type 0
-HasShortImage o = leb (length o.image) o.wiring.room ≡ true
 
 no_image_fault : (d : Device) (s : Subspace) (o : Option WiringFault) → wired_fault d s o ≡ None → image_fault d s ≡ None
 no_image_fault d s None e = e
@@ -284,9 +286,17 @@ short_images t (p ∷ ps) h = with_structure (slice_get t.subspaces p.id) (h zer
     with_structure : (m : Option Subspace) → structure_fault p.device false m ≡ None → AllByRecursion HasShortImage (opened_by t ps)
         → AllByRecursion HasShortImage (opened_with p.device p.id t.flags m ++ opened_by t ps)
     with_structure None e rest = rest
-    with_structure (Some u) e rest =
-        (kept_true (leb (length (image_of p.device)) (room_of (kind_of u) (memory_len_of u))) ImageLong
-        (no_image_fault p.device u (fault_of (asks_on p.device (kind_of u)) u) e), rest)
+    with_structure (Some u) e rest = (
+      kept_true (leb (length (image_of p.device)) (room_of (kind_of u) (memory_len_of u))) ImageLong
+          (no_image_fault p.device u (fault_of (asks_on p.device (kind_of u)) u) e),
+      rest,
+    )
+
+-- the processors can be looked at when they start
+pub all_look : (t : Table) (opens : List OpenLine) (os : List Opened) (lines : List (List ℕ)) (cpus : List Binding) → AllOpen t opens (length opens) → os ≡ opened_by t opens
+    → AreBound os lines cpus → AllByRecursion (IsStarting os) cpus
+all_look t opens os lines cpus opened is h =
+    all_starting os lines cpus (subst (AllByRecursion HasShortImage) (sym is) (short_images t opens opened)) h
 
 -- ---- the caps
 
@@ -366,7 +376,7 @@ can_begin os cpus caps i o d at starts apart short ranked =
         apart = AllPairs-filter (λ a b. ShareBit a b → ⊥) (λ b. b.subspace == id) cpus apart;
       };
       inside = All-from_recursion (λ b. InRange b (registers_of o)) (cpus_on id cpus)
-      (parts (Own o) (λ b. InRange b (registers_of o)) (cpus_on id cpus) (λ b h. h.range) all);
+          (parts (Own o) (λ b. InRange b (registers_of o)) (cpus_on id cpus) (λ b h. h.range) all);
       right = no_device_fault o caps short ranked;
     }
 

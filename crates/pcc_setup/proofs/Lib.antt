@@ -10,3 +10,4 @@ mod Chain
 mod Checking
 pub mod OneFault
 mod Controllers
+mod Housing

@@ -1,6 +1,6 @@
 -- Each script is set up or refused, by one line.
 use Rattle.std.proofs.Common.{◌≡◌, ◌⊎◌, inl, inr, ◌≤◌, ℕ, ◌+◌, Bool, true, false, List, [], ◌∷◌, length, map, take, refl, sym, ap, ◌∙◌, subst, arith}
-use Rattle.std.specs.Prelude.{Option, Some, None, IfSome, slice_get}
+use Rattle.std.specs.Prelude.{Option, Some, None, IfSome}
 use Rattle.std.specs.List.{AllByRecursion}
 use Rattle.std.proofs.lemmas.Bool.{cases_lt}
 use Rattle.std.proofs.lemmas.Option.{slice_get_within}
@@ -14,8 +14,7 @@ use Rattle.pcc_script.specs.declared.scenario.OpenLine.{OpenLine}
 use Rattle.pcc_script.specs.declared.scenario.Scenario.{Scenario}
 use Rattle.cpc_package.specs.declared.binding.Binding.{Binding}
 use Rattle.cppc_device.specs.Ranges.{InRange, Rises, performances}
-use Rattle.pcc_wiring.specs.declared.overlap.Overlap.{Overlap}
-use Rattle.pcc_wiring.specs.Overlaps.{AreApart, IsFirstOverlap}
+use Rattle.pcc_wiring.specs.Overlaps.{AreApart}
 use Rattle.pcc_wiring.proofs.FirstOverlaps.{apart_or_first, one_overlap}
 use Rattle.pcc_setup.specs.declared.action.ActionFault.{ActionFault}
 use Rattle.pcc_setup.specs.declared.opening.Opened.{Opened}
@@ -147,7 +146,7 @@ rises_or_not last (Some number ∷ rest) = elim (cases_lt number last) [
 inside_or_not : (o : Option Opened) (b : Binding)
     → IfSome o (λ x. InRange b (registers_of x)) ⊎ ((ok : Unit {0}) × (IfSome o (λ x. InRange b (registers_of x)) → ⊥))
 inside_or_not None b = inl tt
-inside_or_not (Some o) b = elim (rises_or_not 0 (performances b (registers_of o))) [ | inl h ↦ inl h | inr none ↦ inr (tt, none) ]
+inside_or_not (Some o) b = elim (rises_or_not 0 (performances b (registers_of o))) [ inl h ↦ inl h | inr none ↦ inr (tt, none) ]
 
 abbrev StartRight : List Opened → ℕ → Binding → Type 0
 StartRight os i b = StartsInside os b
@@ -278,7 +277,7 @@ by_starts s t cpus bytes opened apart bound capped =
     elim (first_fault (StartRight (opened_by t s.opens)) (StartWrong (opened_by t s.opens)) (starts_decided (opened_by t s.opens)) cpus (length cpus)) [
       | inl f ↦ inr (refusal.Start f.place, Here (refusal.Start f.place) (FirstOutside f.place f.element f.there f.before f.wrong))
       | inr inside ↦ passed {X = Unit {0}} (λ ok. StartInside (opened_by t s.opens) cpus (length cpus)) (StartRefused (opened_by t s.opens) cpus) (λ ok. ActionRefused s)
-        tt inside (by_actions s t cpus bytes opened apart bound capped inside)
+          tt inside (by_actions s t cpus bytes opened apart bound capped inside)
     ]
 
 by_caps : (s : Scenario) (t : Table) (cpus : List Binding) → TableBytes s.table t → AllOpen t s.opens (length s.opens) → AreApart (memories_by t s.opens)
@@ -288,7 +287,7 @@ by_caps s t cpus bytes opened apart bound =
     elim (first_fault (CapRight os s.caps) (CapWrong os s.caps) (caps_decided os s.caps) s.caps (length s.caps)) [
       | inl f ↦ inr (refusal.Cap f.place, Here (refusal.Cap f.place) (FirstCap f.place f.element f.there f.before f.wrong))
       | inr capped ↦ passed {X = Unit {0}} (λ ok. AreCapsRight os s.caps (length s.caps)) (CapRefused os s.caps) (λ ok. AfterCaps s os cpus) tt capped
-        (by_starts s t cpus bytes opened apart bound capped)
+          (by_starts s t cpus bytes opened apart bound capped)
     ]
 
 by_cpus : (s : Scenario) (t : Table) → AllByRecursion IsBytes s.cpus → TableBytes s.table t → AllOpen t s.opens (length s.opens) → AreApart (memories_by t s.opens)
@@ -314,7 +313,7 @@ by_opens s t fit bytes =
     elim (first_fault (Passed test) (Failed test) (tested test) s.opens (length s.opens)) [
       | inl f ↦ inr (refusal.Open f.element.id f.fault, Here (refusal.Open f.element.id f.fault) (FirstWrong f.place f.element f.fault f.there f.before f.wrong))
       | inr opened ↦ passed {X = Unit {0}} (λ ok. AllOpen t s.opens (length s.opens)) (OpenRefused t s.opens) (λ ok. AfterOpens s t) tt opened
-        (by_memories s t fit bytes opened)
+          (by_memories s t fit bytes opened)
     ]
 
 by_table : (s : Scenario) → AllByRecursion IsBytes s.cpus → HasSetUp s ⊎ ((r : Refusal) × SetUpRefused s r)

@@ -13,7 +13,6 @@ use Rattle.pcc_script.specs.declared.scenario.Device.{Device}
 use Rattle.pcc_script.specs.declared.scenario.Line.{Line}
 use Rattle.pcc_script.specs.declared.scenario.OpenLine.{OpenLine}
 use Rattle.pcc_script.specs.declared.scenario.Scenario.{Scenario}
-use Rattle.pcc_journal.specs.declared.text.JournalHead.{JournalHead}
 use Rattle.pcc_steps.specs.declared.wiring.Wiring.{Wiring}
 use Rattle.pcc_wiring.specs.declared.fault.Asks.{Asks}
 use Rattle.pcc_wiring.specs.declared.fault.WiringFault.{WiringFault}
@@ -23,7 +22,7 @@ use Rattle.pcc_setup.specs.declared.opening.Opened.{Opened}
 use Rattle.pcc_setup.specs.declared.opening.OpenFault.TheVariants.{ImageLong, Unwired}
 use Rattle.pcc_setup.specs.declared.opening.OpenFault.{OpenFault}
 use Rattle.pcc_setup.specs.declared.refusal.Refusal.TheVariants as refusal
-use Rattle.pcc_setup.specs.Openings.{AllOpen, asks_on, head_by, head_of, image_fault, image_of, line_fault, opens_id, structure_fault, memories_by, memory_with, opened_by, opened_with, wired_fault}
+use Rattle.pcc_setup.specs.Openings.{AllOpen, asks_on, head_by, image_fault, image_of, line_fault, opens_id, structure_fault, memories_by, memory_with, opened_by, opened_with, wired_fault}
 use Rattle.pcc_setup.specs.SetUps.{AllNamed, FirstWrong, OpenRefused, action_fault}
 
 -- ---- lists

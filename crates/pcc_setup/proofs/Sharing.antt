@@ -1,5 +1,5 @@
 -- Whether two processors share a bit, and the first that does.
-use Rattle.std.proofs.Common.{◌≡◌, ◌⊎◌, inl, inr, ℕ, zero, suc, ◌+◌, ◌<◌, Bool, true, false, List, [], ◌∷◌, ◌≤◌, length, get_or, refl, sym, ap, ◌∙◌, subst, arith}
+use Rattle.std.proofs.Common.{◌≡◌, ◌⊎◌, inl, inr, ℕ, zero, suc, ◌+◌, ◌<◌, Bool, true, false, List, ◌≤◌, length, get_or, refl, sym, ap, ◌∙◌, subst, arith}
 use Rattle.std.proofs.lemmas.Bool.{cases_lt}
 use Rattle.std.proofs.lemmas.List.{get_or_default}
 use Rattle.cpc_package.specs.Bindings.{AllApart, Meets, ShareBit, share_bit}
@@ -68,7 +68,7 @@ share_or_none a b (suc n) same = elim (share_or_none a b n same) [
 same_or_not : (m n : ℕ) → (m ≡ n) ⊎ (m ≡ n → ⊥)
 same_or_not m n = elim (cases_lt m n) [
   | inl lt ↦ inr (λ e. absurd (omega (arith, lt, e)))
-  | inr ge ↦ elim (cases_lt n m) [ | inl lt ↦ inr (λ e. absurd (omega (arith, lt, e))) | inr le ↦ inl (omega (arith, ge, le)) ]
+  | inr ge ↦ elim (cases_lt n m) [ inl lt ↦ inr (λ e. absurd (omega (arith, lt, e))) | inr le ↦ inl (omega (arith, ge, le)) ]
 ]
 
 pub shares_or_not : (a b : Binding) → ShareBit a b ⊎ (ShareBit a b → ⊥)
@@ -130,5 +130,5 @@ sharing_or_none cpus b = elim (sharing_to cpus b (length cpus) (omega arith)) [
 pub one_sharing : (cpus : List Binding) (b : Binding) (i j : ℕ) → IsFirstSharing cpus b i → IsFirstSharing cpus b j → i ≡ j
 one_sharing cpus b i j h k = elim (cases_lt i j) [
   | inl lt ↦ absurd (k.before i b lt (h.shares b))
-  | inr ge ↦ elim (cases_lt j i) [ | inl lt ↦ absurd (h.before j b lt (k.shares b)) | inr le ↦ omega (arith, ge, le) ]
+  | inr ge ↦ elim (cases_lt j i) [ inl lt ↦ absurd (h.before j b lt (k.shares b)) | inr le ↦ omega (arith, ge, le) ]
 ]

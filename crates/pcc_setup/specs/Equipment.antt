@@ -1,5 +1,5 @@
 -- What controllers begin with: their caps, the range of each processor at first, and which processors and caps each opened subspace gets.
-use Rattle.std.specs.Prelude.{◌≡◌, ◌<◌, ℕ, ◌==◌, ◌&&◌, ◌||◌, not, nat_lt, Bool, true, false, List, All, filter, length, map, slice_get, take, Option, Some, None, IfSome}
+use Rattle.std.specs.Prelude.{◌≡◌, ◌≤◌, ◌<◌, ◌^◌, ℕ, ◌==◌, ◌&&◌, ◌||◌, not, nat_lt, Bool, true, false, List, All, filter, length, map, slice_get, take, Some, None, IfSome}
 use Rattle.std.specs.List.{AllZip, list_all, list_any}
 use Rattle.cpc_package.specs.Bindings.{AreProcessors}
 use Rattle.cpc_package.specs.declared.binding.Binding.{Binding}
@@ -42,9 +42,13 @@ registers_of o = opening o.wiring.room o.image
 abbrev pub StartsInside : List Opened → Binding → Type 0
 StartsInside os b = IfSome (controller_on b.subspace os) (λ o. InRange b (registers_of o))
 
--- a processor's registers lie in its controller's communication space
+-- a processor's registers can be looked at: they lie in the communication space, and so does the image
+pub record CanLook (b : Binding) (o : Opened) : Type 0 where
+  pub fits : Fits o.wiring.room b
+  pub short : length o.image ≤ o.wiring.room
+
 abbrev pub IsStarting : List Opened → Binding → Type 0
-IsStarting os b = IfSome (controller_on b.subspace os) (λ o. Fits o.wiring.room b)
+IsStarting os b = IfSome (controller_on b.subspace os) (CanLook b)
 
 -- each of the first `count` processors is
 abbrev pub StartInside : List Opened → List Binding → ℕ → Type 0
@@ -76,6 +80,13 @@ pub record IsPlaceOf (opened : List Opened) (b : Binding) (place : CpuPlace) : T
   pub subspace : Opened
   pub there : slice_get opened place.opened ≡ Some subspace
   pub cpu : slice_get subspace.cpus place.cpu ≡ Some b
+
+-- a processor has a controller among the opened subspaces, and this one has all processors with its ID
+pub record IsHoused (opened : List Opened) (cpus : List Binding) (b : Binding) : Type 0 where
+  pub subspace : Opened
+  pub is : controller_on b.subspace opened ≡ Some subspace
+  pub all : subspace.cpus ≡ cpus_on b.subspace cpus
+  pub few : length subspace.cpus < 2 ^ 32
 
 -- each processor's place
 abbrev pub ArePlaces : List Opened → List Binding → List CpuPlace → Type 0

@@ -1,5 +1,5 @@
 -- The processors of a script: the controller that each package names, and how its registers are bound there.
-use Rattle.std.specs.Prelude.{◌≡◌, ◌≤◌, ◌<◌, ◌^◌, ℕ, ◌==◌, ◌&&◌, Bool, if◌then◌else◌, List, ◌++◌, All, AllPairs, length, slice_get, slice_index_or, take, find, Option, Some, None}
+use Rattle.std.specs.Prelude.{◌≡◌, ◌≤◌, ◌<◌, ◌^◌, ℕ, ◌==◌, ◌&&◌, Bool, if◌then◌else◌, List, ◌++◌, AllPairs, length, slice_get, slice_index_or, take, find, Option, Some, None}
 use Rattle.std.specs.List.{AllZip}
 use Rattle.aml_pkg.specs.declared.item.Item.{Item}
 use Rattle.pcc_gas.specs.declared.address.Gas.{Gas}
@@ -86,6 +86,10 @@ pub record IsFirstSharing (cpus : List Binding) (b : Binding) (cpu : ℕ) : Type
   pub within : cpu < length cpus
   pub shares : (d : Binding) → ShareBit (slice_index_or cpus cpu d) b
   pub before : (k : ℕ) (d : Binding) → k < cpu → ShareBit (slice_index_or cpus k d) b → ⊥
+
+-- a processor shares a bit with one of these, and this is the first
+abbrev pub IsShared : List Binding → Binding → CpuFault → Type 0
+IsShared before b f = (cpu : ℕ) × (f ≡ fault.Shares cpu) × IsFirstSharing before b cpu
 
 -- why a `cpu` line after bound ones isn't bound
 pub data CpuWrong (os : List Opened) (before : List Binding) (bytes : List ℕ) : CpuFault → Type 0 where

@@ -1,8 +1,7 @@
 -- The checks of a script's set-up in their order: the table, the `open` lines, the memories, the processors, the caps, the ranges at first, and the
 -- actions.
 use Rattle.std.specs.Prelude.{◌≡◌, ◌≤◌, ◌<◌, ℕ, ◌+◌, ◌==◌, ◌&&◌, nat_lt, Bool, true, false, if◌then◌else◌, List, ◌++◌, length, map, take, Option, Some, None, slice_get}
-use Rattle.std.specs.List.{AllByRecursion, list_all, list_any}
-use Rattle.pcc_bytes.specs.Bytes.{IsBytes}
+use Rattle.std.specs.List.{list_all, list_any}
 use Rattle.cpc_package.specs.declared.binding.Binding.{Binding}
 use Rattle.pcct_table.specs.declared.table.Table.{Table}
 use Rattle.pcct_codec.specs.declared.fault.TableFault.{TableFault}
@@ -92,7 +91,7 @@ pub data Fails {X : Type 0} (Passes : X → Type 0) (Refuses : Refusal → Type 
 abbrev pub FailsOr : Type 0 → (Refusal → Type 0) → (Refusal → Type 0) → Refusal → Type 0
 FailsOr Passes Refuses later = Fails {X = Unit {0}} (λ ok. Passes) Refuses (λ ok. later)
 
--- the checks behind each other, from the last to the first
+-- the checks in their order, from the last to the first
 abbrev pub AfterCaps : Scenario → List Opened → List Binding → Refusal → Type 0
 AfterCaps s os cpus = FailsOr (StartInside os cpus (length cpus)) (StartRefused os cpus) (ActionRefused s)
 

@@ -157,11 +157,11 @@ fn wired_line(table: &Table, opens: &Opens, place: usize) -> Result<Wired, OpenF
 // A structure opened as a device, before it gets its processors and its caps.
 fn opened_as(alloc: Global, device: &Device, wired: &Wired) -> Result<Opened, NoMemory>
     ensures { IfOk result (λ o. o ≡ record {
-        head = head_by device.now wired.now.wiring wired.now.subspace;
-        wiring = wired.now.wiring;
-        image = image_of device.now;
-        cpus = [];
-        caps = [];
+      head = head_by device.now wired.now.wiring wired.now.subspace;
+      wiring = wired.now.wiring;
+      image = image_of device.now;
+      cpus = [];
+      caps = [];
     }) }
 {
     Ok(Opened {

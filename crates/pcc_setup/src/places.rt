@@ -1,13 +1,14 @@
 //! Each opened subspace gets its processors and its caps, and each processor its place.
-ghost use Rattle.std.specs.Prelude.{◌≡◌, ◌≤◌, ◌<◌, ◌+◌, IfOk, length, map};
+ghost use Rattle.std.specs.Prelude.{◌≡◌, ◌<◌, ◌^◌, IfOk, OnOk, length, map};
+ghost use Rattle.std.specs.List.{AllByRecursion};
 ghost use Rattle.cpc_package.specs.declared.binding.Binding.{Binding};
-ghost use Rattle.pcc_setup.specs.Equipment.{ArePlaces, cpus_on, equipped};
+ghost use Rattle.pcc_setup.specs.Equipment.{ArePlaces, IsHoused, cpus_on, equipped};
 ghost use Rattle.pcc_setup.specs.declared.opening.Opened.{Opened};
 
 use crate::equipment::{caps_on, cpus_on};
-use crate::opening::{Caps, Opened};
+use crate::opening::Opened;
 use crate::processor::place_of;
-use cpc_package::{Binding, Cpus};
+use cpc_package::Binding;
 use pcc_io::{Items, NoMemory};
 use pcc_script::CapLine;
 use std::alloc::Global;
@@ -24,11 +25,19 @@ pub struct CpuPlace {
 /// The places of the processors, in the order of their lines.
 pub type CpuPlaces = Items<CpuPlace>;
 
-fn equip(one: &mut Opened, cpus: Cpus, caps: Caps)
-    ensures { one.new ≡ record one.old { cpus = cpus; caps = caps } }
+// Gives an opened subspace the processors and the caps with its ID.
+fn equip(
+    alloc: Global,
+    one: &mut Opened,
+    cpus: &[Binding],
+    caps: &[CapLine],
+) -> Result<(), NoMemory>
+    ensures { OnOk result (one.new ≡ equipped cpus.now caps.now one.old) }
 {
-    one.cpus = cpus;
-    one.caps = caps;
+    let id = one.head.id;
+    one.cpus = cpus_on(alloc, cpus, id)?;
+    one.caps = caps_on(alloc, caps, id)?;
+    Ok(())
 }
 
 /// Gives each opened subspace the processors and the caps with its ID.
@@ -41,10 +50,7 @@ pub fn equip_all(
     ensures { IfOk result (λ ok. opened.new.items ≡ map (equipped cpus.now caps.now) opened.old.items) }
 {
     for place in 0..opened.len() {
-        let id = opened[place].head.id;
-        let own = cpus_on(alloc, cpus, id)?;
-        let held = caps_on(alloc, caps, id)?;
-        equip(&mut opened[place], own, held);
+        equip(alloc, &mut opened[place], cpus, caps)?;
     }
     Ok(())
 }
@@ -57,7 +63,11 @@ fn count_on(cpus: &[Binding], id: u8) -> usize
 }
 
 /// The place of each processor.
+#[tactic(auto, using(crate::proofs::Housing::places_end, crate::proofs::Housing::place_fits, crate::proofs::Housing::unhoused))]
 pub fn places_of(alloc: Global, opened: &[Opened], cpus: &[Binding]) -> Result<CpuPlaces, NoMemory>
+    requires housed { AllByRecursion (IsHoused opened.now cpus.now) cpus.now }
+    requires few { length opened.now < 2 ^ 32 }
+    ensures { IfOk result (ArePlaces opened.now cpus.now) }
 {
     let mut places = CpuPlaces::new(alloc);
     for cpu in 0..cpus.len() {

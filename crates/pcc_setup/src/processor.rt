@@ -1,6 +1,6 @@
 //! The package of each processor is bound to the controller that it names.
 ghost use Rattle.std.specs.Prelude.{◌≡◌, ◌≤◌, ◌<◌, ◌^◌, ℕ, List, None, Some, IfSome, MatchOption, MatchResult, length, slice_get, slice_index_or};
-ghost use Rattle.std.specs.List.{AllByRecursion};
+ghost use Rattle.std.specs.List.{AllByRecursion, list_any};
 ghost use Rattle.cpc_package.specs.Bindings.{ShareBit, binding_of, gas_of};
 ghost use Rattle.cpc_package.specs.Entries.{entries_of, entry_at};
 ghost use Rattle.cpc_package.specs.Packages.{CpcBytes};
@@ -12,6 +12,7 @@ ghost use Rattle.pcc_setup.specs.Processors.{
   HasSmallRoom,
   IfFault,
   IsFirstSharing,
+  IsShared,
   Unbound,
   channel_of,
   controller_on,
@@ -47,6 +48,13 @@ fn controls(opened: &Opened, id: u8) -> bool
     ensures { result ≡ controls id opened.now }
 {
     opened.head.cppc && opened.head.id == id
+}
+
+/// Whether some subspace with this ID is opened for a controller.
+pub fn has_controller(opened: &[Opened], id: u8) -> bool
+    ensures { result ≡ list_any (controls id) opened.now }
+{
+    opened.iter().any(|o| controls(o, id))
 }
 
 /// The place of the controller with this ID.
@@ -114,21 +122,21 @@ fn whole_package(alloc: Global, bytes: &[u8]) -> Result<Cpc, CpuError>
 
 // The binding of a package to the controller that it names.
 #[tactic(auto, using(crate::proofs::Checking::no_subspace, crate::proofs::Checking::no_controller, crate::proofs::Checking::bound_in))]
-fn bound_to(opened: &[Opened], cpc: &Cpc) -> Result<Binding, CpuFault>
+fn bound_to(opened: &[Opened], cpc: &Cpc) -> Result<Binding, CpuError>
     requires { HasSmallRoom opened.now }
     ensures { MatchResult result
         (λ b. (entries_fault opened.now (entries_of cpc.now) ≡ None) × (b ≡ binding_of (entries_of cpc.now)))
-        (λ fault. entries_fault opened.now (entries_of cpc.now) ≡ Some fault) }
+        (IfFault (λ fault. entries_fault opened.now (entries_of cpc.now) ≡ Some fault)) }
 {
     let Some(id) = named_subspace(cpc) else {
-        return Err(CpuFault::NotOpened);
+        return Err(CpuError::Fault(CpuFault::NotOpened));
     };
     let Some(place) = place_of(opened, id) else {
-        return Err(CpuFault::NotOpened);
+        return Err(CpuError::Fault(CpuFault::NotOpened));
     };
     match bind(cpc, opened[place].wiring.room) {
         Ok(binding) => Ok(binding),
-        Err(fault) => Err(CpuFault::Unfit(fault)),
+        Err(fault) => Err(CpuError::Fault(CpuFault::Unfit(fault))),
     }
 }
 
@@ -139,10 +147,7 @@ fn bound(alloc: Global, opened: &[Opened], bytes: &[u8]) -> Result<Binding, CpuE
     ensures { MatchResult result (Binds opened.now bytes.now) (IfFault (Unbound opened.now bytes.now)) }
 {
     match whole_package(alloc, bytes) {
-        Ok(cpc) => match bound_to(opened, &cpc) {
-            Ok(binding) => Ok(binding),
-            Err(fault) => Err(CpuError::Fault(fault)),
-        },
+        Ok(cpc) => bound_to(opened, &cpc),
         Err(error) => Err(error),
     }
 }
@@ -161,6 +166,18 @@ fn first_sharing(cpus: &[Binding], binding: &Binding) -> Option<usize>
     None
 }
 
+// A binding that shares no register with others.
+fn beside(before: &[Binding], binding: Binding) -> Result<Binding, CpuError>
+    ensures { MatchResult result
+        (λ b. (b ≡ binding) × ((k : ℕ) (d : Binding) → k < length before.now → ShareBit (slice_index_or before.now k d) binding → ⊥))
+        (IfFault (IsShared before.now binding)) }
+{
+    match first_sharing(before, &binding) {
+        Some(cpu) => Err(CpuError::Fault(CpuFault::Shares { cpu })),
+        None => Ok(binding),
+    }
+}
+
 // The binding of a processor that shares no register with those before it.
 fn bound_beside(
     alloc: Global,
@@ -175,16 +192,13 @@ fn bound_beside(
         (IfFault (CpuWrong opened.now before.now bytes.now)) }
 {
     match bound(alloc, opened, bytes) {
-        Ok(binding) => match first_sharing(before, &binding) {
-            Some(cpu) => Err(CpuError::Fault(CpuFault::Shares { cpu })),
-            None => Ok(binding),
-        },
+        Ok(binding) => beside(before, binding),
         Err(error) => Err(error),
     }
 }
 
 /// The binding of each processor, or the first `cpu` line that isn't bound.
-#[tactic(auto, using(crate::proofs::Bound::none_bound, crate::proofs::Checking::cpu_more, crate::proofs::Checking::cpu_wrong, crate::proofs::Checking::cpus_end))]
+#[tactic(auto, using(crate::proofs::Bound::none_bound, crate::proofs::Checking::cpu_wrong, crate::proofs::Checking::cpus_end))]
 pub fn bind_all(
     alloc: Global,
     opened: &[Opened],

@@ -88,14 +88,15 @@ pub fn first_action(scenario: &Scenario) -> u64
 }
 
 // Checks that the memories of the opened subspaces lie apart.
+#[tactic(auto, using(crate::proofs::Checks::first_meeting, crate::proofs::Checks::still_apart))]
 fn check_memories(alloc: Global, table: &Table, opens: &Opens) -> Result<(), InputError>
     ensures { MatchResult result (λ ok. AreApart (memories_by table.now opens.now)) (IsRefusedFor (MeetRefused (memories_by table.now opens.now))) }
 {
     let memories = memories(alloc, table, opens)?;
-    match opened_apart(&memories) {
-        Ok(()) => Ok(()),
-        Err(found) => Err(InputError::Refused(Refusal::Meet(found))),
+    if let Err(found) = opened_apart(&memories) {
+        return Err(InputError::Refused(Refusal::Meet(found)));
     }
+    Ok(())
 }
 
 // Checks that each action names what is opened.

@@ -246,12 +246,7 @@ fn put_fields_overlap(out: &mut Vec<u8>, a: u8, b: u8) -> Result<(), NoMemory>
     )
 }
 
-fn put_scale(
-    out: &mut Vec<u8>,
-    lowest: u64,
-    nominal: u64,
-    highest: u64,
-) -> Result<(), NoMemory>
+fn put_scale(out: &mut Vec<u8>, lowest: u64, nominal: u64, highest: u64) -> Result<(), NoMemory>
     ensures { OnOk result (out.new.items ≡ out.old.items ++ spelled (bind_pieces (bind.BadScale lowest nominal highest))) }
 {
     put_pieces(

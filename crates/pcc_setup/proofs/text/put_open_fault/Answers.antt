@@ -5,3 +5,6 @@ returns-in-NoSubspace c = rw c.in-NoSubspace.is c.put_pieces.ensures
 
 pub returns-in-OpenedTwice : goal.returns-in-OpenedTwice
 returns-in-OpenedTwice c = rw c.in-OpenedTwice.is c.put_pieces-in-OpenedTwice.ensures
+
+pub returns-in-ImageLong : goal.returns-in-ImageLong
+returns-in-ImageLong c = rw c.in-ImageLong.is c.put_pieces-in-ImageLong.ensures

@@ -1,6 +1,6 @@
 use Rattle.std.specs.Prelude.{codes}
 use Rattle.pcc_text.specs.Pieces.{spelled}
-use Rattle.pcc_setup.specs.RefusalText.{fault_pieces}
+use Rattle.pcc_setup.specs.RefusalText.{fault_pieces, package_pieces}
 use Rattle.pcc_setup.proofs.Refused.{put_behind}
 use Rattle.pcc_setup.proofs.text.put_refusal.Goals as goal
 
@@ -11,3 +11,9 @@ returns-in_ok-put-in-Table c =
 
 pub returns-in-PackageTrailing : goal.returns-in-PackageTrailing
 returns-in-PackageTrailing c = rw c.in-PackageTrailing.is c.put_pieces-in-PackageTrailing.ensures
+
+pub returns-in_ok-put-in-Package : goal.returns-in_ok-put-in-Package
+unfolding spelled
+returns-in_ok-put-in-Package c =
+    rw c.in-Package.is (put_behind c.put_package.result c.args.out.now.items c.put-in-Package.new.out.items c.put_package.new.out.items (codes "package ")
+    (spelled (package_pieces c.in-Package.fault)) c.in_ok-put-in-Package.ensures c.put_package.ensures)
