@@ -26,9 +26,9 @@ headlined words left left' held held' status text (Made c asked input read made 
     let A : List ℕ → Type 0 = λ v. Appends held held' v in
     record {
       step = λ a. let m : Makes command.Step input text = subst P (same_command words c command.Step asked a) is in
-          record { input = input; scenario = m.0; table = m.1; read = read; served = m.2; text = subst A m.3.text_is written; journals = m.3.headline };
+          record { input = input; scenario = m.0; opened = m.1; read = read; served = m.2; text = subst A m.3.text_is written; journals = m.3.headline };
       weave = λ a. let m : Makes command.Weave input text = subst P (same_command words c command.Weave asked a) is in
-          record { input = input; scenario = m.0; table = m.1; text = text; read = read; served = m.2; written = written; woven = m.3 };
+          record { input = input; scenario = m.0; opened = m.1; text = text; read = read; served = m.2; written = written; woven = m.3 };
       make = λ n h. absurd (makes_alone words c n asked h);
     }
 headlined words left left' held held' status text (Summed m asked made is) written e =
@@ -38,7 +38,7 @@ headlined words left left' held held' status text (Summed m asked made is) writt
       step = λ a. absurd (makes_alone words command.Step m a asked);
       weave = λ a. absurd (makes_alone words command.Weave m a asked);
       make = λ n h. let s : IsSummary n text = subst P (same_number words m n asked h) is in
-          record { table = s.0; set_up = s.1; text = subst A s.3 written; journals = s.2 };
+          record { opened = s.opened; opens = s.opens; text = subst A s.text_is written; journals = s.headline };
     }
 headlined words left left' held held' status text (Usage unasked) written e = absurd (omega (arith, e))
 headlined words left left' held held' status text (TooLong c asked more) written e = absurd (omega (arith, e))

@@ -1,6 +1,7 @@
 mod Woven
 mod Weavable
 mod Refused
+mod Small
 mod Packaged
 mod Tops
 mod OneLine
