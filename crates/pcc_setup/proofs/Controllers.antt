@@ -28,7 +28,7 @@ use Rattle.cppc_device.specs.Openings.{cap_order, device_fault, order_after, ord
 use Rattle.cppc_device.specs.Ranges.{InRange}
 use Rattle.cppc_device.specs.declared.device.DeviceFault.{DeviceFault}
 use Rattle.cppc_device.specs.declared.device.DeviceFault.TheVariants.{ImageTooLong}
-use Rattle.cppc_device.proofs.Alone.{one_fits}
+use Rattle.cppc_device.proofs.Numbers.{can_read}
 use Rattle.pcc_setup.specs.declared.opening.Opened.{Opened}
 use Rattle.pcc_setup.specs.declared.opening.OpenFault.{OpenFault}
 use Rattle.pcc_setup.specs.declared.opening.OpenFault.TheVariants.{ImageLong}
@@ -218,7 +218,7 @@ starting : (os : List Opened) (b : Binding) → AllByRecursion HasShortImage os 
 starting os b short h =
     let test : leb (length h.controller.image) h.controller.wiring.room ≡ true = (found_in HasShortImage b.subspace os h.controller short h.is).0 in
     if_some (CanLook b) (controller_on b.subspace os) h.controller h.is
-    (record { fits = one_fits h.controller.wiring.room b h.right h.inside; short = leb-true (length h.controller.image) h.controller.wiring.room test })
+    (record { fits = λ n. can_read b h.controller.wiring.room n h.right h.inside; short = leb-true (length h.controller.image) h.controller.wiring.room test })
 
 all_starting : (os : List Opened) (lines : List (List ℕ)) (cpus : List Binding) → AllByRecursion HasShortImage os → AreBound os lines cpus → AllByRecursion (IsStarting os) cpus
 all_starting os lines cpus short h = more cpus (all_good os lines cpus h.each)
