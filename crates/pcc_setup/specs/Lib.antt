@@ -3,3 +3,4 @@ pub mod Processors
 pub mod Equipment
 pub mod RefusalText
 pub mod SetUps
+pub mod Worked

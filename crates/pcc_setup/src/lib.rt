@@ -11,6 +11,7 @@ mod refusal;
 mod setup;
 mod table;
 mod text;
+mod worked;
 
 pub use action::{ActionFault, are_banks, opens_banks};
 pub use opening::{Caps, OpenFault, Opened, OpenedList};
@@ -19,3 +20,4 @@ pub use refusal::{CpuFault, InputError, Refusal, UseFault};
 pub use setup::{SetUp, SetUpError, first_action, set_up, set_up_laws};
 pub use table::{whole_table, whole_table_laws};
 pub use text::refused_line;
+pub use worked::{worked_equipment, worked_packages};

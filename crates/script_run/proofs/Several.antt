@@ -18,7 +18,6 @@ use Rattle.pcc_setup.specs.Openings.{AllOpen, opened_by, opened_with, opens_id, 
 use Rattle.pcc_setup.specs.SetUps.{action_fault, is_bank, opens_bank}
 use Rattle.script_run.specs.Channels.{AreDistinct, bank_start, fresh_channel, id_of, moved_up}
 use Rattle.script_run.specs.Headlines.{AreHeadlines, KeepsHeadline, line_on, lines_on}
-use Rattle.script_run.specs.ScriptRuns.{asks_of, channels_of, clock_of, run_of, set_up_of}
 use Rattle.channel_turns.specs.ChannelRuns.{Channel, ChannelStart, ScriptClock, answer_call, call_by, fresh}
 use Rattle.channel_headline.specs.Asked.{Replied}
 use Rattle.channel_headline.specs.ChannelLog.{ChannelLine}

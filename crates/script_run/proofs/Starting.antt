@@ -14,7 +14,12 @@ use Rattle.cpc_package.specs.Bindings as bindings
 use Rattle.cpc_package.specs.Bindings.{LiesIn}
 use Rattle.cpc_package.specs.declared.binding.Binding.{Binding}
 use Rattle.pcc_setup.specs.Equipment.{ArePlaces, CanBegin, IsPlaceOf, cpus_on, equipped}
-use Rattle.pcc_setup.specs.Openings.{AllOpen, opened_by}
+use Rattle.pcc_bytes.specs.Bytes.{IsBytes}
+use Rattle.pcc_bytes.proofs.Bytes.{IsBytes-nil}
+use Rattle.pcc_script.specs.Limits.{IsDevice, IsOpen, IsWithin}
+use Rattle.pcc_script.specs.declared.scenario.Device.{Device}
+use Rattle.pcc_script.specs.declared.scenario.Device.TheVariants.{Bank, Cppc}
+use Rattle.pcc_setup.specs.Openings.{AllOpen, image_of, opened_by, opened_with}
 use Rattle.pcc_setup.specs.SetUps.{IsSetUpOf, Opens}
 use Rattle.pcc_setup.specs.declared.opening.Opened.{Opened}
 use Rattle.pcc_setup.specs.declared.places.CpuPlace.{CpuPlace}
@@ -63,6 +68,10 @@ ids_are s os h =
 pub set_up_apart : (s : Scenario) (os : List Opened) → Opens s os → AreDistinct (ids_of (set_up_of s os))
 set_up_apart s os h = subst AreDistinct (sym (ids_are s os h)) (opens_apart h.table s.opens h.checked.all_open)
 
+-- no line opens an ID again
+pub lines_apart : (s : Scenario) (os : List Opened) → Opens s os → AreDistinct (map (λ o. o.id) s.opens)
+lines_apart s os h = opens_apart h.table s.opens h.checked.all_open
+
 -- ---- nothing was asked yet
 
 begun_fresh : (clock : ScriptClock) (os : List Opened) → AllByRecursion IsFresh (begun clock os)
@@ -81,12 +90,12 @@ set_up_headlines s os cpus h = fresh_headlines (set_up_of s os) (begun_fresh (cl
 
 kept : (f : Binding → Bool) (xs : List Binding) (j : ℕ) (b : Binding) → slice_get (filter f xs) j ≡ Some b → f b ≡ true
 kept f [] j b e = absurd (cc e)
-kept f (x ∷ xs) j b e = by (f x) refl j e
+kept f (x ∷ xs) j b e = by (f x) refl j e (λ k q. kept f xs k b q)
   where
-    by : (c : Bool) → f x ≡ c → (j : ℕ) → slice_get (cond c (x ∷ filter f xs) (filter f xs)) j ≡ Some b → f b ≡ true
-    by true t zero e = subst (λ (y : Binding). f y ≡ true) (same_Some x b e) t
-    by true t (suc j) e = kept f xs j b e
-    by false t j e = kept f xs j b e
+    by : (c : Bool) → f x ≡ c → (j : ℕ) → slice_get (cond c (x ∷ filter f xs) (filter f xs)) j ≡ Some b → ((k : ℕ) → slice_get (filter f xs) k ≡ Some b → f b ≡ true) → f b ≡ true
+    by true t zero e rest = subst (λ (y : Binding). f y ≡ true) (same_Some x b e) t
+    by true t (suc j) e rest = rest j e
+    by false t j e rest = rest j e
 
 member : (f : Binding → Bool) (xs : List Binding) (i : ℕ) (b : Binding) → slice_get xs i ≡ Some b → f b ≡ true → (j : ℕ) × (slice_get (filter f xs) j ≡ Some b)
 member f [] i b e t = absurd (cc e)
@@ -185,6 +194,29 @@ cpu_fits s os h begins wired cpu b at =
 -- as many as `cpu` lines
 pub cpus_count : (s : Scenario) (os : List Opened) (h : Opens s os) → length s.cpus ≡ length h.checked.cpus
 cpus_count s os h = zip_length _ s.cpus h.checked.cpus h.checked.bound.each
+
+-- ---- images
+
+-- what a script opens begins with bytes
+pub images_are : (s : Scenario) (os : List Opened) → IsWithin s → Opens s os → AllByRecursion (λ o. IsBytes o.image) os
+images_are s os within h = subst (AllByRecursion (λ o. IsBytes o.image)) (sym h.list_is) (equipped_too h.checked.cpus s.caps (opened_by h.table s.opens) (all s.opens within.opens))
+  where
+    image : (d : Device) → IsDevice d → IsBytes (image_of d)
+    image Bank k = IsBytes-nil
+    image (Cppc bytes) k = k
+
+    one : (o : OpenLine) → IsDevice o.device → (flags : ℕ) (u : Option Subspace) (rest : List Opened) → AllByRecursion (λ o. IsBytes o.image) rest
+        → AllByRecursion (λ o. IsBytes o.image) (opened_with o.device o.id flags u ++ rest)
+    one o k flags None rest r = r
+    one o k flags (Some u) rest r = (image o.device k, r)
+
+    all : (opens : List OpenLine) → AllByRecursion IsOpen opens → AllByRecursion (λ o. IsBytes o.image) (opened_by h.table opens)
+    all [] k = tt
+    all (o ∷ opens) k = one o k.0.device h.table.flags (slice_get h.table.subspaces o.id) (opened_by h.table opens) (all opens k.1)
+
+    equipped_too : (cpus : List Binding) (caps : List CapLine) (os : List Opened) → AllByRecursion (λ o. IsBytes o.image) os → AllByRecursion (λ o. IsBytes o.image) (map (equipped cpus caps) os)
+    equipped_too cpus caps [] k = tt
+    equipped_too cpus caps (o ∷ os) k = (k.0, equipped_too cpus caps os k.1)
 
 -- ---- places
 

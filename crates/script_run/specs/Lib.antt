@@ -4,6 +4,7 @@ pub mod ReplyText
 pub mod Channels
 pub mod DeviceChannels
 pub mod LineOutcomes
+pub mod Requests
 pub mod ScriptRuns
 pub mod Built
 pub mod Summaries

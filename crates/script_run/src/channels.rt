@@ -1,5 +1,5 @@
 //! The channels of the opened subspaces, in the order of their lines. Each has a clock of its own.
-ghost use Rattle.std.specs.Prelude.{◌≡◌, ◌<◌, ◌+◌, ℕ, true, IfOk, OnOk, Some, length, map, slice_get};
+ghost use Rattle.std.specs.Prelude.{◌≡◌, ◌<◌, ◌+◌, ◌^◌, ℕ, true, IfOk, OnOk, Some, length, map, slice_get};
 ghost use Rattle.pcc_script.specs.declared.limits.TheConstants.{MAX_ACTIONS};
 ghost use Rattle.std.specs.List.{AllByRecursion};
 ghost use Rattle.pcc_script.specs.Limits.{IsWithin};
