@@ -26,7 +26,7 @@ headlined words left left' held held' status text (Made c asked input read made 
     let A : List ℕ → Type 0 = λ v. Appends held held' v in
     record {
       step = λ a. let m : Makes command.Step input text = subst P (same_command words c command.Step asked a) is in
-          record { input = input; scenario = m.0; opened = m.1; read = read; served = m.2; text = subst A m.3.text_is written; journals = m.3.headline };
+          record { input = input; scenario = m.0; opened = m.1; read = read; served = m.2; text = subst A m.3.text_is written; journals = m.3.headline; ranges = m.3.ranges };
       weave = λ a. let m : Makes command.Weave input text = subst P (same_command words c command.Weave asked a) is in
           record { input = input; scenario = m.0; opened = m.1; text = text; read = read; served = m.2; written = written; woven = m.3 };
       make = λ n h. absurd (makes_alone words c n asked h);

@@ -72,6 +72,9 @@ not_used cmd s u fault h is = (ByUse h.opens.table h.opens.checked fault is, tt)
 pub is_served : (cmd : Command) (text : List ℕ) (s : Scenario) (u : SetUp) → IsSpelled text s → IsSetUpFor cmd s u → Serves cmd text s u.opened
 is_served cmd text s u h k = record { spells = h; opens = k.set_up.opens; used = k.used }
 
+pub has_set_up : (cmd : Command) (s : Scenario) (u : SetUp) → IsSetUpFor cmd s u → IsSetUpOf s u
+has_set_up cmd s u h = h.set_up
+
 pub not_set_up : (cmd : Command) (s : Scenario) (e : SetUpError) → IfLine (SetUpRefused s) e → IfLine (NotServed cmd s) e
 not_set_up cmd s (setup.Refused line) k = (k.0, BySetUp k.0 k.1, k.2, k.3)
 not_set_up cmd s setup.NoMemory k = tt

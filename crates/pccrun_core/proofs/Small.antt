@@ -29,8 +29,9 @@ hex_long (b ∷ bs) = let len = length-encode_with lower_digits (b ∷ bs) in om
 line_long : (bytes : List ℕ) → length bytes ≤ length (line_text (line_of (cpu_statement bytes)))
 line_long bytes =
     let long = hex_long bytes in
+    let word : length (line_of (cpu_statement bytes)) ≡ 4 + length (hex_text bytes) = refl in
     let len = length-append (line_of (cpu_statement bytes)) (10 ∷ []) in
-    ?
+    omega (arith, long, word, len)
 
 short_packages : (n : ℕ) (cpus : List (List ℕ)) (later : List Statement) → length (lines_text (map cpu_statement cpus ++ later)) ≤ n → AllByRecursion (λ bytes. length bytes ≤ n) cpus
 short_packages n [] later few = tt
@@ -44,7 +45,7 @@ under n [] few h = tt
 under n (bytes ∷ cpus) few h = let short = h.0 in (omega (arith, few, short), under n cpus few h.1)
 
 pub small_packages : (text : List ℕ) (s : Scenario) → IsSpelled text s → length text ≤ input_limit → AllByRecursion (λ bytes. length bytes < 2 ^ 32) s.cpus
-unfolding (script_text, statements_text)
+unfolding script_text statements_text
 small_packages text s h few =
     let later : List Statement = map cap_statement s.caps ++ (map action_statement s.actions ++ pick_statements s.picks) in
     let front : List Statement = table_statement s.table ∷ clock_statement s.start s.step ∷ map open_statement s.opens in

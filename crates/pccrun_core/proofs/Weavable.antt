@@ -127,8 +127,13 @@ no_cpus s t h banks = go s.cpus h.cpus h.bound.each
 
 -- no line names one then
 unnamed : (cpu : ℕ) (cpus : List (List ℕ)) → cpus ≡ [] → (if nat_lt cpu (length cpus) then None else Some NoCpu) ≡ None → ⊥
-unnamed cpu [] none e = absurd cc
-unnamed cpu (bytes ∷ cpus) none e = absurd cc
+unnamed cpu cpus none e =
+    let count : length cpus ≡ 0 = ap length none in
+    by (nat_lt cpu (length cpus)) (λ t. let few : cpu < length cpus = grind (arith, nat_tests) in omega (arith, few, count)) e
+  where
+    by : (b : Bool) → (b ≡ true → ⊥) → (if b then None else Some NoCpu) ≡ None → ⊥
+    by true never e = never refl
+    by false never e = absurd cc
 
 -- a line that is no wait is a call, where there are no processors
 calls_named : (s : Scenario) → s.cpus ≡ [] → (ls : List Line) → ((i : ℕ) (l : Line) → slice_get ls i ≡ Some l → action_fault s l ≡ None) → list_any is_wait ls ≡ false → AllByRecursion IsCall ls

@@ -6,13 +6,15 @@ use Rattle.pcc_script.specs.declared.scenario.Scenario.{Scenario}
 use Rattle.pcc_setup.specs.SetUps.{Opens}
 use Rattle.pcc_setup.specs.declared.opening.Opened.{Opened}
 use Rattle.script_run.specs.Headlines.{AreHeadlines}
+use Rattle.script_run.specs.Requests.{AreRanged}
 use Rattle.script_run.specs.ScriptRuns.{asks_of, run_of, step_text}
 use Rattle.script_run.specs.Summaries.{summary_text}
 use Rattle.pccrun_core.specs.Answers.{AsksFor, AsksToMake, ReadWhole, Serves}
 use Rattle.pccrun_core.specs.Weaving.{IsWoven}
 use Rattle.pccrun_core.specs.declared.command.Command.TheVariants as command
 
--- `step` has read a script, written the text of its run, and each journal of that run keeps its headline
+-- `step` has read a script and written the text of its run. Each journal of that run keeps its headline, and that of a controller the ranges of its
+-- processors (`AreRanged`).
 pub record StepHeadline (left left' held held' : Option (List ℕ)) : Type 0 where
   pub input : List ℕ
   pub scenario : Scenario
@@ -21,6 +23,7 @@ pub record StepHeadline (left left' held held' : Option (List ℕ)) : Type 0 whe
   pub served : Serves command.Step input scenario opened
   pub text : Appends held held' (step_text scenario opened served.opens.checked.cpus)
   pub journals : AreHeadlines (asks_of scenario served.opens.checked.cpus) (run_of scenario opened served.opens.checked.cpus)
+  pub ranges : AreRanged opened (run_of scenario opened served.opens.checked.cpus).channels
 
 -- `weave` has read a script, and written a trace with its journal, which are woven (`IsWoven`, whose `headline` the journal keeps)
 pub record WeaveHeadline (left left' held held' : Option (List ℕ)) : Type 0 where

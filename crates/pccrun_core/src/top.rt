@@ -163,7 +163,8 @@ pub fn run<S: Source, W: Sink>(
         × Answers (map (λ w. string_bytes w) words.now) (S.left source.old) (S.left source.new) result.status text
         × Appends (W.held sink.old) (W.held sink.new) text }
 
-    // Of `step`, of `weave` and of `make`: each journal of the run whose text was written keeps its headline.
+    // Of `step`, of `weave` and of `make`: each journal of the run whose text was written keeps its headline. Of `step`: the journals of controllers
+    // keep the ranges of their processors.
     ensures headline { result.status ≡ 0
         → Headlined (map (λ w. string_bytes w) words.now) (S.left source.old) (S.left source.new) (W.held sink.old) (W.held sink.new) }
 
