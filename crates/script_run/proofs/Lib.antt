@@ -10,5 +10,5 @@ mod MadeUp
 mod Values
 mod Told
 mod Wishes
-mod Requests
-mod Ranged
+pub mod Requests
+pub mod Ranged

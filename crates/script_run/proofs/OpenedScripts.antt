@@ -28,15 +28,12 @@ use Rattle.pcc_wiring.specs.declared.fault.WiringFault.{WiringFault}
 use Rattle.pcc_wiring.specs.Faults.{fault_of}
 use Rattle.pcc_wiring.specs.Wirings.{wiring_with}
 use Rattle.channel_turns.specs.ChannelRuns.{Call, Channel, ChannelStart, call_by}
-use Rattle.script_run.specs.Built.{is_built, is_built_line}
 use Rattle.script_run.specs.Channels.{CanAsk, CanRun, IsWired, Suits, ids_of, is_on, starts_of}
 use Rattle.script_run.specs.ReplyText.{replies_text}
 use Rattle.script_run.specs.ScriptRuns.{IsStepText, asks_of, channel_journal, run_of, run_text, set_up_of, step_text}
 use Rattle.script_run.specs.StepRun.{Ask, LineAsk, OfCall, OfRead, OfWish, ask_of, ask_of_cpu, asks_by, step_run, wish_of}
 use Rattle.script_run.proofs.Several.{open_rest}
-use Rattle.script_run.specs.Requests.{AreRanged}
-use Rattle.script_run.proofs.Ranged.{opened_ranges}
-use Rattle.script_run.proofs.Starting.{FitsOn, cpu_fits, cpu_on, cpus_count, ids_are, images_are, lines_apart, set_up_apart, set_up_headlines, there_at}
+use Rattle.script_run.proofs.Starting.{FitsOn, cpu_fits, cpu_on, cpus_count, ids_are, set_up_headlines, there_at}
 
 -- ---- the lines of a script
 
@@ -88,9 +85,10 @@ asks_cpu s u k h cpu f suits t =
 
 named : (s : Scenario) (u : SetUp) (k : CanStart s u) (h : Opens s u.opened) (l : Line) → action_fault s l ≡ None → CanAsk (starts_of (set_up_of s u.opened)) (ask_of h.checked.cpus l)
 named s u k h (line.Call worker subspace code bytes polls hold) e =
-    let cs : List Channel = set_up_of s u.opened in
-    (on_as_ids subspace cs ∙ ap (list_any (λ x. x == subspace)) (ids_are s u.opened h) ∙ bank_among subspace s.opens (bank_of (opens_bank subspace s.opens) e),
-     calls_suit subspace (call_by worker code bytes polls hold) (starts_of cs))
+    let cs : List Channel = set_up_of s u.opened in (
+      on_as_ids subspace cs ∙ ap (list_any (λ x. x == subspace)) (ids_are s u.opened h) ∙ bank_among subspace s.opens (bank_of (opens_bank subspace s.opens) e),
+      calls_suit subspace (call_by worker code bytes polls hold) (starts_of cs),
+    )
 named s u k h (line.Read worker cpu polls hold) e = asks_cpu s u k h cpu (λ b. OfRead (record { caller = worker; binding = b; polls = polls; hold = hold })) (λ room b fit. fit) (no_cpu (nat_lt cpu (length s.cpus)) e)
 named s u k h (line.Set worker wish polls hold) e = asks_cpu s u k h wish.cpu (λ b. OfWish (record { caller = worker; binding = b; wish = wish_of wish; polls = polls; hold = hold })) (λ room b fit. fit) (no_cpu (nat_lt wish.cpu (length s.cpus)) e)
 named s u k h (line.Wait n) e = tt
@@ -98,17 +96,6 @@ named s u k h (line.Wait n) e = tt
 each_line : (P : Line → Type 0) (ls : List Line) → ((i : ℕ) (l : Line) → i < length ls → slice_get ls i ≡ Some l → P l) → AllByRecursion P ls
 each_line P [] h = tt
 each_line P (l ∷ ls) h = (h zero l (omega arith) refl, each_line P ls (λ i x lt e. h (suc i) x (omega (arith, lt)) e))
-
-pub left_of : (a b : Bool) → (a && b) ≡ true → a ≡ true
-left_of true b e = refl
-left_of false b e = absurd cc
-
-pub both_of : (a b : Bool) → (a && b) ≡ true → b ≡ true
-both_of true b e = e
-both_of false b e = absurd cc
-
-pub built_lines : (s : Scenario) → is_built s ≡ true → list_all is_built_line s.actions ≡ true
-built_lines s h = both_of (opens_banks s) (list_all is_built_line s.actions) h
 
 can_run : (s : Scenario) (u : SetUp) (k : CanStart s u) (h : Opens s u.opened) (ls : List Line) → AllByRecursion IsAction ls → AllByRecursion (λ l. action_fault s l ≡ None) ls
     → AllByRecursion (CanRun h.checked.cpus (starts_of (set_up_of s u.opened))) ls
@@ -120,32 +107,28 @@ pub lines_run : (s : Scenario) (u : SetUp) (k : CanStart s u) (h : Opens s u.ope
 lines_run s u k h within = can_run s u k h s.actions within.actions (each_line (λ (l : Line). action_fault s l ≡ None) s.actions h.checked.named)
 
 -- what `step` prints for it
-text_is : (s : Scenario) (os : List Opened) (cs after : List Channel) (none put text : List ℕ) (first : ℕ) → (h : Opens s os) → AreRanged os (run_of s os h.checked.cpus).channels → cs ≡ set_up_of s os → first ≡ first_action s → none ≡ []
-    → put ≡ none ++ replies_text first (step_run (asks_of s h.checked.cpus) cs).replies → (step_run (asks_of s h.checked.cpus) cs).channels ≡ after
-    → text ≡ put ++ flat_map channel_journal after → IsStepText s os h.checked.cpus text
+text_is : (s : Scenario) (os : List Opened) (cpus : List Binding) (cs after : List Channel) (none put text : List ℕ) (first : ℕ) → Opens s os → cs ≡ set_up_of s os → first ≡ first_action s → none ≡ []
+    → put ≡ none ++ replies_text first (step_run (asks_of s cpus) cs).replies → (step_run (asks_of s cpus) cs).channels ≡ after
+    → text ≡ put ++ flat_map channel_journal after → IsStepText s os cpus text
 unfolding step_text
-text_is s os cs after none put text first h ranged opened line empty replies left e =
-    let asks : List LineAsk = asks_of s h.checked.cpus in
+text_is s os cpus cs after none put text first h opened line empty replies left e =
+    let asks : List LineAsk = asks_of s cpus in
     let P : List Channel → Type 0 = λ v. text ≡ run_text first (step_run asks v) in
     let whole : text ≡ run_text first (step_run asks cs) =
     e ∙ ap (λ (v : List ℕ). v ++ flat_map channel_journal after) (replies ∙ ap (λ (v : List ℕ). v ++ replies_text first (step_run asks cs).replies) empty)
     ∙ ap (λ (v : List Channel). replies_text first (step_run asks cs).replies ++ flat_map channel_journal v) (sym left) in
     record {
       text_is = subst P opened whole ∙ ap (λ (n : ℕ). run_text n (step_run asks (set_up_of s os))) line;
-      headline = set_up_headlines s os h.checked.cpus h;
-      ranges = ranged;
+      headline = set_up_headlines s os cpus h;
     }
 
 -- the same, by the processors that the run was given
-pub text_of : (s : Scenario) (os : List Opened) (given : List Binding) (cs after : List Channel) (none put text : List ℕ) (first : ℕ) → IsWithin s → AllByRecursion CanBegin os → (h : Opens s os) → given ≡ h.checked.cpus → cs ≡ set_up_of s os
+pub text_of : (s : Scenario) (os : List Opened) (given cpus : List Binding) (cs after : List Channel) (none put text : List ℕ) (first : ℕ) → Opens s os → given ≡ cpus → cs ≡ set_up_of s os
     → first ≡ first_action s → none ≡ []
     → put ≡ none ++ replies_text first (step_run (asks_by given s.actions) cs).replies → (step_run (asks_by given s.actions) cs).channels ≡ after
-    → text ≡ put ++ flat_map channel_journal after → IsStepText s os h.checked.cpus text
-text_of s os given cs after none put text first within begins h same opened line empty replies left e =
-    let ranged : AreRanged os (run_of s os h.checked.cpus).channels = opened_ranges s os h (lines_apart s os h) (set_up_apart s os h) begins (images_are s os within h) in
-    text_is s os cs after none put text first h ranged opened line empty
-    (replies ∙ ap (λ (bs : List Binding). none ++ replies_text first (step_run (asks_by bs s.actions) cs).replies) same)
-    (ap (λ (bs : List Binding). (step_run (asks_by bs s.actions) cs).channels) (sym same) ∙ left) e
+    → text ≡ put ++ flat_map channel_journal after → IsStepText s os cpus text
+text_of s os given cpus cs after none put text first h same opened line empty replies left e =
+    subst (λ (bs : List Binding). IsStepText s os bs text) same (text_is s os given cs after none put text first h opened line empty replies left e)
 
 -- ---- wirings
 

@@ -1,5 +1,5 @@
 -- The journals of the controllers that a script opens keep the ranges of their processors.
-use Rattle.std.proofs.Common.{◌≡◌, ◌≢◌, ℕ, zero, suc, ◌+◌, ◌<◌, ◌==◌, ◌&&◌, ◌||◌, Bool, true, false, cond, List, [], ◌∷◌, ◌++◌, length, map, refl, sym, ap, ◌∙◌, subst, arith}
+use Rattle.std.proofs.Common.{◌≡◌, ◌≢◌, ℕ, zero, suc, ◌<◌, ◌==◌, ◌&&◌, ◌||◌, Bool, true, false, cond, List, [], ◌∷◌, ◌++◌, length, map, refl, sym, ap, ◌∙◌, subst, arith}
 use Rattle.std.specs.Prelude.{Contains, Option, Some, None, filter, slice_get}
 use Rattle.std.specs.List.{AllByRecursion, AllZip}
 use Rattle.std.proofs.lemmas.Bool.{eq-eqb, ne_eqb}
@@ -8,7 +8,6 @@ use Rattle.std.proofs.lemmas.Option.{same_Some}
 use Rattle.pcc_bytes.specs.Bytes.{IsBytes}
 use Rattle.pcct_table.specs.declared.subspace.Subspace.{Subspace}
 use Rattle.pcct_table.specs.declared.table.Table.{Table}
-use Rattle.pcc_script.specs.declared.scenario.CapLine.{CapLine}
 use Rattle.pcc_script.specs.declared.scenario.Device.{Device}
 use Rattle.pcc_script.specs.declared.scenario.Device.TheVariants.{Bank, Cppc}
 use Rattle.pcc_script.specs.declared.scenario.Line.{Line}
@@ -111,12 +110,13 @@ lines_request cpus id (l ∷ ls) h = (line_request cpus id l h.0, lines_request 
 -- what other lines open has another ID
 other_id : (t : Table) (n : ℕ) (ps : List OpenLine) → AllByRecursion (λ m. n ≢ m) (map (λ p. p.id) ps) → (i : ℕ) (o : Opened) → slice_get (opened_by t ps) i ≡ Some o → n ≢ o.head.id
 other_id t n [] h i o at = absurd cc
-other_id t n (p ∷ ps) h i o at = by_structure (slice_get t.subspaces p.id) i at
+other_id t n (p ∷ ps) h i o at = by_structure (slice_get t.subspaces p.id) i at (λ j e. other_id t n ps h.1 j o e)
   where
-    by_structure : (m : Option Subspace) (i : ℕ) → slice_get (opened_with p.device p.id t.flags m ++ opened_by t ps) i ≡ Some o → n ≢ o.head.id
-    by_structure None i at = other_id t n ps h.1 i o at
-    by_structure (Some u) zero at = subst (λ (x : Opened). n ≢ x.head.id) (same_Some _ o at) h.0
-    by_structure (Some u) (suc i) at = other_id t n ps h.1 i o at
+    by_structure : (m : Option Subspace) (i : ℕ) → slice_get (opened_with p.device p.id t.flags m ++ opened_by t ps) i ≡ Some o
+        → ((j : ℕ) → slice_get (opened_by t ps) j ≡ Some o → n ≢ o.head.id) → n ≢ o.head.id
+    by_structure None i at later = later i at
+    by_structure (Some u) zero at later = subst (λ (x : Opened). n ≢ x.head.id) (same_Some _ o at) h.0
+    by_structure (Some u) (suc i) at later = later i at
 
 no_bank_on : (n : ℕ) (ps : List OpenLine) → AllByRecursion (λ m. n ≢ m) (map (λ p. p.id) ps) → opens_bank n ps ≡ true → ⊥
 no_bank_on n [] h e = absurd cc
@@ -132,23 +132,21 @@ no_controller (Cppc image) h = refl
 no_bank : (t : Table) (lines : List OpenLine) → AreDistinct (map (λ p. p.id) lines) → (i : ℕ) (o : Opened) → slice_get (opened_by t lines) i ≡ Some o → o.head.cppc ≡ true
     → opens_bank o.head.id lines ≡ true → ⊥
 no_bank t [] apart i o at c e = absurd cc
-no_bank t (p ∷ ps) apart i o at c e = by_structure (slice_get t.subspaces p.id) i at
+no_bank t (p ∷ ps) apart i o at c e = by_structure (slice_get t.subspaces p.id) i at (λ j is.
+    let test : (p.id == o.head.id) ≡ false = ne_eqb p.id o.head.id (other_id t p.id ps apart.0 j o is) in
+    no_bank t ps apart.1 j o is c (ap (λ (b : Bool). (b && is_bank p.device) || opens_bank o.head.id ps) (sym test) ∙ e))
   where
-    later : (i : ℕ) → slice_get (opened_by t ps) i ≡ Some o → ⊥
-    later i at =
-        let test : (p.id == o.head.id) ≡ false = ne_eqb p.id o.head.id (other_id t p.id ps apart.0 i o at) in
-        no_bank t ps apart.1 i o at c (ap (λ (b : Bool). (b && is_bank p.device) || opens_bank o.head.id ps) (sym test) ∙ e)
-
-    by_structure : (m : Option Subspace) (i : ℕ) → slice_get (opened_with p.device p.id t.flags m ++ opened_by t ps) i ≡ Some o → ⊥
-    by_structure None i at = later i at
-    by_structure (Some u) zero at =
+    by_structure : (m : Option Subspace) (i : ℕ) → slice_get (opened_with p.device p.id t.flags m ++ opened_by t ps) i ≡ Some o
+        → ((j : ℕ) → slice_get (opened_by t ps) j ≡ Some o → ⊥) → ⊥
+    by_structure None i at later = later i at
+    by_structure (Some u) zero at later =
         let same = same_Some _ o at in
         let id : p.id ≡ o.head.id = ap (λ (x : Opened). x.head.id) same in
         let bank : is_bank p.device ≡ false = no_controller p.device (ap (λ (x : Opened). x.head.cppc) same ∙ c) in
         let own : opens_bank p.id (p ∷ ps) ≡ true = ap (λ (n : ℕ). opens_bank n (p ∷ ps)) id ∙ e in
         let test : (p.id == p.id) ≡ true = eq-eqb p.id p.id refl in
         no_bank_on p.id ps apart.0 (ap (λ (b : Bool). (b && false) || opens_bank p.id ps) (sym test) ∙ ap (λ (b : Bool). ((p.id == p.id) && b) || opens_bank p.id ps) (sym bank) ∙ own)
-    by_structure (Some u) (suc i) at = later i at
+    by_structure (Some u) (suc i) at later = later i at
 
 on_bank : (b : Bool) → cond b None (Some NotBank) ≡ None → b ≡ true
 on_bank true h = refl

@@ -1,12 +1,12 @@
 -- The journal of a controller of performance keeps the ranges of its processors, of which reads and wishes are asked alone.
-use Rattle.std.proofs.Common.{◌≡◌, ℕ, Bool, true, false, cond, List, [], ◌∷◌, ◌++◌, map, zero, suc, refl, sym, ap, ◌∙◌, subst}
-use Rattle.std.specs.Prelude.{Option, Some, None, ◌==◌, slice_get}
+use Rattle.std.proofs.Common.{◌≡◌, ℕ, Bool, true, false, cond, List, [], ◌∷◌, ◌++◌, map, refl, sym, ap, ◌∙◌}
+use Rattle.std.specs.Prelude.{Some, ◌==◌, slice_get}
 use Rattle.std.specs.List.{AllByRecursion}
 use Rattle.std.proofs.lemmas.Bool.{eqb-true}
 use Rattle.std.proofs.lemmas.Option.{same_Some}
 use Rattle.cpc_package.specs.declared.binding.Binding.{Binding}
 use Rattle.cppc_device.specs.Devices.{Cppc}
-use Rattle.channel_turns.specs.ChannelRuns.{Channel, ChannelStart, ChannelState, fresh}
+use Rattle.channel_turns.specs.ChannelRuns.{Channel, ChannelStart, fresh}
 use Rattle.channel_headline.specs.Runs.{ChannelRun, ChannelStep, run_from}
 use Rattle.cppc_headline.specs.PerformanceHeadline.{IsPerformance, IsRequest, KeepsRanges}
 use Rattle.cppc_headline.proofs.Requests.{ranges_of_runs}

@@ -1,28 +1,22 @@
 -- Several opened subspaces: a call is answered by the channel with its ID, and each journal is that of a run on its channel alone.
-use Rattle.std.proofs.Common.{◌≡◌, ◌≢◌, ℕ, ◌+◌, ◌-◌, ◌^◌, ◌<◌, min, Bool, true, false, cond, ◌||◌, List, [], ◌∷◌, ◌++◌, length, get_or, map, set, take, drop, zero, suc, refl, sym, ap, ◌∙◌, subst, inl, inr, arith}
-use Rattle.std.specs.Prelude.{Option, Some, None, ◌==◌, ◌&&◌, slice_get}
-use Rattle.std.specs.List.{AllByRecursion, find, flat_map}
+use Rattle.std.proofs.Common.{◌≡◌, ◌≢◌, ℕ, ◌+◌, ◌-◌, ◌^◌, ◌<◌, min, Bool, true, false, cond, ◌||◌, List, [], ◌∷◌, ◌++◌, length, get_or, map, set, take, zero, suc, refl, sym, ap, ◌∙◌, subst, inl, inr, arith}
+use Rattle.std.specs.Prelude.{Option, Some, None, ◌==◌, slice_get}
+use Rattle.std.specs.List.{AllByRecursion, find}
 use Rattle.std.specs.Option.{option_map}
 use Rattle.std.proofs.lemmas.Bool.{cases_eq, cond_both, eq-eqb, eqb-true, eqb-false, ne_eqb}
 use Rattle.std.proofs.lemmas.List.{length-map}
 use Rattle.std.proofs.lemmas.Option.{same_Some, slice_get-get_or, slice_get_within}
 use Rattle.pcct_table.specs.declared.subspace.Subspace.{Subspace}
 use Rattle.pcct_table.specs.declared.table.Table.{Table}
-use Rattle.pcc_script.specs.declared.scenario.Line.TheVariants as line
 use Rattle.pcc_script.specs.declared.scenario.Device.{Device}
 use Rattle.pcc_script.specs.declared.scenario.OpenLine.{OpenLine}
-use Rattle.pcc_script.specs.declared.scenario.Scenario.{Scenario}
-use Rattle.pcc_setup.specs.declared.action.ActionFault.TheVariants.{NotBank}
-use Rattle.pcc_setup.specs.declared.opening.Opened.{Opened}
-use Rattle.pcc_setup.specs.Openings.{AllOpen, opened_by, opened_with, opens_id, structure_fault}
-use Rattle.pcc_setup.specs.SetUps.{action_fault, is_bank, opens_bank}
-use Rattle.script_run.specs.Channels.{AreDistinct, bank_start, fresh_channel, id_of, moved_up}
+use Rattle.pcc_setup.specs.Openings.{AllOpen, opens_id, structure_fault}
+use Rattle.script_run.specs.Channels.{AreDistinct, fresh_channel, id_of, moved_up}
 use Rattle.script_run.specs.Headlines.{AreHeadlines, KeepsHeadline, line_on, lines_on}
-use Rattle.channel_turns.specs.ChannelRuns.{Channel, ChannelStart, ScriptClock, answer_call, call_by, fresh}
-use Rattle.channel_headline.specs.Asked.{Replied}
+use Rattle.channel_turns.specs.ChannelRuns.{Channel, ChannelStart, fresh}
 use Rattle.channel_headline.specs.ChannelLog.{ChannelLine}
 use Rattle.channel_headline.specs.Runs.{HeadlineOf}
-use Rattle.script_run.specs.StepRun.{Ask, Asks, ByChannel, LineAsk, Moves, Nothing, OfCall, Run, ShownReply, Turn, answer, ask_of, asked_on, step_run, turn_of, waited}
+use Rattle.script_run.specs.StepRun.{Ask, Asks, LineAsk, Moves, Nothing, Run, ShownReply, Turn, answer, asked_on, step_run, turn_of, waited}
 use Rattle.script_run.proofs.Headlines.{run_headlines}
 
 -- ---- lists

@@ -1,7 +1,7 @@
 -- The channels of what a script opens, before its first line.
 use Rattle.std.proofs.Common.{◌≡◌, ℕ, zero, suc, ◌+◌, ◌<◌, ◌≤◌, ◌==◌, ◌||◌, Bool, true, false, cond, List, [], ◌∷◌, ◌++◌, length, get_or, map, filter, take, refl, sym, ap, ◌∙◌, subst, arith}
 use Rattle.std.specs.Prelude.{Option, Some, None, slice_get}
-use Rattle.std.specs.List.{AllByRecursion, AllZip, list_any}
+use Rattle.std.specs.List.{AllByRecursion, AllZip}
 use Rattle.std.proofs.lemmas.Bool.{eq-eqb, eqb-true}
 use Rattle.std.proofs.lemmas.Option.{same_Some, slice_get-get_or, slice_get_within}
 use Rattle.std.proofs.lemmas.List.{take_all, take_more}
@@ -25,7 +25,7 @@ use Rattle.pcc_setup.specs.declared.opening.Opened.{Opened}
 use Rattle.pcc_setup.specs.declared.places.CpuPlace.{CpuPlace}
 use Rattle.pcc_setup.specs.declared.setup.SetUp.{SetUp}
 use Rattle.channel_turns.specs.ChannelRuns.{Channel, ChannelStart, ScriptClock}
-use Rattle.script_run.specs.Channels.{AreDistinct, IsEarly, IsWired, bank_start, fresh_channel, id_of, ids_of, is_on, starts_of}
+use Rattle.script_run.specs.Channels.{AreDistinct, IsEarly, IsWired, bank_start, fresh_channel, ids_of, is_on, starts_of}
 use Rattle.script_run.specs.Headlines.{AreHeadlines}
 use Rattle.script_run.specs.ScriptRuns.{asks_of, clock_of, controller_start, run_of, set_up_of, start_of}
 use Rattle.script_run.proofs.Several.{IsFresh, fresh_headlines, has_structure, open_rest, opens_apart}
@@ -67,10 +67,6 @@ ids_are s os h =
 -- no two have one ID
 pub set_up_apart : (s : Scenario) (os : List Opened) → Opens s os → AreDistinct (ids_of (set_up_of s os))
 set_up_apart s os h = subst AreDistinct (sym (ids_are s os h)) (opens_apart h.table s.opens h.checked.all_open)
-
--- no line opens an ID again
-pub lines_apart : (s : Scenario) (os : List Opened) → Opens s os → AreDistinct (map (λ o. o.id) s.opens)
-lines_apart s os h = opens_apart h.table s.opens h.checked.all_open
 
 -- ---- nothing was asked yet
 
@@ -195,29 +191,6 @@ cpu_fits s os h begins wired cpu b at =
 pub cpus_count : (s : Scenario) (os : List Opened) (h : Opens s os) → length s.cpus ≡ length h.checked.cpus
 cpus_count s os h = zip_length _ s.cpus h.checked.cpus h.checked.bound.each
 
--- ---- images
-
--- what a script opens begins with bytes
-pub images_are : (s : Scenario) (os : List Opened) → IsWithin s → Opens s os → AllByRecursion (λ o. IsBytes o.image) os
-images_are s os within h = subst (AllByRecursion (λ o. IsBytes o.image)) (sym h.list_is) (equipped_too h.checked.cpus s.caps (opened_by h.table s.opens) (all s.opens within.opens))
-  where
-    image : (d : Device) → IsDevice d → IsBytes (image_of d)
-    image Bank k = IsBytes-nil
-    image (Cppc bytes) k = k
-
-    one : (o : OpenLine) → IsDevice o.device → (flags : ℕ) (u : Option Subspace) (rest : List Opened) → AllByRecursion (λ o. IsBytes o.image) rest
-        → AllByRecursion (λ o. IsBytes o.image) (opened_with o.device o.id flags u ++ rest)
-    one o k flags None rest r = r
-    one o k flags (Some u) rest r = (image o.device k, r)
-
-    all : (opens : List OpenLine) → AllByRecursion IsOpen opens → AllByRecursion (λ o. IsBytes o.image) (opened_by h.table opens)
-    all [] k = tt
-    all (o ∷ opens) k = one o k.0.device h.table.flags (slice_get h.table.subspaces o.id) (opened_by h.table opens) (all opens k.1)
-
-    equipped_too : (cpus : List Binding) (caps : List CapLine) (os : List Opened) → AllByRecursion (λ o. IsBytes o.image) os → AllByRecursion (λ o. IsBytes o.image) (map (equipped cpus caps) os)
-    equipped_too cpus caps [] k = tt
-    equipped_too cpus caps (o ∷ os) k = (k.0, equipped_too cpus caps os k.1)
-
 -- ---- places
 
 -- the processor at a place
@@ -234,10 +207,12 @@ pub place_within : (os : List Opened) (places : List CpuPlace) (i : ℕ) (p : Cp
     → (p.opened < length os) × ((o : Opened) → o ≡ get_or os p.opened o → p.cpu < length o.cpus)
 place_within os places i p h lt e =
     let k = place_at os h.0 places i p h.1 lt e in
-    let within : p.opened < length os = slice_get_within os p.opened k.2.subspace k.2.there in
-    (within, λ o is.
-    let same : o ≡ k.2.subspace = same_Some o k.2.subspace (ap Some is ∙ sym (slice_get-get_or os p.opened o within) ∙ k.2.there) in
-    slice_get_within o.cpus p.cpu k.0 (subst (λ (x : Opened). slice_get x.cpus p.cpu ≡ Some k.0) (sym same) k.2.cpu))
+    let within : p.opened < length os = slice_get_within os p.opened k.2.subspace k.2.there in (
+      within,
+      λ o is.
+          let same : o ≡ k.2.subspace = same_Some o k.2.subspace (ap Some is ∙ sym (slice_get-get_or os p.opened o within) ∙ k.2.there) in
+          slice_get_within o.cpus p.cpu k.0 (subst (λ (x : Opened). slice_get x.cpus p.cpu ≡ Some k.0) (sym same) k.2.cpu),
+    )
 
 -- one binding more
 pub binding_more : (os : List Opened) (cpus : List Binding) (places : List CpuPlace) (i : ℕ) (p : CpuPlace) (o : Opened) (b : Binding) (before next : List Binding) → ArePlaces os cpus places → i < length places

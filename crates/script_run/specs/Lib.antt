@@ -6,6 +6,5 @@ pub mod DeviceChannels
 pub mod LineOutcomes
 pub mod Requests
 pub mod ScriptRuns
-pub mod Built
 pub mod Summaries
 pub mod WorkedRuns

@@ -14,7 +14,6 @@ use Rattle.channel_turns.specs.ChannelRuns.{Channel, ChannelStart, ScriptClock, 
 use Rattle.script_run.specs.Channels.{bank_start, fresh_channel}
 use Rattle.script_run.specs.Headlines.{AreHeadlines}
 use Rattle.script_run.specs.ReplyText.{replies_text}
-use Rattle.script_run.specs.Requests.{AreRanged}
 use Rattle.script_run.specs.StepRun.{LineAsk, Run, asks_by, step_run}
 
 -- ---- the opened subspaces
@@ -62,9 +61,7 @@ run_text first r = replies_text first r.replies ++ flat_map channel_journal r.ch
 unfoldable pub step_text : Scenario → List Opened → List Binding → List ℕ
 step_text s opened cpus = run_text (first_action s) (run_of s opened cpus)
 
--- The text is what `step` prints for a script with these opened subspaces and processors. The journals of its run keep the headline, and those of
--- controllers the ranges of their processors.
+-- the text is what `step` prints for a script with these opened subspaces and processors, and the journals of its run keep the headline
 pub record IsStepText (s : Scenario) (opened : List Opened) (cpus : List Binding) (text : List ℕ) : Type 0 where
   pub text_is : text ≡ step_text s opened cpus
   pub headline : AreHeadlines (asks_of s cpus) (run_of s opened cpus)
-  pub ranges : AreRanged opened (run_of s opened cpus).channels

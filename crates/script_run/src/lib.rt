@@ -3,7 +3,6 @@
 #![tactic(auto)]
 
 mod asks;
-mod built;
 mod channel;
 mod channels;
 mod counts;
@@ -15,7 +14,6 @@ mod reply;
 mod step;
 mod worked;
 
-pub use built::is_built;
 pub use laws::run_laws;
 pub use make::made_summary;
 pub use ranges::range_laws;

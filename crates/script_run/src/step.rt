@@ -19,7 +19,7 @@ use cpc_package::Binding;
 use pcc_io::NoMemory;
 use pcc_journal::put_journal;
 use pcc_script::{Actions, Scenario};
-use pcc_setup::{SetUp, first_action, set_up_laws};
+use pcc_setup::{SetUp, first_action};
 use std::alloc::Global;
 
 // Runs lines from a number on, and puts their replies at the end.
@@ -79,7 +79,6 @@ pub fn run_text(alloc: Global, scenario: &Scenario, set_up: &SetUp) -> Result<Ve
     ensures { let opened = set_up.now.opened in
         IfOk result (λ v. (h : Opens scenario.now opened) → IsStepText scenario.now opened h.checked.cpus v.items) }
 {
-    set_up_laws();
     let mut out = Vec::new(alloc);
     let mut channels = OpenedChannels::open(alloc, scenario, set_up)?;
     let cpus = bindings_of(alloc, set_up)?;

@@ -22,5 +22,5 @@ run_lines-requires-clause-early c = subst (AllByRecursion (IsEarly 0)) (sym c.in
 pub returns : goal.returns
 returns c = λ h.
     let cpus : c.deref.result.now ≡ h.checked.cpus = c.deref.ensures.value ∙ c.in_ok-cpus.ensures h.checked.cpus (c.requires.set_up.places h) in
-    text_of c.args.scenario.now c.args.set_up.now.opened c.deref.result.now (channels_by c.in_ok-channels.channels) (channels_by c.run_lines.new.channels) c.new-out.result.items c.run_lines.new.out.items c.put_journals.new.out.items c.first_action-first.result
-    c.requires.within (c.set_up_laws.ensures.controllers c.args.scenario.now c.args.set_up.now.opened h) h cpus c.in_ok-channels.ensures.channels c.first_action-first.ensures.number c.new-out.ensures.items c.in_ok-run_lines.ensures.replies c.in_ok-run_lines.ensures.channels (rw c.as_slice.ensures at c.in_ok-put_journals.ensures)
+    text_of c.args.scenario.now c.args.set_up.now.opened c.deref.result.now h.checked.cpus (channels_by c.in_ok-channels.channels) (channels_by c.run_lines.new.channels) c.new-out.result.items c.run_lines.new.out.items c.put_journals.new.out.items c.first_action-first.result
+    h cpus c.in_ok-channels.ensures.channels c.first_action-first.ensures.number c.new-out.ensures.items c.in_ok-run_lines.ensures.replies c.in_ok-run_lines.ensures.channels (rw c.as_slice.ensures at c.in_ok-put_journals.ensures)

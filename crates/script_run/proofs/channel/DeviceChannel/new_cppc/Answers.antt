@@ -2,7 +2,7 @@ use Rattle.std.proofs.Common.{rules, ◌≡◌, ◌∙◌, length, sym, ap}
 use Rattle.std.specs.Prelude.{None}
 use Rattle.cppc_device.specs.Devices.{Cppc}
 use Rattle.cppc_device.specs.Keeps.{room_is}
-use Rattle.cppc_device.specs.Openings.{device_fault, new_device}
+use Rattle.cppc_device.specs.Openings.{device_fault}
 use Rattle.script_run.proofs.channel.DeviceChannel.new_cppc.Goals as goal
 
 pub new-requires-2-clause-room : goal.new-requires-2-clause-room

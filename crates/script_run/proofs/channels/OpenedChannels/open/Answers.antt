@@ -1,7 +1,6 @@
 use Rattle.std.proofs.Common.{List, sym, subst}
 use Rattle.std.specs.List.{AllByRecursion}
 use Rattle.script_run.specs.Channels.{AreDistinct, CanRun, ids_of, starts_of}
-use Rattle.script_run.specs.DeviceChannels.{channels_by}
 use Rattle.channel_turns.specs.ChannelRuns.{Channel}
 use Rattle.script_run.proofs.OpenedScripts.{CanStart, few_caps, lines_run, wired}
 use Rattle.script_run.proofs.Starting.{set_up_apart}
