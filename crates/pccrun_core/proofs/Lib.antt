@@ -2,6 +2,7 @@ mod Woven
 mod Weavable
 mod Refused
 mod Small
+mod Ranges
 mod Packaged
 mod Tops
 mod OneLine

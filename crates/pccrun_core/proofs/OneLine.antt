@@ -19,15 +19,14 @@ use Rattle.pcc_setup.specs.declared.refusal.Refusal.{Refusal}
 use Rattle.pcc_setup.specs.declared.refusal.Refusal.TheVariants as refusal
 use Rattle.pcc_setup.specs.declared.refusal.UseFault.{UseFault}
 use Rattle.pcc_setup.specs.SetUps.{HasRefusal, HasSetUp, IsSetUp, Opens}
-use Rattle.std.specs.List.{AllByRecursion}
-use Rattle.pcc_setup.specs.Equipment.{CanBegin, equipped}
+use Rattle.pcc_setup.specs.Equipment.{equipped}
+use Rattle.cpc_package.specs.declared.binding.Binding.{Binding}
 use Rattle.pcc_setup.specs.Openings.{opened_by}
 use Rattle.pcc_setup.specs.declared.opening.Opened.{Opened}
 use Rattle.pcc_setup.proofs.OneFault.{one_refusal, one_set_up, one_set_up_cpus, set_up_kept, set_up_or_refused}
 use Rattle.pcc_setup.proofs.WholeTables.{one_table_refusal, whole_or_refused}
-use Rattle.script_run.specs.ScriptRuns.{IsStepText, step_text}
-use Rattle.script_run.proofs.Ranged.{opened_ranges}
-use Rattle.script_run.proofs.Starting.{images_are, lines_apart, set_up_apart, set_up_headlines}
+use Rattle.script_run.specs.ScriptRuns.{step_text}
+use Rattle.script_run.proofs.Starting.{set_up_headlines}
 use Rattle.pccrun_core.specs.declared.command.Command.{Command}
 use Rattle.pccrun_core.specs.declared.command.Command.TheVariants as command
 use Rattle.pccrun_core.specs.Answers.{IsMade, IsTextOf, Makes, Serves, input_limit}
@@ -154,25 +153,14 @@ is_made command.Show input text h = (h.0, h.1)
 is_made command.Build input bytes h = (h.0, record { value = record { bytes = bytes; fit = h.2; spell = h.3 }; text_is = h.1 })
 is_made command.Cpc input text h = (h.0, h.1)
 
--- a law of set-ups that is used
-abbrev pub CanBeginAll : Type 0
-CanBeginAll = (s : Scenario) (opened : List Opened) → Opens s opened → AllByRecursion CanBegin opened
-
--- what `step` prints for a served script
-step_text_of : CanBeginAll → (input : List ℕ) (s : Scenario) (os : List Opened) → (h : Serves command.Step input s os)
-    → IsStepText s os h.opens.checked.cpus (step_text s os h.opens.checked.cpus)
-step_text_of can input s os h = record {
-  text_is = refl;
-  headline = set_up_headlines s os h.opens.checked.cpus h.opens;
-  ranges = opened_ranges s os h.opens (lines_apart s os h.opens) (set_up_apart s os h.opens) (can s os h.opens) (images_are s os (is_within s h.spells.scenario) h.opens);
-}
-
-pub some_text : CanBeginAll → (c : Command) (input : List ℕ) → c ≢ command.Weave → IsMade c input → (text : List ℕ) × Makes c input text
-some_text can command.Step input other h = (step_text h.0 h.1 h.2.opens.checked.cpus, (h.0, h.1, h.2, step_text_of can input h.0 h.1 h.2))
-some_text can command.Weave input other h = absurd (other refl)
-some_text can command.Show input other h = (show_text h.0, (h.0, h.1, refl))
-some_text can command.Build input other h = (h.1.value.bytes, (h.0, h.1.text_is, h.1.value.fit, h.1.value.spell))
-some_text can command.Cpc input other h = (package_text h.0, (h.0, h.1, refl))
+pub some_text : (c : Command) (input : List ℕ) → c ≢ command.Weave → IsMade c input → (text : List ℕ) × Makes c input text
+some_text command.Step input other h =
+    let cpus : List Binding = h.2.opens.checked.cpus in
+    (step_text h.0 h.1 cpus, (h.0, h.1, h.2, record { text_is = refl; headline = set_up_headlines h.0 h.1 cpus h.2.opens }))
+some_text command.Weave input other h = absurd (other refl)
+some_text command.Show input other h = (show_text h.0, (h.0, h.1, refl))
+some_text command.Build input other h = (h.1.value.bytes, (h.0, h.1.text_is, h.1.value.fit, h.1.value.spell))
+some_text command.Cpc input other h = (package_text h.0, (h.0, h.1, refl))
 
 -- a command serves one script, which opens one list of subspaces and has one list of processors
 one_cpus : (s u : Scenario) (os other : List Opened) → s ≡ u → (h : Opens s os) → (k : Opens u other) → h.checked.cpus ≡ k.checked.cpus

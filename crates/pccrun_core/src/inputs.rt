@@ -9,7 +9,6 @@ ghost use Rattle.pccrun_core.specs.declared.command.Command.{Command};
 ghost use Rattle.pccrun_core.specs.declared.command.Command.TheVariants.{Weave};
 
 use cpc_package::package_laws;
-use pcc_setup::set_up_laws;
 
 /// Each input is made or refused by a command, never both, and by one line. It does nothing.
 pub fn input_laws()
@@ -23,7 +22,6 @@ pub fn input_laws()
     ensures one_text { (c : Command) (input text other : List ℕ) → c ≢ Weave → Makes c input text → Makes c input other → text ≡ other }
 {
     package_laws();
-    set_up_laws();
 }
 
 /// The words and the input lead to one status and one text; where `weave` makes the text, to one status. It does nothing.

@@ -14,7 +14,7 @@ pub returns-clause-made : goal.returns-clause-made
 returns-clause-made c = is_made
 
 pub returns-clause-some_text : goal.returns-clause-some_text
-returns-clause-some_text c = some_text c.set_up_laws.ensures.controllers
+returns-clause-some_text c = some_text
 
 pub returns-clause-one_text : goal.returns-clause-one_text
 returns-clause-one_text c = one_text c.package_laws.ensures.one_package
