@@ -1,6 +1,8 @@
 mod Woven
 mod Weavable
 mod Refused
+mod Small
+mod Ranges
 mod Packaged
 mod Tops
 mod OneLine

@@ -1,13 +1,13 @@
 -- The words and the input lead to one status and one text.
-use Rattle.std.proofs.Common.{◌≡◌, ◌≢◌, ◌⊎◌, inl, inr, ℕ, ◌+◌, ◌<◌, ◌≤◌, List, length, refl, sym, ap, ◌∙◌, subst, arith}
+use Rattle.std.proofs.Common.{◌≡◌, ◌≢◌, ◌⊎◌, inl, inr, ℕ, ◌+◌, ◌<◌, ◌≤◌, List, [], length, refl, sym, ap, ◌∙◌, subst, arith}
 use Rattle.std.specs.Prelude.{Option, Some}
 use Rattle.std.proofs.lemmas.List.{length-append}
 use Rattle.pcc_script.specs.Made.{made_scenario_of}
-use Rattle.pcct_table.specs.declared.table.Table.{Table}
+use Rattle.pcc_setup.specs.declared.opening.Opened.{Opened}
 use Rattle.pcc_setup.specs.declared.refusal.Refusal.{Refusal}
 use Rattle.pcc_setup.specs.declared.refusal.Refusal.TheVariants as refusal
 use Rattle.pcc_setup.specs.RefusalText.{refused_line}
-use Rattle.pcc_setup.proofs.OneFault.{one_set_up_table}
+use Rattle.pcc_setup.proofs.OneFault.{one_set_up}
 use Rattle.script_run.specs.ScriptRuns.{run_of}
 use Rattle.script_run.specs.Summaries.{IsSummary, summary_text}
 use Rattle.pccrun_core.specs.declared.command.Command.{Command}
@@ -122,7 +122,7 @@ one_by_command one spelling single words input status another text line c asked 
 
 one_summary : (n : ℕ) (text line : List ℕ) → IsSummary n text → IsSummary n line → text ≡ line
 one_summary n text line h k =
-    h.3 ∙ ap (λ (t : Table). summary_text n (run_of (made_scenario_of n) t)) (one_set_up_table (made_scenario_of n) h.0 k.0 h.1 k.1) ∙ sym k.3
+    h.text_is ∙ ap (λ (os : List Opened). summary_text n (run_of (made_scenario_of n) os [])) (one_set_up (made_scenario_of n) h.opened k.opened h.opens k.opens) ∙ sym k.text_is
 
 by_count : (words : List (List ℕ)) (input : List ℕ) (left : Option (List ℕ)) (status : ℕ) (text : List ℕ) (n : ℕ) → AsksToMake words n → Answers words (Some input) left status text
     → (status ≡ 0) × IsSummary n text

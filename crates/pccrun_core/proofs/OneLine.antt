@@ -1,11 +1,12 @@
 -- Each input is made or refused by a command, by one line.
-use Rattle.std.proofs.Common.{◌≡◌, ◌≢◌, ◌⊎◌, inl, inr, ℕ, ◌≤◌, Bool, true, false, List, [], length, refl, sym, ap, ◌∙◌, subst, arith}
+use Rattle.std.proofs.Common.{◌≡◌, ◌≢◌, ◌⊎◌, inl, inr, ℕ, ◌≤◌, Bool, true, false, List, [], length, map, refl, sym, ap, ◌∙◌, subst, arith}
 use Rattle.std.specs.Prelude.{Option, Some, None}
 use Rattle.std.proofs.lemmas.Bool.{cases_lt}
 use Rattle.cpc_package.specs.PackageText.{package_text}
 use Rattle.pcc_bytes.specs.Bytes.{IsBytes}
 use Rattle.pcc_script.specs.Faults.{HasFault as ScriptFault}
 use Rattle.pcc_script.specs.declared.scenario.Scenario.{Scenario}
+use Rattle.pcc_script.proofs.Within.{is_within}
 use Rattle.pcc_script.proofs.Telling.{text_not_both, text_one_fault, text_some}
 use Rattle.pcct_table.specs.declared.table.Table.{Table}
 use Rattle.pcct_table.specs.ShowText.{show_text}
@@ -17,56 +18,54 @@ use Rattle.pcct_codec.proofs.Writing.{one_table_spelling}
 use Rattle.pcc_setup.specs.declared.refusal.Refusal.{Refusal}
 use Rattle.pcc_setup.specs.declared.refusal.Refusal.TheVariants as refusal
 use Rattle.pcc_setup.specs.declared.refusal.UseFault.{UseFault}
-use Rattle.pcc_setup.specs.SetUps.{HasRefusal, HasSetUp, IsSetUp}
-use Rattle.pcc_setup.proofs.OneFault.{one_refusal, one_set_up_table, set_up_kept, set_up_or_refused}
+use Rattle.pcc_setup.specs.SetUps.{HasRefusal, HasSetUp, IsSetUp, Opens}
+use Rattle.pcc_setup.specs.Equipment.{equipped}
+use Rattle.cpc_package.specs.declared.binding.Binding.{Binding}
+use Rattle.pcc_setup.specs.Openings.{opened_by}
+use Rattle.pcc_setup.specs.declared.opening.Opened.{Opened}
+use Rattle.pcc_setup.proofs.OneFault.{one_refusal, one_set_up, one_set_up_cpus, set_up_kept, set_up_or_refused}
 use Rattle.pcc_setup.proofs.WholeTables.{one_table_refusal, whole_or_refused}
-use Rattle.script_run.specs.Built.{is_built}
 use Rattle.script_run.specs.ScriptRuns.{step_text}
-use Rattle.script_run.proofs.Several.{set_up_headlines}
+use Rattle.script_run.proofs.Starting.{set_up_headlines}
 use Rattle.pccrun_core.specs.declared.command.Command.{Command}
 use Rattle.pccrun_core.specs.declared.command.Command.TheVariants as command
-use Rattle.pccrun_core.specs.Answers.{IsMade, IsServedScript, IsTextOf, Makes, input_limit}
+use Rattle.pccrun_core.specs.Answers.{IsMade, IsTextOf, Makes, Serves, input_limit}
 use Rattle.pccrun_core.specs.Inputs.{Exceeds, IsAccepted, IsRejected, Rejects, Within}
-use Rattle.pccrun_core.specs.Refusals.{BySetUp, ByUse, IsScript, IsSpelled, NotBuilt, NotServed, Refuses, ScriptRefused, TextRefused, Unserved, WrongLine, WrongScript}
+use Rattle.pccrun_core.specs.Refusals.{BySetUp, ByUse, IsSpelled, NotServed, Refuses, ScriptRefused, TextRefused, Unserved, WrongLine, WrongScript}
 use Rattle.pccrun_core.specs.Uses.{use_fault}
 use Rattle.pccrun_core.proofs.Packaged.{NotBoth, OneFault, OnePackage, OneSpelling, SomePackage, one_package_refusal, package_or_refused}
-use Rattle.pccrun_core.proofs.Refused.{packages_are_bytes, one_scenario}
+use Rattle.pccrun_core.proofs.Refused.{one_scenario}
 use Rattle.pccrun_core.proofs.Tops.{kept}
 
 -- ---- scripts
 
 abbrev ScriptOr : Command → List ℕ → Type 0
-ScriptOr c text = ((s : Scenario) × (t : Table) × IsServedScript c text s t) ⊎ ((r : Refusal) × ScriptRefused c text r)
+ScriptOr c text = ((s : Scenario) × (opened : List Opened) × Serves c text s opened) ⊎ ((r : Refusal) × ScriptRefused c text r)
 
-by_use : (c : Command) (text : List ℕ) (s : Scenario) (t : Table) → IsScript text s → IsSetUp s t → (o : Option UseFault) → use_fault c s ≡ o → ScriptOr c text
+by_use : (c : Command) (text : List ℕ) (s : Scenario) (t : Table) → IsSpelled text s → IsSetUp s t → (o : Option UseFault) → use_fault c s ≡ o → ScriptOr c text
 by_use c text s t h set (Some fault) is = inr (refusal.Use fault, Unserved s h (refusal.Use fault) (ByUse t set fault is))
-by_use c text s t h set None none = inl (s, t, record { script = h; served = record { set_up = set; used = none } })
+by_use c text s t h set None none =
+    let opens : Opens s (map (equipped set.cpus s.caps) (opened_by t s.opens)) = record { table = t; checked = set; list_is = refl } in
+    inl (s, map (equipped set.cpus s.caps) (opened_by t s.opens), record { spells = h; opens = opens; used = none })
 
-by_set_up : (c : Command) (text : List ℕ) (s : Scenario) → IsScript text s → HasSetUp s ⊎ HasRefusal s → ScriptOr c text
+by_set_up : (c : Command) (text : List ℕ) (s : Scenario) → IsSpelled text s → HasSetUp s ⊎ HasRefusal s → ScriptOr c text
 by_set_up c text s h (inl set) = by_use c text s set.table h set.checked (use_fault c s) refl
 by_set_up c text s h (inr failed) = inr (failed.cause, Unserved s h failed.cause (BySetUp failed.cause failed.refused))
 
-by_built : (c : Command) (text : List ℕ) (s : Scenario) → IsSpelled text s → (b : Bool) → is_built s ≡ b → ScriptOr c text
-by_built c text s h false none = inr (refusal.Unbuilt, NotBuilt s h none)
-by_built c text s h true built = by_set_up c text s (record { spells = h; built = built }) (set_up_or_refused s (packages_are_bytes s built))
+by_spelled : (c : Command) (text : List ℕ) (s : Scenario) → IsSpelled text s → ScriptOr c text
+by_spelled c text s h = by_set_up c text s h (set_up_or_refused s (is_within s h.scenario).cpus)
 
 no_scenario : (text : List ℕ) → ScriptFault text → (s : Scenario) → IsSpelled text s → ⊥
 no_scenario text f s h = text_not_both text (record { scenario = s; right = h.scenario; spelled = h.spelled }) f
 
 script_or_refused : (c : Command) (text : List ℕ) → ScriptOr c text
 script_or_refused c text = elim (text_some text) [
-  | inl h ↦ by_built c text h.scenario (record { spelled = h.spelled; scenario = h.right }) (is_built h.scenario) refl
+  | inl h ↦ by_spelled c text h.scenario (record { spelled = h.spelled; scenario = h.right })
   | inr f ↦ inr (refusal.Script f.line f.kind, WrongScript (no_scenario text f) f.line f.kind f.wrong)
 ]
 
-some_none : {X : Type 0} (o : Option X) (x : X) → o ≡ None → o ≡ Some x → ⊥
-some_none o x e f = absurd cc
-
 same_some : {X : Type 0} (o : Option X) (x y : X) → o ≡ Some x → o ≡ Some y → x ≡ y
 same_some o x y e f = cc
-
-not_built_twice : (b : Bool) → b ≡ true → b ≡ false → ⊥
-not_built_twice b e f = absurd cc
 
 one_not_served : (c : Command) (s : Scenario) (r q : Refusal) → NotServed c s r → NotServed c s q → r ≡ q
 one_not_served c s r q (BySetUp _ h) (BySetUp _ k) = one_refusal s r q h k
@@ -74,23 +73,13 @@ one_not_served c s r q (BySetUp _ h) (ByUse t set fault is) = absurd (set_up_kep
 one_not_served c s r q (ByUse t set fault is) (BySetUp _ k) = absurd (set_up_kept s t q set k)
 one_not_served c s r q (ByUse t set fault is) (ByUse u up other also) = ap refusal.Use (same_some (use_fault c s) fault other is also)
 
-built_or_not : (text : List ℕ) (s u : Scenario) → IsSpelled text s → is_built s ≡ false → IsScript text u → ⊥
-built_or_not text s u h none k =
-    let same : s ≡ u = one_scenario text s u h k.spells in
-    not_built_twice (is_built u) k.built (subst (λ (v : Scenario). is_built v ≡ false) same none)
-
 one_script_refusal : (c : Command) (text : List ℕ) (r q : Refusal) → ScriptRefused c text r → ScriptRefused c text q → r ≡ q
 one_script_refusal c text r q (WrongScript none l k a) (WrongScript no_one m d b) =
     let same = text_one_fault text l m k d a b in λ i. refusal.Script (same.0 i) (same.1 i)
-one_script_refusal c text r q (WrongScript none l k a) (NotBuilt s h not_) = absurd (none s h)
-one_script_refusal c text r q (WrongScript none l k a) (Unserved s h _ b) = absurd (none s h.spells)
-one_script_refusal c text r q (NotBuilt s h not_) (WrongScript none l k a) = absurd (none s h)
-one_script_refusal c text r q (NotBuilt s h not_) (NotBuilt u k nor) = refl
-one_script_refusal c text r q (NotBuilt s h not_) (Unserved u k _ b) = absurd (built_or_not text s u h not_ k)
-one_script_refusal c text r q (Unserved s h _ a) (WrongScript none l k b) = absurd (none s h.spells)
-one_script_refusal c text r q (Unserved s h _ a) (NotBuilt u k nor) = absurd (built_or_not text u s k nor h)
+one_script_refusal c text r q (WrongScript none l k a) (Unserved s h _ b) = absurd (none s h)
+one_script_refusal c text r q (Unserved s h _ a) (WrongScript none l k b) = absurd (none s h)
 one_script_refusal c text r q (Unserved s h _ a) (Unserved u k _ b) =
-    let same : s ≡ u = one_scenario text s u h.spells k.spells in
+    let same : s ≡ u = one_scenario text s u h k in
     one_not_served c u r q (subst (λ (v : Scenario). NotServed c v r) same a) b
 
 -- ---- texts of tables
@@ -166,19 +155,26 @@ is_made command.Cpc input text h = (h.0, h.1)
 
 pub some_text : (c : Command) (input : List ℕ) → c ≢ command.Weave → IsMade c input → (text : List ℕ) × Makes c input text
 some_text command.Step input other h =
-    (step_text h.0 h.1, (h.0, h.1, h.2, record { text_is = refl; headline = set_up_headlines h.0 h.1 h.2.served.set_up.all_open }))
+    let cpus : List Binding = h.2.opens.checked.cpus in
+    (step_text h.0 h.1 cpus, (h.0, h.1, h.2, record { text_is = refl; headline = set_up_headlines h.0 h.1 cpus h.2.opens }))
 some_text command.Weave input other h = absurd (other refl)
 some_text command.Show input other h = (show_text h.0, (h.0, h.1, refl))
 some_text command.Build input other h = (h.1.value.bytes, (h.0, h.1.text_is, h.1.value.fit, h.1.value.spell))
 some_text command.Cpc input other h = (package_text h.0, (h.0, h.1, refl))
 
--- a command serves one script with one table
+-- a command serves one script, which opens one list of subspaces and has one list of processors
+one_cpus : (s u : Scenario) (os other : List Opened) → s ≡ u → (h : Opens s os) → (k : Opens u other) → h.checked.cpus ≡ k.checked.cpus
+one_cpus s u os other same h =
+    let P : Scenario → Type 0 = λ v. (k : Opens v other) → h.checked.cpus ≡ k.checked.cpus in
+    subst P same (λ k. one_set_up_cpus s h.table k.table h.checked k.checked)
+
 one_step : (input text other : List ℕ) → Makes command.Step input text → Makes command.Step input other → text ≡ other
 one_step input text other h k =
-    let same : h.0 ≡ k.0 = one_scenario input h.0 k.0 h.2.script.spells k.2.script.spells in
-    let set : IsSetUp k.0 h.1 = subst (λ (s : Scenario). IsSetUp s h.1) same h.2.served.set_up in
-    let table : h.1 ≡ k.1 = one_set_up_table k.0 h.1 k.1 set k.2.served.set_up in
-    h.3.text_is ∙ (λ i. step_text (same i) (table i)) ∙ sym k.3.text_is
+    let same : h.0 ≡ k.0 = one_scenario input h.0 k.0 h.2.spells k.2.spells in
+    let opens : Opens k.0 h.1 = subst (λ (s : Scenario). Opens s h.1) same h.2.opens in
+    let opened : h.1 ≡ k.1 = one_set_up k.0 h.1 k.1 opens k.2.opens in
+    let cpus : h.2.opens.checked.cpus ≡ k.2.opens.checked.cpus = one_cpus h.0 k.0 h.1 k.1 same h.2.opens k.2.opens in
+    h.3.text_is ∙ (λ i. step_text (same i) (opened i) (cpus i)) ∙ sym k.3.text_is
 
 one_build : (input bytes other : List ℕ) → Makes command.Build input bytes → Makes command.Build input other → bytes ≡ other
 one_build input bytes other h k =

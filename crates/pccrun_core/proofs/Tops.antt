@@ -22,7 +22,7 @@ use Rattle.pcc_setup.specs.SetUps.{Opens}
 use Rattle.script_run.specs.ScriptRuns.{IsStepText}
 use Rattle.script_run.specs.Summaries.{IsSummary}
 use Rattle.pccrun_core.proofs.Packaged.{package_kept}
-use Rattle.pccrun_core.proofs.Refused.{script_kept, served_by}
+use Rattle.pccrun_core.proofs.Refused.{script_kept}
 
 same_head : (x y : List ℕ) → x ∷ [] ≡ y ∷ [] → x ≡ y
 same_head x y h = cc
@@ -43,8 +43,9 @@ asks_to_make {X = X} f xs word count w k n at_least below first second is_w is_k
 -- ---- what an input leads to
 
 -- what is made of a served script
-pub stepped : (input : List ℕ) (s : Scenario) (os : List Opened) (text : List ℕ) → Serves command.Step input s os → ((h : Opens s os) → IsStepText s h.table text) → Makes command.Step input text
-stepped input s os text h e = (s, h.opens_for.opens.table, served_by input s os command.Step h, e h.opens_for.opens)
+pub stepped : (input : List ℕ) (s : Scenario) (os : List Opened) (text : List ℕ) → Serves command.Step input s os → ((h : Opens s os) → IsStepText s os h.checked.cpus text)
+    → Makes command.Step input text
+stepped input s os text h e = (s, os, h, e h.opens)
 
 pub made_of : (words : List (List ℕ)) (left left' : Option (List ℕ)) (input text : List ℕ) (c : Command) → AsksFor words c → Consumes left left' input → IsAtEnd left' → length input ≤ input_limit → Makes c input text → Answers words left left' 0 text
 made_of words left left' input text c asked read end short made = Made c asked input (record { read = read; end = end; short = short }) text made
@@ -138,8 +139,8 @@ same_command words c d a b = one_command c d (same_head (word_of c) (word_of d) 
 
 -- what is made is not refused
 pub kept : (c : Command) (input : List ℕ) (r : Refusal) → IsMade c input → Refuses c input r → ⊥
-kept command.Step input r h k = script_kept command.Step input h.0 h.1 r h.2.script h.2.served k
-kept command.Weave input r h k = script_kept command.Weave input h.0 h.1 r h.2.script h.2.served k
+kept command.Step input r h k = script_kept command.Step input h.0 h.1 r h.2 k
+kept command.Weave input r h k = script_kept command.Weave input h.0 h.1 r h.2 k
 kept command.Show input r h k = table_kept input h.0 r h.1 k
 kept command.Build input r h (WrongLine none line wrong fault) = none h.0 (has_text h.0 h.1.value) h.1.text_is
 kept command.Cpc input r h k = package_kept input h.0 r h.1 k

@@ -17,9 +17,10 @@ use Rattle.pccrun_core.specs.declared.command.Request.TheVariants as request
 use Rattle.pcc_setup.specs.declared.refusal.Refusal.{Refusal}
 use Rattle.pcc_setup.specs.declared.refusal.Refusal.TheVariants as refusal
 use Rattle.pcc_setup.specs.RefusalText.{refused_line}
-use Rattle.pcc_setup.specs.SetUps.{IsSetUp, Opens}
+use Rattle.pcc_setup.specs.SetUps.{IsSetUpOf, Opens}
+use Rattle.pcc_setup.specs.declared.setup.SetUp.{SetUp}
 use Rattle.pcc_setup.specs.declared.opening.Opened.{Opened}
-use Rattle.pccrun_core.specs.Refusals.{IsScript, Refuses}
+use Rattle.pccrun_core.specs.Refusals.{IsSpelled, Refuses}
 use Rattle.script_run.specs.ScriptRuns.{IsStepText}
 use Rattle.pccrun_core.specs.Uses.{use_fault}
 use Rattle.script_run.specs.Summaries.{IsSummary}
@@ -73,25 +74,16 @@ pub record ReadMore (left left' : Option (List ℕ)) : Type 0 where
 
 -- ---- what is made of it
 
--- a scenario passes the checks of its set-up with this table, and the command can be used with it
-pub record ServedBy (c : Command) (s : Scenario) (t : Table) : Type 0 where
-  pub set_up : IsSetUp s t
+-- this is the set-up of a script, and the command can be used with it
+pub record IsSetUpFor (c : Command) (s : Scenario) (u : SetUp) : Type 0 where
+  pub set_up : IsSetUpOf s u
   pub used : use_fault c s ≡ None
 
--- these subspaces are what a script opens, and the command can be used with it
-pub record OpensFor (c : Command) (s : Scenario) (opened : List Opened) : Type 0 where
+-- a text spells a script, these subspaces are what the script opens, and the command can be used with it
+pub record Serves (c : Command) (input : List ℕ) (s : Scenario) (opened : List Opened) : Type 0 where
+  pub spells : IsSpelled input s
   pub opens : Opens s opened
   pub used : use_fault c s ≡ None
-
--- a script that a command serves, and what it opens
-pub record Serves (c : Command) (input : List ℕ) (s : Scenario) (opened : List Opened) : Type 0 where
-  pub script : IsScript input s
-  pub opens_for : OpensFor c s opened
-
--- a script and its table, which a command runs
-pub record IsServedScript (c : Command) (input : List ℕ) (s : Scenario) (t : Table) : Type 0 where
-  pub script : IsScript input s
-  pub served : ServedBy c s t
 
 -- a text is that of a table
 pub record IsTextOf (t : Table) (text : List ℕ) : Type 0 where
@@ -101,16 +93,17 @@ pub record IsTextOf (t : Table) (text : List ℕ) : Type 0 where
 -- What a command makes of its whole input: of a served script the text of its run; of the bytes of a table its text; of the text of
 -- a table its bytes; of the bytes of a package its text.
 abbrev pub Makes : Command → List ℕ → List ℕ → Type 0
-Makes command.Step input text = (s : Scenario) × (t : Table) × IsServedScript command.Step input s t × IsStepText s t text
-Makes command.Weave input text = (s : Scenario) × (t : Table) × IsServedScript command.Weave input s t × IsWoven s t text
+Makes command.Step input text = (s : Scenario) × (opened : List Opened) × (h : Serves command.Step input s opened)
+    × IsStepText s opened h.opens.checked.cpus text
+Makes command.Weave input text = (s : Scenario) × (opened : List Opened) × (h : Serves command.Weave input s opened) × IsWoven s h.opens.table text
 Makes command.Show input text = (t : Table) × TableBytes input t × (text ≡ show_text t)
 Makes command.Build input bytes = (t : Table) × (input ≡ show_text t) × IsBytes bytes × TableBytes bytes t
 Makes command.Cpc input text = (c : Item) × CpcBytes input c × (text ≡ package_text c)
 
 -- a command makes something of this input
 abbrev pub IsMade : Command → List ℕ → Type 0
-IsMade command.Step input = (s : Scenario) × (t : Table) × IsServedScript command.Step input s t
-IsMade command.Weave input = (s : Scenario) × (t : Table) × IsServedScript command.Weave input s t
+IsMade command.Step input = (s : Scenario) × (opened : List Opened) × Serves command.Step input s opened
+IsMade command.Weave input = (s : Scenario) × (opened : List Opened) × Serves command.Weave input s opened
 IsMade command.Show input = (t : Table) × TableBytes input t
 IsMade command.Build input = (t : Table) × IsTextOf t input
 IsMade command.Cpc input = (c : Item) × CpcBytes input c

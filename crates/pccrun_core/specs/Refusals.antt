@@ -1,5 +1,5 @@
 -- Why an input is refused.
-use Rattle.std.specs.Prelude.{◌≡◌, ℕ, true, false, List, Some}
+use Rattle.std.specs.Prelude.{◌≡◌, ℕ, List, Some}
 use Rattle.pcc_script.specs.Text.{IsScenario, script_text}
 use Rattle.pcc_script.specs.Faults.{TextWrong as ScriptWrong}
 use Rattle.pcc_script.specs.declared.fault.ScriptKind.{ScriptKind}
@@ -15,7 +15,6 @@ use Rattle.pcc_setup.specs.SetUps.{IsSetUp, SetUpRefused, TableRefused}
 use Rattle.pccrun_core.specs.declared.command.Command.{Command}
 use Rattle.pccrun_core.specs.declared.command.Command.TheVariants as command
 use Rattle.pccrun_core.specs.Packages.{PackageRefused}
-use Rattle.script_run.specs.Built.{is_built}
 use Rattle.pccrun_core.specs.Uses.{use_fault}
 
 -- a text is no table's, with its first fault
@@ -27,22 +26,15 @@ pub record IsSpelled (text : List ℕ) (s : Scenario) : Type 0 where
   pub spelled : text ≡ script_text s
   pub scenario : IsScenario s
 
--- a text spells a scenario, and all that it asks for is built
-pub record IsScript (text : List ℕ) (s : Scenario) : Type 0 where
-  pub spells : IsSpelled text s
-  pub built : is_built s ≡ true
-
 -- what a command refuses a scenario for
 pub data NotServed (c : Command) (s : Scenario) : Refusal → Type 0 where
   BySetUp : (r : Refusal) → SetUpRefused s r → NotServed c s r
   ByUse : (t : Table) → IsSetUp s t → (fault : UseFault) → use_fault c s ≡ Some fault → NotServed c s (refusal.Use fault)
 
--- A text is that of no scenario, with its first fault; or it isn't built what it asks for; or a check of its set-up fails; or the command
--- can't be used with it.
+-- a text is that of no scenario, with its first fault; or a check of its set-up fails; or the command can't be used with it
 pub data ScriptRefused (c : Command) (text : List ℕ) : Refusal → Type 0 where
   WrongScript : ((s : Scenario) → IsSpelled text s → ⊥) → (line : ℕ) → (wrong : ScriptKind) → ScriptWrong text line wrong → ScriptRefused c text (refusal.Script line wrong)
-  NotBuilt : (s : Scenario) → IsSpelled text s → is_built s ≡ false → ScriptRefused c text refusal.Unbuilt
-  Unserved : (s : Scenario) → IsScript text s → (r : Refusal) → NotServed c s r → ScriptRefused c text r
+  Unserved : (s : Scenario) → IsSpelled text s → (r : Refusal) → NotServed c s r → ScriptRefused c text r
 
 -- what a command refuses its whole input for
 abbrev pub Refuses : Command → List ℕ → Refusal → Type 0

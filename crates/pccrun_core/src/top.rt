@@ -21,7 +21,7 @@ use crate::step::step;
 use crate::tables::{build, show};
 use crate::weave::weave;
 use pcc_io::{Bytes, NoMemory, ReadEnd, Sink, Source, WriteFault, read_to_end, write_whole};
-use pcc_setup::{InputError, Refusal, SetUpError, refused_line};
+use pcc_setup::{InputError, Refusal, SetUpError, refused_line, set_up_laws};
 use script_run::made_summary;
 use std::alloc::Global;
 
@@ -163,7 +163,8 @@ pub fn run<S: Source, W: Sink>(
         × Answers (map (λ w. string_bytes w) words.now) (S.left source.old) (S.left source.new) result.status text
         × Appends (W.held sink.old) (W.held sink.new) text }
 
-    // Of `step`, of `weave` and of `make`: each journal of the run whose text was written keeps its headline.
+    // Of `step`, of `weave` and of `make`: each journal of the run whose text was written keeps its headline. Of `step`: the journals of controllers
+    // keep the ranges of their processors.
     ensures headline { result.status ≡ 0
         → Headlined (map (λ w. string_bytes w) words.now) (S.left source.old) (S.left source.new) (W.held sink.old) (W.held sink.new) }
 
@@ -193,6 +194,7 @@ pub fn run<S: Source, W: Sink>(
     // Words that ask for no command on the input leave the source as it was.
     ensures unasked { ((c : Command) → AsksFor (map (λ w. string_bytes w) words.now) c → ⊥) → source.new ≡ source.old }
 {
+    set_up_laws();
     let answer = match answer_to(alloc, words, source) {
         Ok(answer) => answer,
         Err(Stop::ReadFault) => return ended(Status::ReadFault),

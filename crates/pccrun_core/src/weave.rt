@@ -2,7 +2,7 @@
 ghost use Rattle.std.specs.Prelude.{◌≡◌, Some, IfOk, MatchResult, map, length, ◌≤◌};
 ghost use Rattle.std.specs.List.{AllByRecursion};
 ghost use Rattle.pcc_script.specs.Limits.{IsWithin};
-ghost use Rattle.pccrun_core.specs.Answers.{Makes};
+ghost use Rattle.pccrun_core.specs.Answers.{Makes, input_limit};
 ghost use Rattle.pccrun_core.specs.CommandErrors.{IsRefusedBy};
 ghost use Rattle.pccrun_core.specs.Refusals.{Refuses};
 ghost use Rattle.pcct_table.specs.declared.table.Table.{Table};
@@ -109,14 +109,15 @@ fn woven_text(
     Ok(out)
 }
 
-/// The trace and the journal of the script that a text spells.
+/// The trace and the journal of the script that a text spells. The condition is a text of at most 4,194,304 bytes.
 pub fn weave(alloc: Global, text: &[u8]) -> Result<Vec<u8>, CommandError>
+    requires { length text.now ≤ input_limit }
     ensures { MatchResult result (λ v. Makes Command.Weave text.now v.items) (IsRefusedBy (Refuses Command.Weave text.now)) }
 {
     right_wirings();
     match served_script(alloc, Command::Weave, text) {
-        Ok(Served { scenario, opened }) => match &scenario.picks {
-            Some(picks) => Ok(woven_text(alloc, &scenario, picks, opened.at(0))?),
+        Ok(Served { scenario, set_up }) => match &scenario.picks {
+            Some(picks) => Ok(woven_text(alloc, &scenario, picks, set_up.opened.at(0))?),
             None => unreachable!(),
         },
         Err(error) => Err(error),
