@@ -3,8 +3,8 @@ use cpc_package::{CpcFault, CpcKind};
 use pcc_io::Bytes;
 use pcc_script::{ScriptKind, scenario_from};
 use pcc_setup::{
-    ActionFault, InputError, OpenFault, Refusal, SetUpError, UseFault, first_action, opens_banks,
-    refused_line, set_up, whole_table,
+    ActionFault, InputError, OpenFault, Refusal, SetUpError, UseFault, first_action, refused_line,
+    set_up, whole_table,
 };
 use pcc_text::put_hex;
 use pcc_wiring::{Overlap, Role, WiringFault};
@@ -22,7 +22,7 @@ fn script(alloc: Global, table: &[u8], lines: &[u8]) -> Result<Vec<u8>, Fail> {
     Ok(text)
 }
 
-// What becomes of the set-up of a script that opens Banks alone.
+// What becomes of the set-up of a script without processors.
 #[derive(Debug, Drop)]
 enum Ending {
     Opened(usize),
@@ -30,10 +30,14 @@ enum Ending {
     Other,
 }
 
+#[tactic(auto, using(crate::proofs::Short::none_long))]
 fn ending_of(alloc: Global, text: &[u8]) -> Ending {
     let Ok(scenario) = scenario_from(alloc, text) else {
         return Ending::Other;
     };
+    if scenario.cpus.len() != 0 {
+        return Ending::Other;
+    }
     match set_up(alloc, &scenario) {
         Ok(set_up) => Ending::Opened(set_up.opened.len()),
         Err(SetUpError::Refused { text }) => Ending::Refused(text),
@@ -67,7 +71,7 @@ fn one_subspace_is_opened(rt: HostRuntime) -> Result<(), Fail> {
 #[test]
 fn the_first_check_that_fails(rt: HostRuntime) -> Result<(), Fail> {
     let alloc = rt.alloc();
-    let rows: [(&[u8], &[u8], &[u8]); 4] = [
+    let rows: [(&[u8], &[u8], &[u8]); 8] = [
         (
             &ONE_GENERIC_SUBSPACE,
             b"open 0 bank\nopen 0 bank\ncall 0 3 17 - 1 0\n",
@@ -87,6 +91,26 @@ fn the_first_check_that_fails(rt: HostRuntime) -> Result<(), Fail> {
             &ONE_GENERIC_SUBSPACE[..100],
             b"open 1 bank\n",
             b"refused table short 100\n",
+        ),
+        (
+            &ONE_GENERIC_SUBSPACE,
+            b"open 0 cppc 0000000000000000000000000000000000\n",
+            b"refused open 0 image long\n",
+        ),
+        (
+            &ONE_GENERIC_SUBSPACE,
+            b"open 0 cppc -\ncap 0 5 90\ncap 0 5 80\n",
+            b"refused cap 1\n",
+        ),
+        (
+            &ONE_GENERIC_SUBSPACE,
+            b"open 0 bank\ncap 0 5 90\n",
+            b"refused cap 0\n",
+        ),
+        (
+            &ONE_GENERIC_SUBSPACE,
+            b"open 0 cppc -\nread 0 0 3 0\n",
+            b"refused line 4 no cpu\n",
         ),
     ];
     for (table, lines, line) in rows {
