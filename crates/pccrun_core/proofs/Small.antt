@@ -1,8 +1,8 @@
 -- The packages of a script are shorter than its text.
-use Rattle.std.proofs.Common.{◌≡◌, ℕ, ◌+◌, ◌*◌, ◌<◌, ◌≤◌, ◌^◌, List, [], ◌∷◌, ◌++◌, length, map, sym, ap, ◌∙◌, subst, arith}
+use Rattle.std.proofs.Common.{◌≡◌, ℕ, suc, ◌<◌, ◌≤◌, ◌^◌, List, [], ◌∷◌, ◌++◌, length, map, refl, ap, arith}
 use Rattle.std.specs.List.{AllByRecursion, flat_map}
 use Rattle.std.proofs.lemmas.List.{length-append}
-use Rattle.hex.specs.Hex.{encode_lower, lower_digits}
+use Rattle.hex.specs.Hex.{lower_digits}
 use Rattle.hex.proofs.HexLemmas.{length-encode_with}
 use Rattle.pcc_bytes.specs.Fields.{hex_text, line_text}
 use Rattle.pcc_script.specs.Text.{Statement, cap_statement, clock_statement, cpu_statement, action_statement, line_of, open_statement, pick_statements, script_text, statements_of, statements_text, table_statement}
@@ -29,7 +29,7 @@ hex_long (b ∷ bs) = let len = length-encode_with lower_digits (b ∷ bs) in om
 line_long : (bytes : List ℕ) → length bytes ≤ length (line_text (line_of (cpu_statement bytes)))
 line_long bytes =
     let long = hex_long bytes in
-    let word : length (line_of (cpu_statement bytes)) ≡ 4 + length (hex_text bytes) = refl in
+    let word : length (line_of (cpu_statement bytes)) ≡ suc (suc (suc (suc (length (hex_text bytes))))) = refl in
     let len = length-append (line_of (cpu_statement bytes)) (10 ∷ []) in
     omega (arith, long, word, len)
 
