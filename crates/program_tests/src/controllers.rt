@@ -117,43 +117,68 @@ fn reads_and_wishes(rt: HostRuntime) -> Result<(), Fail> {
     Ok(())
 }
 
-// The checks of a script with controllers.
+/// Whether `step` refuses a script of these parts by this line.
+fn refuses(alloc: Global, rest: &[&[u8]], line: &[u8]) -> Result<bool, NoMemory> {
+    let input = script(alloc, rest)?;
+    let status = status_of_long(alloc, "step", &input, line)?;
+    Ok(status == Some(3))
+}
+
+const CAPS: &[u8] = b"cap 0 5 90\ncap 0 5 80\n";
+
+const LATER_PROCESSOR: &[u8] = b"read 0 0 3 0\nset 0 1 - 100 - 3 0\n";
+
+const LONG_IMAGE: &[u8] =
+    b"open 0 cppc 640000000a0000002c0100000000000000000000000000000000000000000000ff\n";
+
+// The checks of processors.
 #[test]
-fn refused_scripts(rt: HostRuntime) -> Result<(), Fail> {
+fn refused_processors(rt: HostRuntime) -> Result<(), Fail> {
     let alloc = rt.alloc();
     let cpu = cpu_line(alloc, &SIX_FIELDS_PACKAGE)?;
     let short = cpu_line(alloc, &SIX_FIELDS_PACKAGE[..278])?;
-    let rows: [(&[&[u8]], &[u8]); 10] = [
-        (&[OPENED, &cpu, &cpu], b"refused cpu 1 shares 0\n"),
-        (
-            &[OPENED, &cpu, b"cap 0 5 90\ncap 0 5 80\n"],
-            b"refused cap 1\n",
-        ),
-        (&[OPENED, &cpu, b"cap 1 5 90\n"], b"refused cap 0\n"),
-        (
+    assert!(rt; refuses(alloc, &[OPENED, &cpu, &cpu], b"refused cpu 1 shares 0\n")?);
+    assert!(rt;
+        refuses(
+            alloc,
+            &[b"open 0 bank\n", &cpu],
+            b"refused cpu 0 not opened\n"
+        )?
+    );
+    assert!(rt; refuses(alloc, &[OPENED, &short], b"refused cpu 0 short 0 278\n")?);
+    assert!(rt; refuses(alloc, &[b"open 0 cppc -\n", &cpu], b"refused start 0\n")?);
+    Ok(())
+}
+
+// The checks of images, caps and actions.
+#[test]
+fn refused_lines(rt: HostRuntime) -> Result<(), Fail> {
+    let alloc = rt.alloc();
+    let cpu = cpu_line(alloc, &SIX_FIELDS_PACKAGE)?;
+    assert!(rt; refuses(alloc, &[LONG_IMAGE], b"refused open 0 image long\n")?);
+    assert!(rt; refuses(alloc, &[OPENED, &cpu, CAPS], b"refused cap 1\n")?);
+    assert!(rt; refuses(alloc, &[OPENED, &cpu, b"cap 1 5 90\n"], b"refused cap 0\n")?);
+    assert!(rt;
+        refuses(
+            alloc,
             &[OPENED, &cpu, b"read 0 1 3 0\n"],
-            b"refused line 5 no cpu\n",
-        ),
-        (
-            &[OPENED, &cpu, b"read 0 0 3 0\nset 0 1 - 100 - 3 0\n"],
-            b"refused line 6 no cpu\n",
-        ),
-        (
+            b"refused line 5 no cpu\n"
+        )?
+    );
+    assert!(rt;
+        refuses(
+            alloc,
+            &[OPENED, &cpu, LATER_PROCESSOR],
+            b"refused line 6 no cpu\n"
+        )?
+    );
+    assert!(rt;
+        refuses(
+            alloc,
             &[OPENED, &cpu, b"call 0 0 0 - 3 0\n"],
-            b"refused line 5 not bank\n",
-        ),
-        (&[b"open 0 bank\n", &cpu], b"refused cpu 0 not opened\n"),
-        (&[b"open 0 cppc -\n", &cpu], b"refused start 0\n"),
-        (&[OPENED, &short], b"refused cpu 0 short 0 278\n"),
-        (
-            &[b"open 0 cppc 640000000a0000002c0100000000000000000000000000000000000000000000ff\n"],
-            b"refused open 0 image long\n",
-        ),
-    ];
-    for (rest, text) in rows {
-        let input = script(alloc, rest)?;
-        assert_eq!(rt; status_of_long(alloc, "step", &input, text)?, Some(3));
-    }
+            b"refused line 5 not bank\n"
+        )?
+    );
     Ok(())
 }
 
