@@ -14,7 +14,6 @@ pub mod PickKeeps
 pub mod WordRunOf
 pub mod WholeOf
 pub mod JournalIsGood
-pub mod Polls
 pub mod WeaveStays
 pub mod Written
 pub mod PickLoop

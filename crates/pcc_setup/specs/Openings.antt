@@ -7,9 +7,8 @@ use Rattle.pcc_script.specs.declared.scenario.Device.TheVariants.{Bank, Cppc}
 use Rattle.pcc_script.specs.declared.scenario.OpenLine.{OpenLine}
 use Rattle.pcc_steps.specs.declared.wiring.Wiring.{Wiring}
 use Rattle.pcc_wiring.specs.declared.fault.Asks.{Asks}
-use Rattle.pcc_wiring.specs.declared.fault.Asks.TheVariants.{System}
 use Rattle.pcc_wiring.specs.declared.fault.WiringFault.{WiringFault}
-use Rattle.pcc_wiring.specs.Faults.{fault_of}
+use Rattle.pcc_wiring.specs.Faults.{asks_of, fault_of}
 use Rattle.pcc_wiring.specs.Wirings.{room_of, wiring_with}
 use Rattle.pcct_table.specs.declared.subspace.Subspace.{Subspace}
 use Rattle.pcct_table.specs.declared.table.Table.{Table}
@@ -36,9 +35,9 @@ image_of (Cppc image) = image
 abbrev pub opens_id : ℕ → List OpenLine → Bool
 opens_id id opens = list_any (λ o. o.id == id) opens
 
--- the side that asks on a structure of this type, opened as this device: so far the operating system on each
+-- the side that asks on a structure of this type, opened as this device
 abbrev pub asks_on : Device → ℕ → Asks
-asks_on device kind = System
+asks_on device kind = asks_of kind (is_cppc device)
 
 -- the image is longer than the communication space of a structure that is wired
 abbrev pub image_fault : Device → Subspace → Option OpenFault

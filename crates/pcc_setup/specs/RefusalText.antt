@@ -139,7 +139,6 @@ refusal_pieces (refusal.Cpu number fault) = Words (codes "cpu ") ∷ Decimal num
 refusal_pieces (refusal.Cap index) = numbered (codes "cap ") index
 refusal_pieces (refusal.Start number) = numbered (codes "start ") number
 refusal_pieces (refusal.Use fault) = Words (codes "use ") ∷ Words (use_word fault) ∷ []
-refusal_pieces refusal.Unbuilt = Words (codes "unbuilt") ∷ []
 
 -- the line of a refused input
 abbrev pub refused_line : Refusal → List ℕ

@@ -157,10 +157,6 @@ pub record HasRefusal (s : Scenario) : Type 0 where
 
 -- ---- what a caller gets
 
--- a script opens Banks alone, and has no processors and no caps
-abbrev pub opens_banks : Scenario → Bool
-opens_banks s = list_all (λ o. is_bank o.device) s.opens && length s.cpus == 0 && length s.caps == 0
-
 -- the text of an error, if it has one, is the line of such a refusal
 abbrev pub IfLine : (Refusal → Type 0) → SetUpError → Type 0
 IfLine cause (error.Refused text) = (r : Refusal) × cause r × HasLine r × (text ≡ refused_line r)

@@ -1,7 +1,7 @@
 //! Whether the actions of a script name what it opens.
 ghost use Rattle.std.specs.Prelude.{◌≡◌, ◌<◌, ◌^◌, None, Some, IfSome, MatchOption, if◌then◌else◌, length, slice_get};
 ghost use Rattle.pcc_script.specs.declared.scenario.Line.{Line};
-ghost use Rattle.pcc_setup.specs.SetUps.{AllNamed, action_fault, is_bank, opens_bank, opens_banks};
+ghost use Rattle.pcc_setup.specs.SetUps.{AllNamed, action_fault, is_bank, opens_bank};
 ghost use Rattle.std.specs.List.{list_all};
 
 use pcc_script::{Device, Line, OpenLine, Scenario};
@@ -19,13 +19,6 @@ fn is_bank(device: &Device) -> bool
     ensures { result ≡ is_bank device.now }
 {
     matches!(device, Device::Bank)
-}
-
-/// Whether a script opens Banks alone, and has no processors and no caps.
-pub fn opens_banks(scenario: &Scenario) -> bool
-    ensures { result ≡ opens_banks scenario.now }
-{
-    are_banks(scenario.opens.as_slice()) && scenario.cpus.len() == 0 && scenario.caps.len() == 0
 }
 
 /// Whether each line opens a Bank.

@@ -13,7 +13,7 @@ mod table;
 mod text;
 mod worked;
 
-pub use action::{ActionFault, are_banks, opens_banks};
+pub use action::{ActionFault, are_banks};
 pub use opening::{Caps, OpenFault, Opened, OpenedList};
 pub use places::{CpuPlace, CpuPlaces};
 pub use refusal::{CpuFault, InputError, Refusal, UseFault};

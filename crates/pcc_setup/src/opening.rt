@@ -24,7 +24,7 @@ use pcc_io::{Bytes, Items, NoMemory};
 use pcc_journal::JournalHead;
 use pcc_script::{Device, OpenLine, Opens};
 use pcc_steps::Wiring;
-use pcc_wiring::{Asks, WiringFault, wiring_of};
+use pcc_wiring::{Asks, WiringFault, asks_of, wiring_of};
 use pcct_table::{Subspace, Table};
 use rate_limit::Limits;
 use std::alloc::Global;
@@ -111,11 +111,11 @@ fn opens_id(opens: &[OpenLine], id: u8) -> bool
     opens.iter().any(|o| o.id == id)
 }
 
-// The side that asks on a structure of this type, opened as this device: so far the operating system on each.
-fn asks_on(_device: &Device, _kind: u8) -> Asks
-    ensures { result ≡ asks_on _device.now _kind }
+// The side that asks on a structure of this type, opened as this device.
+fn asks_on(device: &Device, kind: u8) -> Asks
+    ensures { result ≡ asks_on device.now kind }
 {
-    Asks::System
+    asks_of(kind, is_cppc(device))
 }
 
 /// A structure and its wiring.

@@ -71,8 +71,6 @@ pub enum Refusal {
     Start { cpu: usize },
     /// The command can't be used with the script.
     Use(UseFault),
-    /// A script that asks the command for something that isn't built yet.
-    Unbuilt,
 }
 
 /// Why a command makes nothing of its input.

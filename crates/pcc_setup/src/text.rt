@@ -338,7 +338,6 @@ fn put_refusal(out: &mut Vec<u8>, refusal: Refusal) -> Result<(), NoMemory>
         Refusal::Cap { index } => put_numbered(out, b"cap ", index as u64),
         Refusal::Start { cpu } => put_numbered(out, b"start ", cpu as u64),
         Refusal::Use(fault) => put_use(out, fault),
-        Refusal::Unbuilt => put_pieces(out, &[Piece::Text(b"unbuilt")]),
     }
 }
 

@@ -33,6 +33,10 @@ abbrev pub is_asked_by : ℕ → Asks → Bool
 is_asked_by kind System = not (is_responder kind)
 is_asked_by kind Platform = is_responder kind
 
+-- the side that asks: the platform on type 4, but never of a controller of processor performance
+abbrev pub asks_of : ℕ → Bool → Asks
+asks_of kind cppc = if is_responder kind && not cppc then Platform else System
+
 -- ---- registers
 
 -- the space of a register, then its width; where it may be absent, an absent one has no fault

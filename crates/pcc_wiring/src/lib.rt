@@ -12,5 +12,5 @@ mod worked;
 pub use fault::{Asks, Role, WiringFault};
 pub use overlap::{Overlap, opened_apart, overlap_laws};
 pub use place::{place_laws, place_of};
-pub use wiring::{right_wirings, wiring_of};
+pub use wiring::{asks_of, right_wirings, wiring_of};
 pub use worked::worked_cases;

@@ -3,7 +3,7 @@ ghost use Rattle.std.specs.Prelude.{◌≡◌, ℕ, IfOk, None};
 ghost use Rattle.pcct_table.specs.declared.subspace.Subspace.{Subspace};
 ghost use Rattle.pcc_wiring.specs.declared.fault.Asks.{Asks};
 ghost use Rattle.pcc_steps.specs.Wires.{IsRight};
-ghost use Rattle.pcc_wiring.specs.Faults.{fault_by, fault_of, masks_fault, opened_as, register_fault, registers_fault, is_asked_by, Tells, watched_fault, written_fault};
+ghost use Rattle.pcc_wiring.specs.Faults.{asks_of, fault_by, fault_of, masks_fault, opened_as, register_fault, registers_fault, is_asked_by, Tells, watched_fault, written_fault};
 ghost use Rattle.pcc_wiring.specs.Roles.{roles_of};
 ghost use Rattle.pcc_wiring.specs.Wirings.{are_joined, has_register, header_len, mask_of, masks_of, masks_or_none, reports_by, room_limit, room_of, wiring_with};
 
@@ -184,6 +184,18 @@ fn masks_test(wiring: &Wiring) -> Result<(), WiringFault>
         return Err(WiringFault::NeverSets);
     }
     Ok(())
+}
+
+/// The side that asks on a structure of this type: the platform on type 4 where no controller of processor performance is opened (`cppc`),
+/// else the operating system.
+pub fn asks_of(kind: u8, cppc: bool) -> Asks
+    ensures { result ≡ asks_of kind cppc }
+{
+    if is_responder(kind) && !cppc {
+        Asks::Platform
+    } else {
+        Asks::System
+    }
 }
 
 fn is_asked_by(kind: u8, asks: Asks) -> bool

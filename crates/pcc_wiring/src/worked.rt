@@ -1,6 +1,6 @@
 //! The definitions on worked cases.
 ghost use Rattle.std.specs.Prelude.{◌≡◌, ◌-◌, ◌^◌, true, false, Some, None};
-ghost use Rattle.pcc_wiring.specs.Faults.{is_asked_by};
+ghost use Rattle.pcc_wiring.specs.Faults.{asks_of, is_asked_by};
 ghost use Rattle.pcc_wiring.specs.Overlaps.{Meet};
 ghost use Rattle.pcc_wiring.specs.Places.{place_in};
 ghost use Rattle.pcc_wiring.specs.Registers.{cut, is_plain, is_reachable};
@@ -20,6 +20,9 @@ pub fn worked_cases()
     ensures platform_asks { is_asked_by 4 Platform ≡ true }
     ensures system_asks { is_asked_by 3 System ≡ true }
     ensures system_answers { is_asked_by 4 System ≡ false }
+    ensures platform_of_bank { asks_of 4 false ≡ Platform }
+    ensures system_of_controller { asks_of 4 true ≡ System }
+    ensures system_of_others { asks_of 3 false ≡ System }
     ensures input_output { is_reachable (record { space = 1; width = 8; offset = 0; access = 1; address = 178 }) ≡ true }
     ensures no_byte_of_a_bit { is_plain (record { space = 0; width = 4; offset = 0; access = 1; address = 178 }) ≡ false }
     ensures shifted { is_plain (record { space = 0; width = 8; offset = 1; access = 1; address = 178 }) ≡ false }

@@ -113,11 +113,13 @@ IsMade command.Cpc input = (c : Item) × CpcBytes input c
 -- The status, and the text that is to be written. 0: what the command makes of its input, or the summary of a made-up script. 2: the words ask
 -- for nothing that is built. 3: the input is refused.
 pub data Answers (words : List (List ℕ)) (left left' : Option (List ℕ)) : ℕ → List ℕ → Type 0 where
-  Made : (c : Command) → AsksFor words c → (input : List ℕ) → ReadWhole left left' input → (text : List ℕ) → Makes c input text → Answers words left left' 0 text
+  Made : (c : Command) → AsksFor words c → (input : List ℕ) → ReadWhole left left' input → (text : List ℕ) → Makes c input text
+      → Answers words left left' 0 text
   Summed : (n : ℕ) → AsksToMake words n → (text : List ℕ) → IsSummary n text → Answers words left left' 0 text
   Usage : ((r : Request) → Asks words r → ⊥) → Answers words left left' 2 usage_line
   TooLong : (c : Command) → AsksFor words c → ReadMore left left' → Answers words left left' 3 (refused_line refusal.Long)
-  Refused : (c : Command) → AsksFor words c → (input : List ℕ) → ReadWhole left left' input → (r : Refusal) → Refuses c input r → Answers words left left' 3 (refused_line r)
+  Refused : (c : Command) → AsksFor words c → (input : List ℕ) → ReadWhole left left' input → (r : Refusal) → Refuses c input r
+      → Answers words left left' 3 (refused_line r)
 
 -- words that ask for a command, and an input of its grammar that is served and isn't too long
 pub record IsServedInput (words : List (List ℕ)) (left : Option (List ℕ)) : Type 0 where

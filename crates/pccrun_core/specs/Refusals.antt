@@ -19,7 +19,8 @@ use Rattle.pccrun_core.specs.Uses.{use_fault}
 
 -- a text is no table's, with its first fault
 pub data TextRefused (text : List ℕ) : Refusal → Type 0 where
-  WrongLine : ((t : Table) → HasText t → text ≡ show_text t → ⊥) → (line : ℕ) → (wrong : BuildKind) → TextWrong text line wrong → TextRefused text (refusal.TableText line wrong)
+  WrongLine : ((t : Table) → HasText t → text ≡ show_text t → ⊥) → (line : ℕ) → (wrong : BuildKind) → TextWrong text line wrong
+      → TextRefused text (refusal.TableText line wrong)
 
 -- a text spells a scenario
 pub record IsSpelled (text : List ℕ) (s : Scenario) : Type 0 where
@@ -33,7 +34,8 @@ pub data NotServed (c : Command) (s : Scenario) : Refusal → Type 0 where
 
 -- a text is that of no scenario, with its first fault; or a check of its set-up fails; or the command can't be used with it
 pub data ScriptRefused (c : Command) (text : List ℕ) : Refusal → Type 0 where
-  WrongScript : ((s : Scenario) → IsSpelled text s → ⊥) → (line : ℕ) → (wrong : ScriptKind) → ScriptWrong text line wrong → ScriptRefused c text (refusal.Script line wrong)
+  WrongScript : ((s : Scenario) → IsSpelled text s → ⊥) → (line : ℕ) → (wrong : ScriptKind) → ScriptWrong text line wrong
+      → ScriptRefused c text (refusal.Script line wrong)
   Unserved : (s : Scenario) → IsSpelled text s → (r : Refusal) → NotServed c s r → ScriptRefused c text r
 
 -- what a command refuses its whole input for

@@ -93,7 +93,8 @@ fn made(alloc: Global, command: Command, input: &[u8]) -> Result<Vec<u8>, Comman
 #[tactic(auto, using(crate::proofs::Tops::usage, crate::proofs::Tops::summed, crate::proofs::Tops::made_of, crate::proofs::Tops::refused_for, crate::proofs::Tops::not_set_up, crate::proofs::Tops::too_long))]
 fn answer_to<S: Source>(alloc: Global, words: &[String], source: &mut S) -> Result<Answer, Stop>
     ensures answer { IfOk result (λ a. Answers (map (λ w. string_bytes w) words.now) (S.left source.old) (S.left source.new) (code_of a.status) a.text) }
-    ensures read_fault { IsErrOf result Stop.ReadFault → ((c : Command) × AsksFor (map (λ w. string_bytes w) words.now) c) × Rose (S.faults source.old) (S.faults source.new) }
+    ensures read_fault { IsErrOf result Stop.ReadFault → ((c : Command) × AsksFor (map (λ w. string_bytes w) words.now) c)
+        × Rose (S.faults source.old) (S.faults source.new) }
     ensures unasked { ((c : Command) → AsksFor (map (λ w. string_bytes w) words.now) c → ⊥) → source.new ≡ source.old }
 {
     let command = match request_of(words) {
@@ -189,7 +190,8 @@ pub fn run<S: Source, W: Sink>(
         → result.status ≢ 6 → result.status ≡ 3 }
 
     // A made-up script is always run, where the sink doesn't fail and memory doesn't run out.
-    ensures made { (n : ℕ) → AsksToMake (map (λ w. string_bytes w) words.now) n → (Rose (W.faults sink.old) (W.faults sink.new) → ⊥) → result.status ≢ 6 → result.status ≡ 0 }
+    ensures made { (n : ℕ) → AsksToMake (map (λ w. string_bytes w) words.now) n → (Rose (W.faults sink.old) (W.faults sink.new) → ⊥)
+        → result.status ≢ 6 → result.status ≡ 0 }
 
     // Words that ask for no command on the input leave the source as it was.
     ensures unasked { ((c : Command) → AsksFor (map (λ w. string_bytes w) words.now) c → ⊥) → source.new ≡ source.old }

@@ -205,7 +205,6 @@ fn lines_of_refusals(rt: HostRuntime) -> Result<(), Fail> {
             b"refused overlap 1 0\n",
         ),
         (Refusal::Use(UseFault::Wait), b"refused use wait\n"),
-        (Refusal::Unbuilt, b"refused unbuilt\n"),
     ];
     for (refusal, text) in rows {
         let line = refused_line(alloc, refusal)?;
