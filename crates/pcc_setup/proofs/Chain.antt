@@ -36,7 +36,7 @@ here Passes Refuses Next (error.Refused r) h = (Here r h.0, h.1)
 here Passes Refuses Next error.NoMemory h = tt
 
 -- the error of a later check
-pub behind : {X : Type 0} (Passes : X → Type 0) (Refuses : Refusal → Type 0) (Next : X → Refusal → Type 0) (x : X) (e : InputError) → Passes x
+pub passed : {X : Type 0} (Passes : X → Type 0) (Refuses : Refusal → Type 0) (Next : X → Refusal → Type 0) (x : X) (e : InputError) → Passes x
     → IsRefusedFor (Next x) e → IsRefusedFor (Fails Passes Refuses Next) e
-behind Passes Refuses Next x (error.Refused r) p h = (Later x p r h.0, h.1)
-behind Passes Refuses Next x error.NoMemory p h = tt
+passed Passes Refuses Next x (error.Refused r) p h = (Later x p r h.0, h.1)
+passed Passes Refuses Next x error.NoMemory p h = tt

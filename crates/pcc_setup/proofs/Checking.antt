@@ -101,11 +101,11 @@ followed os bytes len p h lt =
     subst (λ (k : ℕ). Unbound os bytes (fault.Trailing k)) n (FollowedBy (take len bytes) (drop len bytes) p h (sym (take-append-drop len bytes)) some)
 
 -- what becomes of a package, as what becomes of its bytes
-pub bound_by : (os : List Opened) (bytes : List ℕ) (p : Item) (r : Result Binding CpuError) → ((x : List Opened) → CpcBytes bytes p)
+pub bound_by : (os : List Opened) (bytes : List ℕ) (p : Item) (r : Result Binding CpuError) → CpcBytes bytes p
     → MatchResult r (λ b. (entries_fault os (entries_of p) ≡ None) × (b ≡ binding_of (entries_of p))) (IfFault (λ f. entries_fault os (entries_of p) ≡ Some f))
     → MatchResult r (Binds os bytes) (IfFault (Unbound os bytes))
-bound_by os bytes p (Ok b) spelled h = record { cpc = p; spelled = spelled os; fits = h.0; binding_is = h.1 }
-bound_by os bytes p (Err (error.Fault f)) spelled h = Misfit p (spelled os) f h
+bound_by os bytes p (Ok b) spelled h = record { cpc = p; spelled = spelled; fits = h.0; binding_is = h.1 }
+bound_by os bytes p (Err (error.Fault f)) spelled h = Misfit p spelled f h
 bound_by os bytes p (Err error.NoMemory) spelled h = tt
 
 -- and beside the processors before

@@ -24,7 +24,7 @@ use Rattle.pcc_setup.specs.RefusalText.{IsRefusedFor}
 use Rattle.pcc_setup.specs.SetUps.{ActionRefused, AfterCaps, AfterCpus, AfterMemories, AfterOpens, AfterTable, AllNamed, FirstAction, FirstMeeting, IsSetUp, IsSetUpOf, MeetRefused, OpenRefused, Opens, SetUpRefused, TableRefused, action_fault, first_action}
 use Rattle.pcc_setup.proofs.Bound.{one_bound}
 use Rattle.pcc_setup.specs.declared.setup.SetUp.{SetUp}
-use Rattle.pcc_setup.proofs.Chain.{behind, here}
+use Rattle.pcc_setup.proofs.Chain.{passed, here}
 use Rattle.pcc_setup.proofs.Housing.{all_housed, few_opened, small_rooms}
 use Rattle.pcct_codec.proofs.Headers.{one_table}
 
@@ -35,13 +35,13 @@ wrong_table s bytes e same h =
     here (TableBytes s.table) (TableRefused s.table) (AfterTable s) e (subst (λ (b : List ℕ). IsRefusedFor (TableRefused b) e) same h)
 
 pub after_table : (s : Scenario) (t : Table) (e : InputError) → TableBytes s.table t → IsRefusedFor (AfterTable s t) e → IsRefusedFor (SetUpRefused s) e
-after_table s t e bytes h = behind (TableBytes s.table) (TableRefused s.table) (AfterTable s) t e bytes h
+after_table s t e bytes h = passed (TableBytes s.table) (TableRefused s.table) (AfterTable s) t e bytes h
 
 pub wrong_open : (s : Scenario) (t : Table) (e : InputError) → IsRefusedFor (OpenRefused t s.opens) e → IsRefusedFor (AfterTable s t) e
 wrong_open s t e h = here {X = Unit {0}} (λ ok. AllOpen t s.opens (length s.opens)) (OpenRefused t s.opens) (λ ok. AfterOpens s t) e h
 
 after_opens : (s : Scenario) (t : Table) (e : InputError) → AllOpen t s.opens (length s.opens) → IsRefusedFor (AfterOpens s t) e → IsRefusedFor (AfterTable s t) e
-after_opens s t e opened h = behind {X = Unit {0}} (λ ok. AllOpen t s.opens (length s.opens)) (OpenRefused t s.opens) (λ ok. AfterOpens s t) tt e opened h
+after_opens s t e opened h = passed {X = Unit {0}} (λ ok. AllOpen t s.opens (length s.opens)) (OpenRefused t s.opens) (λ ok. AfterOpens s t) tt e opened h
 
 pub meeting : (s : Scenario) (t : Table) (e : InputError) → AllOpen t s.opens (length s.opens) → IsRefusedFor (MeetRefused (memories_by t s.opens)) e → IsRefusedFor (AfterTable s t) e
 meeting s t e opened h = after_opens s t e opened
@@ -50,7 +50,7 @@ meeting s t e opened h = after_opens s t e opened
 after_memories : (s : Scenario) (t : Table) (e : InputError) → AllOpen t s.opens (length s.opens) → AreApart (memories_by t s.opens)
     → IsRefusedFor (AfterMemories s (opened_by t s.opens)) e → IsRefusedFor (AfterTable s t) e
 after_memories s t e opened apart h = after_opens s t e opened
-    (behind {X = Unit {0}} (λ ok. AreApart (memories_by t s.opens)) (MeetRefused (memories_by t s.opens)) (λ ok. AfterMemories s (opened_by t s.opens)) tt e apart h)
+    (passed {X = Unit {0}} (λ ok. AreApart (memories_by t s.opens)) (MeetRefused (memories_by t s.opens)) (λ ok. AfterMemories s (opened_by t s.opens)) tt e apart h)
 
 pub wrong_cpu : (s : Scenario) (t : Table) (os : List Opened) (e : InputError) → AllOpen t s.opens (length s.opens) → AreApart (memories_by t s.opens) → os ≡ opened_by t s.opens
     → IsRefusedFor (CpuRefused os s.cpus) e → IsRefusedFor (AfterTable s t) e
@@ -60,7 +60,7 @@ wrong_cpu s t os e opened apart is h = after_memories s t e opened apart
 after_cpus : (s : Scenario) (t : Table) (os : List Opened) (cpus : List Binding) (e : InputError) → AllOpen t s.opens (length s.opens) → AreApart (memories_by t s.opens)
     → os ≡ opened_by t s.opens → AreBound os s.cpus cpus → IsRefusedFor (AfterCpus s os cpus) e → IsRefusedFor (AfterTable s t) e
 after_cpus s t os cpus e opened apart is bound h = after_memories s t e opened apart
-    (subst (λ (v : List Opened). IsRefusedFor (AfterMemories s v) e) is (behind (AreBound os s.cpus) (CpuRefused os s.cpus) (AfterCpus s os) cpus e bound h))
+    (subst (λ (v : List Opened). IsRefusedFor (AfterMemories s v) e) is (passed (AreBound os s.cpus) (CpuRefused os s.cpus) (AfterCpus s os) cpus e bound h))
 
 pub wrong_cap : (s : Scenario) (t : Table) (os : List Opened) (cpus : List Binding) (e : InputError) → AllOpen t s.opens (length s.opens) → AreApart (memories_by t s.opens)
     → os ≡ opened_by t s.opens → AreBound os s.cpus cpus → IsRefusedFor (CapRefused os s.caps) e → IsRefusedFor (AfterTable s t) e
@@ -70,7 +70,7 @@ wrong_cap s t os cpus e opened apart is bound h = after_cpus s t os cpus e opene
 after_caps : (s : Scenario) (t : Table) (os : List Opened) (cpus : List Binding) (e : InputError) → AllOpen t s.opens (length s.opens) → AreApart (memories_by t s.opens)
     → os ≡ opened_by t s.opens → AreBound os s.cpus cpus → AreCapsRight os s.caps (length s.caps) → IsRefusedFor (AfterCaps s os cpus) e → IsRefusedFor (AfterTable s t) e
 after_caps s t os cpus e opened apart is bound capped h = after_cpus s t os cpus e opened apart is bound
-    (behind {X = Unit {0}} (λ ok. AreCapsRight os s.caps (length s.caps)) (CapRefused os s.caps) (λ ok. AfterCaps s os cpus) tt e capped h)
+    (passed {X = Unit {0}} (λ ok. AreCapsRight os s.caps (length s.caps)) (CapRefused os s.caps) (λ ok. AfterCaps s os cpus) tt e capped h)
 
 pub wrong_start : (s : Scenario) (t : Table) (os : List Opened) (cpus : List Binding) (e : InputError) → AllOpen t s.opens (length s.opens) → AreApart (memories_by t s.opens)
     → os ≡ opened_by t s.opens → AreBound os s.cpus cpus → AreCapsRight os s.caps (length s.caps) → IsRefusedFor (StartRefused os cpus) e → IsRefusedFor (AfterTable s t) e
@@ -81,7 +81,7 @@ pub wrong_action : (s : Scenario) (t : Table) (os : List Opened) (cpus : List Bi
     → os ≡ opened_by t s.opens → AreBound os s.cpus cpus → AreCapsRight os s.caps (length s.caps) → StartInside os cpus (length cpus)
     → IsRefusedFor (ActionRefused s) e → IsRefusedFor (AfterTable s t) e
 wrong_action s t os cpus e opened apart is bound capped inside h = after_caps s t os cpus e opened apart is bound capped
-    (behind {X = Unit {0}} (λ ok. StartInside os cpus (length cpus)) (StartRefused os cpus) (λ ok. ActionRefused s) tt e inside h)
+    (passed {X = Unit {0}} (λ ok. StartInside os cpus (length cpus)) (StartRefused os cpus) (λ ok. ActionRefused s) tt e inside h)
 
 -- ---- what a function passes on
 

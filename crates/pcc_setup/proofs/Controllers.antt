@@ -49,7 +49,7 @@ truth b h k = absurd cc
 pub nothing : {A : Type 0} (x : A) → None ≡ Some x → ⊥
 nothing x e = absurd cc
 
-all_from : {A : Type 0} (P : A → Type 0) (xs : List A) → ((i : ℕ) (x : A) → slice_get xs i ≡ Some x → P x) → AllByRecursion P xs
+pub all_from : {A : Type 0} (P : A → Type 0) (xs : List A) → ((i : ℕ) (x : A) → slice_get xs i ≡ Some x → P x) → AllByRecursion P xs
 all_from P [] h = tt
 all_from P (x ∷ xs) h = (h zero x refl, all_from P xs (λ i y at. h (suc i) y at))
 
@@ -80,10 +80,10 @@ not_twice d true b None h = absurd cc
 not_twice d true b (Some u) h = absurd cc
 not_twice d false b o h = refl
 
-open_rest : (t : Table) (o : OpenLine) (os : List OpenLine) → AllOpen t (o ∷ os) (length (o ∷ os)) → AllOpen t os (length os)
+pub open_rest : (t : Table) (o : OpenLine) (os : List OpenLine) → AllOpen t (o ∷ os) (length (o ∷ os)) → AllOpen t os (length os)
 open_rest t o os h i p lt at = tail_fault p.device (o.id == p.id) (opens_id p.id (take i os)) (slice_get t.subspaces p.id) (h (suc i) p (omega (arith, lt)) at)
 
-once : (t : Table) (o : OpenLine) (os : List OpenLine) → AllOpen t (o ∷ os) (length (o ∷ os)) → (i : ℕ) (p : OpenLine) → slice_get os i ≡ Some p → o.id ≢ p.id
+pub once : (t : Table) (o : OpenLine) (os : List OpenLine) → AllOpen t (o ∷ os) (length (o ∷ os)) → (i : ℕ) (p : OpenLine) → slice_get os i ≡ Some p → o.id ≢ p.id
 once t o os h i p at =
     let lt : i < length os = slice_get_within os i p at in
     eqb-false o.id p.id (not_twice p.device (o.id == p.id) (opens_id p.id (take i os)) (slice_get t.subspaces p.id) (h (suc i) p (omega (arith, lt)) at))

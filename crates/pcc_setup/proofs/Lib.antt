@@ -9,5 +9,5 @@ mod Bound
 mod Chain
 mod Checking
 pub mod OneFault
-mod Controllers
+pub mod Controllers
 mod Housing

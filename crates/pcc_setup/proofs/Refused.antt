@@ -11,20 +11,20 @@ use Rattle.pcct_codec.proofs.Decisions.{right_source}
 use Rattle.pcct_codec.proofs.Headers.{told_more, told_table}
 use Rattle.pcc_setup.specs.declared.refusal.Refusal.{Refusal}
 use Rattle.pcc_setup.specs.declared.refusal.Refusal.TheVariants as refusal
-use Rattle.pcc_setup.specs.RefusalText.{IsTold}
+use Rattle.pcc_setup.specs.RefusalText.{IsOfBytes}
 use Rattle.pcc_setup.specs.SetUps.{Followed, TableRefused, Wrong}
 
--- bytes that were put behind others
-pub put_behind : {E T : Type 0} (r : Result T E) (old mid new front back : List ℕ) → mid ≡ old ++ front → OnOk r (new ≡ mid ++ back) → OnOk r (new ≡ old ++ (front ++ back))
-put_behind {E = E} {T = T} (Ok v) old mid new front back e h = h ∙ ap (λ (v : List ℕ). v ++ back) e ∙ append_assoc old front back
-put_behind {E = E} {T = T} (Err x) old mid new front back e h = h
+-- bytes that were put after others
+pub put_after : {E T : Type 0} (r : Result T E) (old mid new front back : List ℕ) → mid ≡ old ++ front → OnOk r (new ≡ mid ++ back) → OnOk r (new ≡ old ++ (front ++ back))
+put_after {E = E} {T = T} (Ok v) old mid new front back e h = h ∙ ap (λ (v : List ℕ). v ++ back) e ∙ append_assoc old front back
+put_after {E = E} {T = T} (Err x) old mid new front back e h = h
 
 pub three_before : (a b c back : List ℕ) → (a ++ (b ++ (c ++ []))) ++ back ≡ a ++ (b ++ (c ++ back))
 three_before a b c back = simp (append_assoc, append-nil)
 
 -- ---- tables
 
--- bytes stand behind a table
+-- bytes follow a table
 pub followed : (bytes : List ℕ) (len : ℕ) (t : Table) → TableBytes (take len bytes) t → len < length bytes → TableRefused bytes (refusal.Trailing len)
 followed bytes len t h lt =
     let n : length (take len bytes) ≡ len = omega (arith, length-take len bytes) in
@@ -33,7 +33,7 @@ followed bytes len t h lt =
     subst P n (Followed (take len bytes) (drop len bytes) t h (sym (take-append-drop len bytes)) some)
 
 -- a fault of bytes
-pub wrong : (bytes : List ℕ) (fault : TableFault) → FaultIs fault (decision true bytes) → fault ≢ NoMemory → fault ≢ ReadFault → TableRefused bytes (refusal.Table fault) × IsTold fault
+pub wrong : (bytes : List ℕ) (fault : TableFault) → FaultIs fault (decision true bytes) → fault ≢ NoMemory → fault ≢ ReadFault → TableRefused bytes (refusal.Table fault) × IsOfBytes fault
 wrong bytes (Short at) h a b = (Wrong (Short at) h, tt)
 wrong bytes Signature h a b = (Wrong Signature h, tt)
 wrong bytes (LengthOutside len) h a b = (Wrong (LengthOutside len) h, tt)

@@ -35,7 +35,7 @@ same_fault d f g a b = cc
 not_wrong : (bytes front rest : List ℕ) (t : Table) (f : TableFault) → TableBytes front t → bytes ≡ front ++ rest → decision true bytes ≡ Faulty f → ⊥
 not_wrong bytes front rest t f h e wrong = let right : decision true bytes ≡ Right = ap (decision true) e ∙ right_source true front rest t h in cc
 
--- the length that a table's header tells
+-- the length in a table's header
 told : (bytes front rest : List ℕ) (t : Table) → TableBytes front t → bytes ≡ front ++ rest → told_length bytes ≡ Ok (length front)
 told bytes front rest t h e = let least : 48 ≤ length front = h.least in ap told_length e ∙ told_more front rest least ∙ told_table front t h
 

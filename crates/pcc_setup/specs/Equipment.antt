@@ -1,5 +1,6 @@
 -- What controllers begin with: their caps, the range of each processor at first, and which processors and caps each opened subspace gets.
-use Rattle.std.specs.Prelude.{◌≡◌, ◌≤◌, ◌<◌, ◌^◌, ℕ, ◌==◌, ◌&&◌, ◌||◌, not, nat_lt, Bool, true, false, List, All, filter, length, map, slice_get, take, Some, None, IfSome}
+use Rattle.std.specs.Prelude.{◌≡◌, ◌≤◌, ◌<◌, ◌^◌, ℕ, ◌==◌, ◌&&◌, ◌||◌, not, nat_lt, Bool, true, false}
+use Rattle.std.specs.Prelude.{List, All, filter, length, map, slice_get, take, Some, None, IfSome}
 use Rattle.std.specs.List.{AllZip, list_all, list_any}
 use Rattle.cpc_package.specs.Bindings.{AreProcessors}
 use Rattle.cpc_package.specs.declared.binding.Binding.{Binding}

@@ -1,4 +1,5 @@
 pub mod Openings
+pub mod Packages
 pub mod Processors
 pub mod Equipment
 pub mod RefusalText

@@ -1,5 +1,6 @@
 -- The structure that an `open` line names, or why it isn't opened.
-use Rattle.std.specs.Prelude.{◌≡◌, ◌<◌, ℕ, ◌==◌, nat_le, Bool, true, false, if◌then◌else◌, List, [], ◌∷◌, length, take, Option, Some, None, slice_get}
+use Rattle.std.specs.Prelude.{◌≡◌, ◌<◌, ℕ, ◌==◌, nat_le, Bool, true, false, if◌then◌else◌, List, []}
+use Rattle.std.specs.Prelude.{◌∷◌, length, replicate, take, Option, Some, None, slice_get}
 use Rattle.std.specs.List.{flat_map, list_any}
 use Rattle.pcc_journal.specs.declared.text.JournalHead.{JournalHead}
 use Rattle.pcc_script.specs.declared.scenario.Device.{Device}
@@ -76,6 +77,14 @@ head_by device w s = record {
 -- the head of the journal of a structure with this ID; no flag of the table changes it
 abbrev pub head_of : Device → ℕ → Subspace → JournalHead
 head_of device id s = head_by device (wiring_with id 0 s) s
+
+-- the head of the journal of a structure that a line opens
+abbrev pub head_on : OpenLine → Subspace → JournalHead
+head_on o s = head_of o.device o.id s
+
+-- a communication space of zeros, of the room in a head
+abbrev pub zeros_in : JournalHead → List ℕ
+zeros_in head = replicate head.room 0
 
 -- a structure with this ID, in a table with these flags, before it gets its processors and its caps
 abbrev pub opened_with : Device → ℕ → ℕ → Option Subspace → List Opened

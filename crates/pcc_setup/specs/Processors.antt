@@ -1,5 +1,6 @@
 -- The processors of a script: the controller that each package names, and how its registers are bound there.
-use Rattle.std.specs.Prelude.{◌≡◌, ◌≤◌, ◌<◌, ◌^◌, ℕ, ◌==◌, ◌&&◌, Bool, if◌then◌else◌, List, ◌++◌, AllPairs, length, slice_get, slice_index_or, take, find, Option, Some, None}
+use Rattle.std.specs.Prelude.{◌≡◌, ◌≤◌, ◌<◌, ◌^◌, ℕ, ◌==◌, ◌&&◌, Bool, if◌then◌else◌}
+use Rattle.std.specs.Prelude.{List, ◌++◌, AllPairs, length, slice_get, slice_index_or, take, find, Option, Some, None}
 use Rattle.std.specs.List.{AllZip}
 use Rattle.aml_pkg.specs.declared.item.Item.{Item}
 use Rattle.pcc_gas.specs.declared.address.Gas.{Gas}

@@ -6,7 +6,8 @@ use Rattle.pcc_script.specs.declared.fault.ScriptKind.TheVariants as script
 use Rattle.pcct_table.specs.declared.build.BuildKind.{BuildKind}
 use Rattle.pcct_table.specs.declared.build.BuildKind.TheVariants as kind
 use Rattle.pcct_codec.specs.declared.fault.TableFault.{TableFault}
-use Rattle.pcct_codec.specs.declared.fault.TableFault.TheVariants.{Short, Signature, LengthOutside, Revision, TooMany, Overrun, SubspaceType, SubspaceLength, Checksum, ReadFault, NoMemory}
+use Rattle.pcct_codec.specs.declared.fault.TableFault.TheVariants.{Short, Signature, LengthOutside, Revision, TooMany, Overrun}
+use Rattle.pcct_codec.specs.declared.fault.TableFault.TheVariants.{SubspaceType, SubspaceLength, Checksum, ReadFault, NoMemory}
 use Rattle.cpc_package.specs.PackageText.{kind_text}
 use Rattle.cpc_package.specs.declared.binding.BindFault.{BindFault}
 use Rattle.cpc_package.specs.declared.binding.BindFault.TheVariants as bind
@@ -145,14 +146,14 @@ abbrev pub refused_line : Refusal → List ℕ
 refused_line r = codes "refused " ++ (spelled (refusal_pieces r) ++ codes "\n")
 
 -- a fault of bytes
-abbrev pub IsTold : TableFault → Type 0
-IsTold ReadFault = ⊥
-IsTold NoMemory = ⊥
-IsTold fault = Unit {0}
+abbrev pub IsOfBytes : TableFault → Type 0
+IsOfBytes ReadFault = ⊥
+IsOfBytes NoMemory = ⊥
+IsOfBytes fault = Unit {0}
 
 -- a table's fault is one of bytes
 abbrev pub HasLine : Refusal → Type 0
-HasLine (refusal.Table fault) = IsTold fault
+HasLine (refusal.Table fault) = IsOfBytes fault
 HasLine r = Unit {0}
 
 -- what holds of the refusal, if an error is one

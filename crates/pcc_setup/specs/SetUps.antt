@@ -1,6 +1,7 @@
 -- The checks of a script's set-up in their order: the table, the `open` lines, the memories, the processors, the caps, the ranges at first, and the
 -- actions.
-use Rattle.std.specs.Prelude.{◌≡◌, ◌≤◌, ◌<◌, ℕ, ◌+◌, ◌==◌, ◌&&◌, nat_lt, Bool, true, false, if◌then◌else◌, List, ◌++◌, length, map, take, Option, Some, None, slice_get}
+use Rattle.std.specs.Prelude.{◌≡◌, ◌≤◌, ◌<◌, ℕ, ◌+◌, ◌==◌, ◌&&◌, nat_lt, Bool, true, false, if◌then◌else◌}
+use Rattle.std.specs.Prelude.{List, ◌++◌, length, map, take, Option, Some, None, slice_get}
 use Rattle.std.specs.List.{list_all, list_any}
 use Rattle.cpc_package.specs.declared.binding.Binding.{Binding}
 use Rattle.pcct_table.specs.declared.table.Table.{Table}

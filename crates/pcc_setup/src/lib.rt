@@ -5,6 +5,7 @@
 mod action;
 mod equipment;
 mod opening;
+mod package;
 mod places;
 mod processor;
 mod refusal;
@@ -15,6 +16,7 @@ mod worked;
 
 pub use action::{ActionFault, are_banks};
 pub use opening::{Caps, OpenFault, Opened, OpenedList};
+pub use package::{PackageError, whole_package};
 pub use places::{CpuPlace, CpuPlaces};
 pub use refusal::{CpuFault, InputError, Refusal, UseFault};
 pub use setup::{SetUp, SetUpError, first_action, set_up, set_up_laws};

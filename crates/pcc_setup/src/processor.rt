@@ -3,7 +3,6 @@ ghost use Rattle.std.specs.Prelude.{◌≡◌, ◌≤◌, ◌<◌, ◌^◌, ℕ,
 ghost use Rattle.std.specs.List.{AllByRecursion, list_any};
 ghost use Rattle.cpc_package.specs.Bindings.{ShareBit, binding_of, gas_of};
 ghost use Rattle.cpc_package.specs.Entries.{entries_of, entry_at};
-ghost use Rattle.cpc_package.specs.Packages.{CpcBytes};
 ghost use Rattle.pcc_setup.specs.Processors.{
   AreBound,
   Binds,
@@ -24,10 +23,9 @@ ghost use Rattle.pcc_setup.specs.RefusalText.{IsRefusedFor};
 ghost use Rattle.pcc_setup.specs.declared.opening.Opened.{Opened};
 
 use crate::opening::Opened;
+use crate::package::{PackageError, whole_package};
 use crate::refusal::{CpuFault, InputError, Refusal};
-use cpc_package::{
-    Binding, Cpc, CpcError, CpcFault, Entry, bind, cpc_from, cpus_apart, package_laws,
-};
+use cpc_package::{Binding, Cpc, Entry, bind, cpus_apart};
 use pcc_script::Packages;
 use std::alloc::Global;
 
@@ -98,28 +96,6 @@ fn named_subspace(cpc: &Cpc) -> Option<u8>
     None
 }
 
-// The package that all bytes spell.
-fn whole_package(alloc: Global, bytes: &[u8]) -> Result<Cpc, CpuError>
-    requires { length bytes.now < 2 ^ 32 }
-    ensures { (os : List Opened) → MatchResult result (CpcBytes bytes.now) (IfFault (Unbound os bytes.now)) }
-{
-    package_laws();
-    match cpc_from(alloc, bytes) {
-        Ok((cpc, len)) => {
-            if len < bytes.len() {
-                Err(CpuError::Fault(CpuFault::Trailing { at: len }))
-            } else {
-                Ok(cpc)
-            }
-        }
-        Err(CpcError::Fault { entry, at, kind }) => {
-            let fault = CpcFault { entry, at, kind };
-            Err(CpuError::Fault(CpuFault::Package(fault)))
-        }
-        Err(CpcError::NoMemory) => Err(CpuError::NoMemory),
-    }
-}
-
 // The binding of a package to the controller that it names.
 #[tactic(auto, using(crate::proofs::Checking::no_subspace, crate::proofs::Checking::no_controller, crate::proofs::Checking::bound_in))]
 fn bound_to(opened: &[Opened], cpc: &Cpc) -> Result<Binding, CpuError>
@@ -148,7 +124,9 @@ fn bound(alloc: Global, opened: &[Opened], bytes: &[u8]) -> Result<Binding, CpuE
 {
     match whole_package(alloc, bytes) {
         Ok(cpc) => bound_to(opened, &cpc),
-        Err(error) => Err(error),
+        Err(PackageError::Wrong(fault)) => Err(CpuError::Fault(CpuFault::Package(fault))),
+        Err(PackageError::Trailing { at }) => Err(CpuError::Fault(CpuFault::Trailing { at })),
+        Err(PackageError::NoMemory) => Err(CpuError::NoMemory),
     }
 }
 

@@ -4,7 +4,25 @@ ghost use Rattle.pcc_text.specs.Pieces.{Decimal, Words, spelled};
 ghost use Rattle.pcct_codec.specs.declared.fault.TableFault.TheVariants.{SubspaceLength, SubspaceType};
 ghost use Rattle.cpc_package.specs.declared.binding.BindFault.TheVariants as bind;
 ghost use Rattle.pcc_setup.specs.declared.refusal.Refusal.TheVariants as refusal;
-ghost use Rattle.pcc_setup.specs.RefusalText.{HasLine, IsTold, action_word, bind_pieces, cpu_pieces, fault_pieces, kind_word, line_pieces, numbered, open_pieces, package_pieces, refusal_pieces, refused_line, role_word, script_word, use_word, wiring_pieces};
+ghost use Rattle.pcc_setup.specs.RefusalText.{
+  HasLine,
+  IsOfBytes,
+  action_word,
+  bind_pieces,
+  cpu_pieces,
+  fault_pieces,
+  kind_word,
+  line_pieces,
+  numbered,
+  open_pieces,
+  package_pieces,
+  refusal_pieces,
+  refused_line,
+  role_word,
+  script_word,
+  use_word,
+  wiring_pieces,
+};
 
 use crate::action::ActionFault;
 use crate::opening::OpenFault;
@@ -55,7 +73,7 @@ fn put_size(out: &mut Vec<u8>, at: u32, kind: u8, found: u8) -> Result<(), NoMem
 }
 
 fn put_fault(out: &mut Vec<u8>, fault: TableFault) -> Result<(), NoMemory>
-    requires { IsTold fault }
+    requires { IsOfBytes fault }
     ensures { OnOk result (out.new.items ≡ out.old.items ++ spelled (fault_pieces fault)) }
 {
     match fault {

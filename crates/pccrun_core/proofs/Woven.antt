@@ -1,6 +1,6 @@
 -- The readings and the journal of a woven trace.
 use Rattle.std.proofs.Common.{◌≡◌, ℕ, zero, suc, ◌+◌, ◌-◌, ◌^◌, ◌<◌, ◌≤◌, min, ltb, Bool, true, false, List, [], ◌∷◌, ◌++◌, length, get_or, refl, sym, ap, ◌∙◌, subst, arith}
-use Rattle.std.specs.Prelude.{IfSome, Option, Some, None, slice_get, slice_index, map, replicate}
+use Rattle.std.specs.Prelude.{IfSome, Option, Some, None, slice_get, slice_index, map}
 use Rattle.std.specs.List.{AllByRecursion}
 use Rattle.std.proofs.lemmas.Bool.{le-ltb, ltb-false, ltb-true}
 use Rattle.std.proofs.lemmas.List.{get_or_append_left, length-append, length-map}
@@ -37,7 +37,7 @@ use Rattle.channel_plain.specs.Weaving.{Readings, reads, unread}
 use Rattle.channel_plain.specs.Wholes.{IsWhole}
 use Rattle.channel_plain.specs.WordRuns.{WordRun, flown}
 use Rattle.pcc_script.specs.declared.scenario.OpenLine.{OpenLine}
-use Rattle.pcc_setup.specs.Openings.{head_of}
+use Rattle.pcc_setup.specs.Openings.{head_on, zeros_in}
 use Rattle.pccrun_core.specs.Weaving.{AreReadings, IsCall, IsWoven, asked_by, side_of}
 use Rattle.weave_headline.proofs.Headlines.{word_headline}
 use Rattle.pcc_wiring.specs.Wirings.{wiring_with}
@@ -131,25 +131,25 @@ have_polls ls calls h k e = subst HavePolls (sym e) (record { least = least_of l
 
 -- what is written is a trace and its journal
 pub is_woven : (s : Scenario) (t : Table) (o : OpenLine) (u : Subspace) (letters : List Letter) (w : Wiring) (limits : Limits) (state : List ℕ) (begin end : PlainState) (clock0 clock : LineState) (calls : List Asked) (sides : List Side) (trace : List TraceLine) (rs text : List ℕ)
-    → s.opens ≡ o ∷ [] → slice_get t.subspaces o.id ≡ Some u → s.picks ≡ Some letters → length letters ≤ 65536 → w ≡ wiring_with o.id t.flags u → limits ≡ (head_of o.device o.id u).limits → state ≡ 0 ∷ replicate (head_of o.device o.id u).room 0
+    → s.opens ≡ o ∷ [] → slice_get t.subspaces o.id ≡ Some u → s.picks ≡ Some letters → length letters ≤ 65536 → w ≡ wiring_with o.id t.flags u → limits ≡ (head_on o u).limits → state ≡ 0 ∷ zeros_in (head_on o u)
     → IsNew w limits state begin → clock0 ≡ line_clock s → calls ≡ map asked_by s.actions → sides ≡ map side_of letters
     → Readings ticks_of line_tells clock0 rs clock → length rs ≤ length sides
     → WordRun bank_exec begin.ask.wiring begin.calls.limits begin.start (opening_of begin.ask.wiring) calls sides trace rs end.calls.records (flown end.ask.in_flight end.calls.sent) (exchanges_of_commands end.executed)
     → IsGood bank_exec end → IsWhole (opening_of begin.ask.wiring) calls end.calls.records → Stays begin end
-    → text ≡ trace_text trace ++ journal_text (head_of o.device o.id u) end.calls.records (pending_by end.ask.in_flight end.calls.sent) → IsWoven s t text
+    → text ≡ trace_text trace ++ journal_text (head_on o u) end.calls.records (pending_by end.ask.in_flight end.calls.sent) → IsWoven s t text
 is_woven s t o u letters w limits state begin end clock0 clock calls sides trace rs text alone first chosen few wired limited stated new clocked called sided readings bound run good whole stay is =
     let n : length (map side_of letters) ≡ length letters = length-map letters side_of in
     let m : length sides ≡ length (map side_of letters) = ap length sided in
     let wires : begin.ask.wiring ≡ wiring_with o.id t.flags u = new.ask.0 ∙ wired in
-    let lims : begin.calls.limits ≡ (head_of o.device o.id u).limits = ap (λ (k : CallsState). k.limits) new.calls ∙ limited in
-    let start : begin.start ≡ 0 ∷ replicate (head_of o.device o.id u).room 0 = new.start ∙ stated in
+    let lims : begin.calls.limits ≡ (head_on o u).limits = ap (λ (k : CallsState). k.limits) new.calls ∙ limited in
+    let start : begin.start ≡ 0 ∷ zeros_in (head_on o u) = new.start ∙ stated in
     let R : Wiring × Limits × List ℕ × List Asked × List Side → Type 0 = λ z. WordRun bank_exec z.0 z.1 z.2 (opening_of z.0) z.3 z.4 trace rs end.calls.records (flown end.ask.in_flight end.calls.sent) (exchanges_of_commands end.executed) in
     let C : LineState → Type 0 = λ c. Readings ticks_of line_tells c rs clock in
-    let reports : end.ask.wiring.reports ≡ (head_of o.device o.id u).reports = ap (λ (x : Wiring). x.reports) (stay.wiring ∙ wires) in
+    let reports : end.ask.wiring.reports ≡ (head_on o u).reports = ap (λ (x : Wiring). x.reports) (stay.wiring ∙ wires) in
     let L : Bool × List ℕ → Type 0 = λ z. Legal bank_exec z.0 z.1 (exchanges_of end.calls.records) in
     let W : Wiring × List Asked → Type 0 = λ z. IsWhole (opening_of z.0) z.1 end.calls.records in
     let K : Limits → Type 0 = λ l. WithinLimits l (times_of end.calls.records) (post_of (flown end.ask.in_flight end.calls.sent)) in
-    let legal : Legal bank_exec (head_of o.device o.id u).reports (0 ∷ replicate (head_of o.device o.id u).room 0) (exchanges_of end.calls.records) = subst L (λ i. (reports i, (stay.start ∙ start) i)) good.legal in
+    let legal : Legal bank_exec (head_on o u).reports (0 ∷ zeros_in (head_on o u)) (exchanges_of end.calls.records) = subst L (λ i. (reports i, (stay.start ∙ start) i)) good.legal in
     let wired_run = subst R (λ i. (wires i, lims i, start i, called i, sided i)) run in
     record {
       open_line = o;
@@ -169,7 +169,7 @@ is_woven s t o u letters w limits state begin end clock0 clock calls sides trace
       whole = subst W (λ i. (wires i, called i)) whole;
       ahead = good.ahead;
       limits = subst K (stay.limits ∙ lims) (limits_flown end.calls.limits (times_of end.calls.records) end.ask.in_flight end.calls.sent good.limits);
-      headline = word_headline bank_exec (wiring_with o.id t.flags u) (head_of o.device o.id u).limits (0 ∷ replicate (head_of o.device o.id u).room 0) (replicate (head_of o.device o.id u).room 0) (map asked_by s.actions)
+      headline = word_headline bank_exec (wiring_with o.id t.flags u) (head_on o u).limits (0 ∷ zeros_in (head_on o u)) (zeros_in (head_on o u)) (map asked_by s.actions)
           (map side_of letters) trace rs end.calls.records (flown end.ask.in_flight end.calls.sent) (exchanges_of_commands end.executed) wired_run legal;
-      text_is = is ∙ ap (λ (p : _). trace_text trace ++ journal_text (head_of o.device o.id u) end.calls.records p) (pending_flown end.ask.in_flight end.calls.sent);
+      text_is = is ∙ ap (λ (p : _). trace_text trace ++ journal_text (head_on o u) end.calls.records p) (pending_flown end.ask.in_flight end.calls.sent);
     }

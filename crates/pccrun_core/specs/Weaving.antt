@@ -1,5 +1,5 @@
 -- What `weave` prints: the trace of single word steps that the letters of a script pick, and the journal that comes of it.
-use Rattle.std.specs.Prelude.{◌≡◌, ◌⊎◌, ◌<◌, ℕ, List, [], ◌∷◌, ◌++◌, length, map, replicate, get_or, slice_get, Option, Some}
+use Rattle.std.specs.Prelude.{◌≡◌, ◌⊎◌, ◌<◌, ℕ, List, [], ◌∷◌, ◌++◌, length, map, get_or, slice_get, Option, Some}
 use Rattle.pcc_causes.specs.Clock.{line_reading}
 use Rattle.pcc_history.specs.Channel.{Exchange}
 use Rattle.pcc_history.specs.Devices.{bank_exec}
@@ -27,7 +27,7 @@ use Rattle.channel_plain.specs.WordRuns.{WordRun}
 use Rattle.weave_headline.specs.WordHeadline.{WordHeadline}
 use Rattle.pcc_wiring.specs.Wirings.{wiring_with}
 use Rattle.pcc_setup.specs.declared.opening.Opened.{Opened}
-use Rattle.pcc_setup.specs.Openings.{head_of}
+use Rattle.pcc_setup.specs.Openings.{head_on, zeros_in}
 use Rattle.pcc_script.specs.declared.scenario.OpenLine.{OpenLine}
 
 -- ---- the calls and the picks
@@ -66,18 +66,18 @@ pub record IsWoven (s : Scenario) (t : Table) (text : List ℕ) : Type 0 where
   pub records : List Record
   pub sent : Option Sent
   pub executed : List Exchange
-  pub run : WordRun bank_exec (wiring_with open_line.id t.flags subspace) (head_of open_line.device open_line.id subspace).limits
-      (0 ∷ replicate (head_of open_line.device open_line.id subspace).room 0) (replicate (head_of open_line.device open_line.id subspace).room 0) (map asked_by s.actions)
+  pub run : WordRun bank_exec (wiring_with open_line.id t.flags subspace) (head_on open_line subspace).limits
+      (0 ∷ zeros_in (head_on open_line subspace)) (zeros_in (head_on open_line subspace)) (map asked_by s.actions)
       (map side_of letters) trace readings records sent executed
   pub read : AreReadings s readings
-  pub legal : Legal bank_exec (head_of open_line.device open_line.id subspace).reports (0 ∷ replicate (head_of open_line.device open_line.id subspace).room 0) (exchanges_of records)
-  pub whole : IsWhole (replicate (head_of open_line.device open_line.id subspace).room 0) (map asked_by s.actions) records
+  pub legal : Legal bank_exec (head_on open_line subspace).reports (0 ∷ zeros_in (head_on open_line subspace)) (exchanges_of records)
+  pub whole : IsWhole (zeros_in (head_on open_line subspace)) (map asked_by s.actions) records
   pub ahead : IsAhead executed (exchanges_of records)
-  pub limits : WithinLimits (head_of open_line.device open_line.id subspace).limits (times_of records) (post_of sent)
-  pub headline : WordHeadline bank_exec (wiring_with open_line.id t.flags subspace) (head_of open_line.device open_line.id subspace).limits
-      (0 ∷ replicate (head_of open_line.device open_line.id subspace).room 0) (replicate (head_of open_line.device open_line.id subspace).room 0) (map asked_by s.actions)
+  pub limits : WithinLimits (head_on open_line subspace).limits (times_of records) (post_of sent)
+  pub headline : WordHeadline bank_exec (wiring_with open_line.id t.flags subspace) (head_on open_line subspace).limits
+      (0 ∷ zeros_in (head_on open_line subspace)) (zeros_in (head_on open_line subspace)) (map asked_by s.actions)
       trace readings records sent
-  pub text_is : text ≡ trace_text trace ++ journal_text (head_of open_line.device open_line.id subspace) records (command_of sent)
+  pub text_is : text ≡ trace_text trace ++ journal_text (head_on open_line subspace) records (command_of sent)
 
 -- ---- what is woven
 
@@ -91,5 +91,5 @@ pub record IsOpenedAlone (s : Scenario) (t : Table) (o : Opened) : Type 0 where
   pub opens : s.opens ≡ open_line ∷ []
   pub subspace : Subspace
   pub structure : slice_get t.subspaces open_line.id ≡ Some subspace
-  pub head : o.head ≡ head_of open_line.device open_line.id subspace
+  pub head : o.head ≡ head_on open_line subspace
   pub wiring : o.wiring ≡ wiring_with open_line.id t.flags subspace

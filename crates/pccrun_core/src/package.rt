@@ -1,6 +1,7 @@
 //! The command on packages: `cpc` prints the text of a package.
-ghost use Rattle.std.specs.Prelude.{◌<◌, ◌^◌, MatchResult, length};
-ghost use Rattle.cpc_package.specs.Packages.{CpcBytes};
+ghost use Rattle.std.specs.Prelude.{◌<◌, ◌^◌, ℕ, List, MatchResult, length};
+ghost use Rattle.pcc_setup.specs.Packages.{IsNoPackage};
+ghost use Rattle.pcc_setup.specs.RefusalText.{IsRefusedFor};
 ghost use Rattle.pccrun_core.specs.CommandErrors.{IsRefusedBy};
 ghost use Rattle.pccrun_core.specs.Answers.{Makes};
 ghost use Rattle.pccrun_core.specs.Packages.{PackageRefused};
@@ -8,30 +9,19 @@ ghost use Rattle.pccrun_core.specs.Refusals.{Refuses};
 
 use crate::command::Command;
 use crate::error::CommandError;
-use cpc_package::{Cpc, CpcError, CpcFault, cpc_from, cpc_lines, package_laws};
-use pcc_setup::{InputError, Refusal};
+use cpc_package::{cpc_lines, package_laws};
+use pcc_setup::{InputError, PackageError, Refusal, whole_package};
 use std::alloc::Global;
 
-// The package that all bytes spell.
-fn whole_package(alloc: Global, bytes: &[u8]) -> Result<Cpc, CommandError>
-    requires { length bytes.now < 2 ^ 32 }
-    ensures { MatchResult result (CpcBytes bytes.now) (IsRefusedBy (PackageRefused bytes.now)) }
+// Why bytes that are not a package are refused.
+fn refused_package(error: PackageError) -> InputError
+    ensures { (bytes : List ℕ) → IsNoPackage bytes error → IsRefusedFor (PackageRefused bytes) result }
 {
     package_laws();
-    match cpc_from(alloc, bytes) {
-        Ok((cpc, len)) => {
-            if len < bytes.len() {
-                let refusal = Refusal::PackageTrailing { at: len };
-                Err(CommandError::Input(InputError::Refused(refusal)))
-            } else {
-                Ok(cpc)
-            }
-        }
-        Err(CpcError::Fault { entry, at, kind }) => {
-            let refusal = Refusal::Package(CpcFault { entry, at, kind });
-            Err(CommandError::Input(InputError::Refused(refusal)))
-        }
-        Err(CpcError::NoMemory) => Err(CommandError::Input(InputError::NoMemory)),
+    match error {
+        PackageError::Wrong(fault) => InputError::Refused(Refusal::Package(fault)),
+        PackageError::Trailing { at } => InputError::Refused(Refusal::PackageTrailing { at }),
+        PackageError::NoMemory => InputError::NoMemory,
     }
 }
 
@@ -42,6 +32,6 @@ pub fn cpc(alloc: Global, bytes: &[u8]) -> Result<Vec<u8>, CommandError>
 {
     match whole_package(alloc, bytes) {
         Ok(cpc) => Ok(cpc_lines(alloc, &cpc)?),
-        Err(error) => Err(error),
+        Err(error) => Err(CommandError::Input(refused_package(error))),
     }
 }

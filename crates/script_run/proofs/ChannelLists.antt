@@ -18,12 +18,12 @@ use Rattle.cppc_calls.specs.Wishes.{wish_fault}
 use Rattle.cppc_calls.specs.declared.wish.SetRefusal.{SetRefusal}
 use Rattle.channel_turns.specs.ChannelRuns.{Answered, Call, Channel, ChannelStart, ChannelState, InFlight, Polled, after_polls, answer_unless, call_by, next_reading, polled, polled_for, post_call, refusal_of}
 use Rattle.channel_turns.specs.Replies.{Reply}
-use Rattle.channel_headline.specs.WishCalls.{LineAnswer as LineTold, WishCall, post_wish, whole_call, wish_after, wish_refusal, wish_unless}
-use Rattle.script_run.specs.Channels.{AreDistinct, CanAsk, CanRun, IsEarly, IsToldBy, IsWired, Suits, id_of, ids_of, is_on, moved_up, starts_of}
+use Rattle.channel_headline.specs.WishCalls.{LineAnswer as AnsweredLine, WishCall, post_wish, whole_call, wish_after, wish_refusal, wish_unless}
+use Rattle.script_run.specs.Channels.{AreDistinct, CanAsk, CanRun, IsEarly, IsAnsweredBy, IsWired, Suits, id_of, ids_of, is_on, moved_up, starts_of}
 use Rattle.script_run.specs.DeviceChannels.{channel_of, channels_by}
 use Rattle.script_run.specs.declared.channel.DeviceChannel.{DeviceChannel}
 use Rattle.script_run.specs.declared.outcome.LineAnswer.{LineAnswer}
-use Rattle.script_run.specs.LineOutcomes.{IsOutcomeOf, IsPlacedIn, Tells}
+use Rattle.script_run.specs.LineOutcomes.{IsOutcomeOf, IsPlacedIn, IsShownAs}
 use Rattle.script_run.specs.ScriptRuns.{channel_journal}
 use Rattle.script_run.specs.StepRun.{Ask, Asks, LineAsk, Moves, OfCall, OfRead, OfWish, Shown, ShownReply, Turn, answer, ask_of, ask_of_cpu, asked_on, call_of, turn_of, wish_of}
 use Rattle.pcc_text.proofs.Mapped.{mapped_more}
@@ -123,19 +123,19 @@ moved_end n ds now i le h =
 
 -- what becomes of an ask on the channel at a place
 abbrev pub Turned : LineAsk → List DeviceChannel → ℕ → DeviceChannel → LineAnswer → Type 0
-Turned l ds i new told = (reply : ShownReply) × (turn_of l (channels_by ds) ≡ record { reply = Some reply; channels = channels_by (set ds i new) }) × Tells (channel_of new).now.records told reply
+Turned l ds i new reported = (reply : ShownReply) × (turn_of l (channels_by ds) ≡ record { reply = Some reply; channels = channels_by (set ds i new) }) × IsShownAs (channel_of new).now.records reported reply
 
-pub turned : (l : LineAsk) (ds : List DeviceChannel) (i : ℕ) (d new : DeviceChannel) (id : ℕ) (ask : Ask) (told : LineAnswer) → l ≡ Asks id ask
+pub turned : (l : LineAsk) (ds : List DeviceChannel) (i : ℕ) (d new : DeviceChannel) (id : ℕ) (ask : Ask) (reported : LineAnswer) → l ≡ Asks id ask
     → AreDistinct (ids_of (channels_by ds)) → i < length ds → d ≡ get_or ds i d
     → ((x : DeviceChannel) → slice_get ds i ≡ Some x → id_of (channel_of x) ≡ id)
-    → IsToldBy (channel_of d) ask (channel_of new) told → Turned l ds i new told
-turned l ds i d new id ask told is apart lt at named answered =
+    → IsAnsweredBy (channel_of d) ask (channel_of new) reported → Turned l ds i new reported
+turned l ds i d new id ask reported is apart lt at named answered =
     let c : Channel = channel_of d in
     let cs : List Channel = channels_by ds in
     let a : Shown = answer c.start ask c.now in
     let here : slice_get cs i ≡ Some c = slice_get-get_or cs i c (within_by ds i lt) ∙ ap Some (sym (get_by ds i d at)) in
     let same : id_of c ≡ id = named d (slice_get-get_or ds i d lt ∙ ap Some (sym at)) in
-    let P : Channel → Type 0 = λ x. Tells x.now.records told a.reply in (
+    let P : Channel → Type 0 = λ x. IsShownAs x.now.records reported a.reply in (
       a.reply,
       ap (λ (x : LineAsk). turn_of x cs) is ∙ ap (λ (n : ℕ). asked_on n ask cs) (sym same) ∙ call_at ask cs i c apart here
           ∙ ap (λ (x : Channel). record { reply = Some a.reply; channels = set cs i x }) (sym answered.left)
@@ -210,12 +210,12 @@ set_here (x ∷ xs) zero d lt = refl
 set_here (x ∷ xs) (suc i) d lt = set_here xs i d (omega (arith, lt))
 
 -- its outcome
-pub outcome_of : (l : LineAsk) (ds : List DeviceChannel) (i : ℕ) (new : DeviceChannel) (told : LineAnswer) → i < length ds → IsPlacedIn (length (channel_of new).now.records) told → Turned l ds i new told
-    → IsOutcomeOf (turn_of l (channels_by ds)).reply (set ds i new) (Some (record { place = i; answer = told }))
-outcome_of l ds i new told lt placed t = (new, set_here ds i new lt, placed, (t.0, ap (λ (x : Turn). x.reply) t.1, t.2))
+pub outcome_of : (l : LineAsk) (ds : List DeviceChannel) (i : ℕ) (new : DeviceChannel) (reported : LineAnswer) → i < length ds → IsPlacedIn (length (channel_of new).now.records) reported → Turned l ds i new reported
+    → IsOutcomeOf (turn_of l (channels_by ds)).reply (set ds i new) (Some (record { place = i; answer = reported }))
+outcome_of l ds i new reported lt placed t = (new, set_here ds i new lt, placed, (t.0, ap (λ (x : Turn). x.reply) t.1, t.2))
 
-pub ask_channels : (l : LineAsk) (ds : List DeviceChannel) (i : ℕ) (new : DeviceChannel) (told : LineAnswer) → Turned l ds i new told → (turn_of l (channels_by ds)).channels ≡ channels_by (set ds i new)
-ask_channels l ds i new told t = ap (λ (x : Turn). x.channels) t.1
+pub ask_channels : (l : LineAsk) (ds : List DeviceChannel) (i : ℕ) (new : DeviceChannel) (reported : LineAnswer) → Turned l ds i new reported → (turn_of l (channels_by ds)).channels ≡ channels_by (set ds i new)
+ask_channels l ds i new reported t = ap (λ (x : Turn). x.channels) t.1
 
 -- an ask adds no time
 module _ (start : ChannelStart) (added : ℕ) where
@@ -252,7 +252,7 @@ module _ (start : ChannelStart) (added : ℕ) where
       put now (Some why) k = k
       put now None k = posted (whole_call w now.object.space) now k
 
-      which : (b : Bool) (x y : LineTold) → Keeps x.now → Keeps y.now → Keeps (cond b x y).now
+      which : (b : Bool) (x y : AnsweredLine) → Keeps x.now → Keeps y.now → Keeps (cond b x y).now
       which true x y h k = h
       which false x y h k = k
 
@@ -278,9 +278,9 @@ later : (count : ℕ) (b : Channel) → IsEarly count b → IsEarly (count + 1) 
 later count b h = let t = h.taken in let a = h.added in record { taken = omega (arith, t); added = omega (arith, a) }
 
 -- three readings more, and no added time
-pub ask_early : (ds : List DeviceChannel) (i : ℕ) (d new : DeviceChannel) (ask : Ask) (told : LineAnswer) (count : ℕ) → i < length ds → d ≡ get_or ds i d → IsToldBy (channel_of d) ask (channel_of new) told
+pub ask_early : (ds : List DeviceChannel) (i : ℕ) (d new : DeviceChannel) (ask : Ask) (reported : LineAnswer) (count : ℕ) → i < length ds → d ≡ get_or ds i d → IsAnsweredBy (channel_of d) ask (channel_of new) reported
     → (channel_of new).now.taken ≤ (channel_of d).now.taken + 3 → AllByRecursion (IsEarly count) (channels_by ds) → AllByRecursion (IsEarly (count + 1)) (channels_by (set ds i new))
-ask_early ds i d new ask told count lt is answered few h =
+ask_early ds i d new ask reported count lt is answered few h =
     let c : Channel = channel_of d in
     let cs : List Channel = channels_by ds in
     let here : IsEarly count c = item_here (IsEarly count) cs i c h (within_by ds i lt) (get_by ds i d is) in

@@ -13,19 +13,19 @@ use Rattle.script_run.specs.Headlines.{own_reply}
 use Rattle.script_run.specs.StepRun.{LineAsk, ShownReply, asks_by, step_run, turn_of}
 use Rattle.script_run.specs.Summaries.{IsUnder, added, counted, counts_of, none_counted, output_sum}
 use Rattle.script_run.specs.declared.counts.Counts.{Counts}
-use Rattle.script_run.proofs.Steps.{Going, behind_lines, going_end, going_more, going_start}
+use Rattle.script_run.proofs.Steps.{Going, lines_ended, going_end, going_more, going_start}
 
 -- ---- counts
 
 -- the replies of the lines so far were counted
 pub record Counting (lines : List LineAsk) (begin : List Channel) (i : ℕ) (now : List Channel) (counts : Counts) : Type 0 where
-  pub told : List (Option ShownReply)
-  pub going : Going lines begin i now told
-  pub counts_are : counts ≡ counts_of told
+  pub shown : List (Option ShownReply)
+  pub going : Going lines begin i now shown
+  pub counts_are : counts ≡ counts_of shown
   pub under : IsUnder i counts
 
 pub counting_start : (lines : List LineAsk) (begin : List Channel) → Counting lines begin 0 begin none_counted
-counting_start lines begin = record { told = []; going = going_start lines begin; counts_are = refl; under = record { ok = omega arith; error = omega arith; timed_out = omega arith; still_pending = omega arith; other = omega arith } }
+counting_start lines begin = record { shown = []; going = going_start lines begin; counts_are = refl; under = record { ok = omega arith; error = omega arith; timed_out = omega arith; still_pending = omega arith; other = omega arith } }
 
 -- a count grows by one at most
 one_more : (i : ℕ) (c : Counts) (r : Option ShownReply) → IsUnder i c → IsUnder (i + 1) (counted c r)
@@ -66,21 +66,21 @@ pub counting_more : (lines : List LineAsk) (begin now next : List Channel) (i : 
 counting_more lines begin now next i l counts counts' lt is more left h =
     let reply : Option ShownReply = (turn_of l now).reply in
     record {
-      told = h.told ++ reply ∷ [];
-      going = going_more lines begin now next h.told i l lt is left h.going;
-      counts_are = more ∙ ap (λ (c : Counts). counted c reply) h.counts_are ∙ sym (fold_push counted none_counted h.told reply);
+      shown = h.shown ++ reply ∷ [];
+      going = going_more lines begin now next h.shown i l lt is left h.going;
+      counts_are = more ∙ ap (λ (c : Counts). counted c reply) h.counts_are ∙ sym (fold_push counted none_counted h.shown reply);
       under = subst (IsUnder (i + 1)) (sym more) (one_more i counts reply h.under);
     }
 
 pub counting_end : (lines : List LineAsk) (begin now : List Channel) (i : ℕ) (counts : Counts) → length lines ≤ i → Counting lines begin i now counts
     → (counts ≡ counts_of (step_run lines begin).replies) × ((step_run lines begin).channels ≡ now)
 counting_end lines begin now i counts le h =
-    let all = going_end lines begin now h.told i le h.going in
+    let all = going_end lines begin now h.shown i le h.going in
     (h.counts_are ∙ ap counts_of all.0, all.1)
 
 pub counting_lines_end : (cpus : List Binding) (lines : List Line) (begin now : List Channel) (i : ℕ) (counts : Counts) → length lines ≤ i → Counting (asks_by cpus lines) begin i now counts
     → (counts ≡ counts_of (step_run (asks_by cpus lines) begin).replies) × ((step_run (asks_by cpus lines) begin).channels ≡ now)
-counting_lines_end cpus lines begin now i counts le h = counting_end (asks_by cpus lines) begin now i counts (behind_lines cpus lines i le) h
+counting_lines_end cpus lines begin now i counts le h = counting_end (asks_by cpus lines) begin now i counts (lines_ended cpus lines i le) h
 
 pub wider : (i limit : ℕ) (c : Counts) → i ≤ limit → IsUnder i c → IsUnder limit c
 wider i limit c le h =

@@ -8,7 +8,7 @@ pub mod OpenedScripts
 mod Counting
 mod MadeUp
 mod Values
-mod Told
+mod Answered
 mod Wishes
 pub mod Requests
 pub mod Ranged

@@ -32,7 +32,7 @@ use Rattle.script_run.specs.Channels.{CanAsk, CanRun, IsWired, Suits, ids_of, is
 use Rattle.script_run.specs.ReplyText.{replies_text}
 use Rattle.script_run.specs.ScriptRuns.{IsStepText, asks_of, channel_journal, run_text, set_up_of, step_text}
 use Rattle.script_run.specs.StepRun.{Ask, LineAsk, OfCall, OfRead, OfWish, ask_of, ask_of_cpu, asks_by, step_run, wish_of}
-use Rattle.script_run.proofs.Several.{open_rest}
+use Rattle.pcc_setup.proofs.Controllers.{open_rest}
 use Rattle.script_run.proofs.Starting.{FitsOn, cpu_fits, cpu_on, cpus_count, ids_are, set_up_headlines, there_at}
 
 -- ---- the lines of a script

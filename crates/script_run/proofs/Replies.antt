@@ -13,9 +13,9 @@ use Rattle.pcc_text.specs.Pieces.{Spelled, spelled}
 use Rattle.script_run.specs.ReplyText.{refusal_pieces, refusal_text, replies_text, reply_text, shown_text, values_text}
 use Rattle.script_run.specs.DeviceChannels.{channel_of}
 use Rattle.script_run.specs.declared.channel.DeviceChannel.{DeviceChannel}
-use Rattle.script_run.specs.LineOutcomes.{IsOutcomeOf, Tells}
+use Rattle.script_run.specs.LineOutcomes.{IsOutcomeOf, IsShownAs}
 use Rattle.script_run.specs.StepRun.{ShownReply}
-use Rattle.script_run.specs.declared.outcome.LineAnswer.TheVariants as told
+use Rattle.script_run.specs.declared.outcome.LineAnswer.TheVariants as line_answer
 use Rattle.script_run.specs.declared.outcome.LineOutcome.{LineOutcome}
 
 -- the record that is read at a place is the one that stands there
@@ -27,7 +27,7 @@ done_reply records place r reply lt e (x, found, is) =
 
 -- the reply that the outcome of a line stands for
 pub outcome_reply : {X E : Type 0} (result : Result X E) (channels : List DeviceChannel) (outcome : LineOutcome) (channel : DeviceChannel) (records : List Record) (line : ℕ) (old next : List ℕ) → channel ≡ get_or channels outcome.place channel → records ≡ (channel_of channel).now.records
-    → OnOk result ((reply : ShownReply) → Tells records outcome.answer reply → next ≡ old ++ shown_text line reply)
+    → OnOk result ((reply : ShownReply) → IsShownAs records outcome.answer reply → next ≡ old ++ shown_text line reply)
     → OnOk result ((reply : Option ShownReply) → IsOutcomeOf reply channels (Some outcome) → next ≡ old ++ replies_text line (reply ∷ []))
 outcome_reply (Err e) channels outcome channel records line old next at are put = tt
 outcome_reply (Ok x) channels outcome channel records line old next at are put = λ reply is.
@@ -35,7 +35,7 @@ outcome_reply (Ok x) channels outcome channel records line old next at are put =
     let r : ShownReply = is.3.0 in
     let lt : outcome.place < length channels = slice_get_within channels outcome.place found is.1 in
     let same : found ≡ channel = same_Some found channel (sym is.1 ∙ slice_get-get_or channels outcome.place channel lt ∙ ap Some (sym at)) in
-    let P : List Record → Type 0 = λ rs. Tells rs outcome.answer r in
+    let P : List Record → Type 0 = λ rs. IsShownAs rs outcome.answer r in
     put r (subst P (ap (λ (b : DeviceChannel). (channel_of b).now.records) same ∙ sym are) is.3.2)
     ∙ ap (λ (v : List ℕ). old ++ v) (sym (append-nil (shown_text line r))) ∙ ap (λ (o : Option ShownReply). old ++ replies_text line (o ∷ [])) (sym is.3.1)
 
@@ -45,33 +45,33 @@ pub one_reply : {X E : Type 0} (result : Result X E) (Stands : Reply → Type 0)
 one_reply (Ok x) Stands line outcome old next put only = λ reply h. put ∙ ap (λ (r : Reply). old ++ reply_text line r) (sym (only reply h))
 one_reply (Err e) Stands line outcome old next put only = tt
 
--- ---- what is told of an ask
+-- ---- the answer to an ask
 
 module _ {X E : Type 0} (result : Result X E) (records : List Record) (line : ℕ) (old next : List ℕ) where
   pub called_reply : (outcome : Outcome) → OnOk result ((r : Reply) → StandsFor records outcome r → next ≡ old ++ reply_text line r)
-      → OnOk result ((reply : ShownReply) → Tells records (told.Called outcome) reply → next ≡ old ++ shown_text line reply)
+      → OnOk result ((reply : ShownReply) → IsShownAs records (line_answer.Called outcome) reply → next ≡ old ++ shown_text line reply)
   called_reply outcome put = by result put
     where
       by : (x : Result X E) → OnOk x ((r : Reply) → StandsFor records outcome r → next ≡ old ++ reply_text line r)
-          → OnOk x ((reply : ShownReply) → Tells records (told.Called outcome) reply → next ≡ old ++ shown_text line reply)
+          → OnOk x ((reply : ShownReply) → IsShownAs records (line_answer.Called outcome) reply → next ≡ old ++ shown_text line reply)
       by (Ok x) put = λ reply h. put h.0 h.2 ∙ ap (λ (s : ShownReply). old ++ shown_text line s) (sym h.1)
       by (Err e) put = tt
 
   pub read_reply : (values : Values) → OnOk result (next ≡ old ++ values_text line values.entries)
-      → OnOk result ((reply : ShownReply) → Tells records (told.Read values) reply → next ≡ old ++ shown_text line reply)
+      → OnOk result ((reply : ShownReply) → IsShownAs records (line_answer.Read values) reply → next ≡ old ++ shown_text line reply)
   read_reply values put = by result put
     where
       by : (x : Result X E) → OnOk x (next ≡ old ++ values_text line values.entries)
-          → OnOk x ((reply : ShownReply) → Tells records (told.Read values) reply → next ≡ old ++ shown_text line reply)
+          → OnOk x ((reply : ShownReply) → IsShownAs records (line_answer.Read values) reply → next ≡ old ++ shown_text line reply)
       by (Ok x) put = λ reply h. put ∙ ap (λ (v : List (Option ℕ)). old ++ values_text line v) h.3 ∙ ap (λ (s : ShownReply). old ++ shown_text line s) (sym h.2)
       by (Err e) put = tt
 
   pub refused_reply : (why : SetRefusal) → OnOk result (next ≡ old ++ refusal_text line why)
-      → OnOk result ((reply : ShownReply) → Tells records (told.Refused why) reply → next ≡ old ++ shown_text line reply)
+      → OnOk result ((reply : ShownReply) → IsShownAs records (line_answer.Refused why) reply → next ≡ old ++ shown_text line reply)
   refused_reply why put = by result put
     where
       by : (x : Result X E) → OnOk x (next ≡ old ++ refusal_text line why)
-          → OnOk x ((reply : ShownReply) → Tells records (told.Refused why) reply → next ≡ old ++ shown_text line reply)
+          → OnOk x ((reply : ShownReply) → IsShownAs records (line_answer.Refused why) reply → next ≡ old ++ shown_text line reply)
       by (Ok x) put = λ reply h. put ∙ ap (λ (s : ShownReply). old ++ shown_text line s) (sym h)
       by (Err e) put = tt
 

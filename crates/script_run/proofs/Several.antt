@@ -10,7 +10,8 @@ use Rattle.pcct_table.specs.declared.subspace.Subspace.{Subspace}
 use Rattle.pcct_table.specs.declared.table.Table.{Table}
 use Rattle.pcc_script.specs.declared.scenario.Device.{Device}
 use Rattle.pcc_script.specs.declared.scenario.OpenLine.{OpenLine}
-use Rattle.pcc_setup.specs.Openings.{AllOpen, opens_id, structure_fault}
+use Rattle.pcc_setup.specs.Openings.{AllOpen, structure_fault}
+use Rattle.pcc_setup.proofs.Controllers.{all_at, all_from, once, open_rest}
 use Rattle.script_run.specs.Channels.{AreDistinct, fresh_channel, id_of, moved_up}
 use Rattle.script_run.specs.Headlines.{AreHeadlines, KeepsHeadline, line_on, lines_on}
 use Rattle.channel_turns.specs.ChannelRuns.{Channel, ChannelStart, fresh}
@@ -20,15 +21,6 @@ use Rattle.script_run.specs.StepRun.{Ask, Asks, LineAsk, Moves, Nothing, Run, Sh
 use Rattle.script_run.proofs.Headlines.{run_headlines}
 
 -- ---- lists
-
-all_at : {X : Type 0} (P : X → Type 0) (xs : List X) (i : ℕ) (x : X) → AllByRecursion P xs → slice_get xs i ≡ Some x → P x
-all_at P [] i x h e = absurd cc
-all_at P (y ∷ ys) zero x h e = subst P (same_Some y x e) h.0
-all_at P (y ∷ ys) (suc i) x h e = all_at P ys i x h.1 e
-
-all_from : {X : Type 0} (P : X → Type 0) (xs : List X) → ((i : ℕ) (x : X) → slice_get xs i ≡ Some x → P x) → AllByRecursion P xs
-all_from P [] h = tt
-all_from P (x ∷ xs) h = (h zero x refl, all_from P xs (λ i y e. h (suc i) y e))
 
 all_append : {X : Type 0} (P : X → Type 0) (xs ys : List X) → AllByRecursion P xs → AllByRecursion P ys → AllByRecursion P (xs ++ ys)
 all_append P [] ys h k = k
@@ -320,27 +312,9 @@ run_headlines_all starts apart ls = fresh_headlines (map fresh_channel starts) (
 
 -- ---- the channels of a script
 
-tail_fault : (d : Device) (a b : Bool) (o : Option Subspace) → structure_fault d (a || b) o ≡ None → structure_fault d b o ≡ None
-tail_fault d true b None h = absurd cc
-tail_fault d true b (Some u) h = absurd cc
-tail_fault d false b o h = h
-
-not_twice : (d : Device) (a b : Bool) (o : Option Subspace) → structure_fault d (a || b) o ≡ None → a ≡ false
-not_twice d true b None h = absurd cc
-not_twice d true b (Some u) h = absurd cc
-not_twice d false b o h = refl
-
 pub has_structure : (d : Device) (b : Bool) (o : Option Subspace) → structure_fault d b o ≡ None → (u : Subspace) × (o ≡ Some u)
 has_structure d b None h = absurd cc
 has_structure d b (Some u) h = (u, refl)
-
-pub open_rest : (t : Table) (o : OpenLine) (os : List OpenLine) → AllOpen t (o ∷ os) (length (o ∷ os)) → AllOpen t os (length os)
-open_rest t o os h i p lt at = tail_fault p.device (o.id == p.id) (opens_id p.id (take i os)) (slice_get t.subspaces p.id) (h (suc i) p (omega arith) at)
-
-once : (t : Table) (o : OpenLine) (os : List OpenLine) → AllOpen t (o ∷ os) (length (o ∷ os)) → (i : ℕ) (p : OpenLine) → slice_get os i ≡ Some p → o.id ≢ p.id
-once t o os h i p at =
-    let lt : i < length os = slice_get_within os i p at in
-    eqb-false o.id p.id (not_twice p.device (o.id == p.id) (opens_id p.id (take i os)) (slice_get t.subspaces p.id) (h (suc i) p (omega arith) at))
 
 -- no ID is opened twice
 pub opens_apart : (t : Table) (opens : List OpenLine) → AllOpen t opens (length opens) → AreDistinct (map (λ o. o.id) opens)

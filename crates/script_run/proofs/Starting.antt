@@ -23,7 +23,8 @@ use Rattle.channel_turns.specs.ChannelRuns.{Channel, ChannelStart, ScriptClock}
 use Rattle.script_run.specs.Channels.{AreDistinct, IsEarly, IsWired, bank_start, fresh_channel, ids_of, is_on, starts_of}
 use Rattle.script_run.specs.Headlines.{AreHeadlines}
 use Rattle.script_run.specs.ScriptRuns.{asks_of, clock_of, controller_start, run_of, set_up_of, start_of}
-use Rattle.script_run.proofs.Several.{IsFresh, fresh_headlines, has_structure, open_rest, opens_apart}
+use Rattle.pcc_setup.proofs.Controllers.{open_rest}
+use Rattle.script_run.proofs.Several.{IsFresh, fresh_headlines, has_structure, opens_apart}
 
 -- ---- IDs
 

@@ -17,13 +17,13 @@ use Rattle.channel_turns.specs.Replies.{Reply, BadCode, TooLong, JournalFull, St
 use Rattle.channel_turns.specs.declared.outcome.Outcome.{Outcome}
 use Rattle.channel_turns.specs.declared.outcome.Outcome.TheVariants as outcome
 use Rattle.channel_headline.specs.Asked.{Refused, Replied}
-use Rattle.channel_headline.specs.WishCalls.{LineAnswer as LineTold, WishCall, answer_wish, post_wish, whole_call, wish_after, wish_unless}
-use Rattle.script_run.specs.Channels.{IsToldBy}
+use Rattle.channel_headline.specs.WishCalls.{LineAnswer as AnsweredLine, WishCall, answer_wish, post_wish, whole_call, wish_after, wish_unless}
+use Rattle.script_run.specs.Channels.{IsAnsweredBy}
 use Rattle.script_run.specs.DeviceChannels.{channel_by}
-use Rattle.script_run.specs.LineOutcomes.{Tells}
+use Rattle.script_run.specs.LineOutcomes.{IsShownAs}
 use Rattle.script_run.specs.StepRun.{ByChannel, OfWish}
 use Rattle.script_run.specs.declared.outcome.LineAnswer.{LineAnswer}
-use Rattle.script_run.specs.declared.outcome.LineAnswer.TheVariants as told
+use Rattle.script_run.specs.declared.outcome.LineAnswer.TheVariants as line_answer
 
 -- what refuses a command of the whole space
 abbrev refused_by : OpenChannel → ℕ → Option CallRefusal
@@ -63,12 +63,12 @@ module _ (exec : Device) (c : OpenChannel) (w : WishCall) where
   start = start_by exec c
 
   -- an answer of the channel, by which it is left
-  abbrev IsTold : OpenChannel → LineAnswer → LineTold → Type 0
-  IsTold new answer a = Tells a.now.records answer (ByChannel a.reply) × (channel_by exec new ≡ record { start = start; now = a.now })
+  abbrev IsWishAnswer : OpenChannel → LineAnswer → AnsweredLine → Type 0
+  IsWishAnswer new answer a = IsShownAs a.now.records answer (ByChannel a.reply) × (channel_by exec new ≡ record { start = start; now = a.now })
 
-  told_wish : (new : OpenChannel) (answer : LineAnswer) (a : LineTold) → answer_wish start w c.now ≡ a → IsTold new answer a
-      → IsToldBy (channel_by exec c) (OfWish w) (channel_by exec new) answer
-  told_wish new answer a e h = let k : IsTold new answer (answer_wish start w c.now) = subst (IsTold new answer) (sym e) h in record { reply = k.0; left = k.1 }
+  answered_wish : (new : OpenChannel) (answer : LineAnswer) (a : AnsweredLine) → answer_wish start w c.now ≡ a → IsWishAnswer new answer a
+      → IsAnsweredBy (channel_by exec c) (OfWish w) (channel_by exec new) answer
+  answered_wish new answer a e h = let k : IsWishAnswer new answer (answer_wish start w c.now) = subst (IsWishAnswer new answer) (sym e) h in record { reply = k.0; left = k.1 }
 
   -- ---- what refuses a call
 
@@ -85,17 +85,17 @@ module _ (exec : Device) (c : OpenChannel) (w : WishCall) where
   refused_as (refusal.TimedOut looks) o h = (TimedOut looks, refl, stands_as o (outcome.TimedOut looks) (TimedOut looks) h refl)
 
   refused_with : (x : Option CallRefusal) (new : OpenChannel) (r : ReadyCommand) (e : CallRefusal) (o : Outcome) → refused_by c c.head.room ≡ x → MakesReadyBy x c r new (Err e) → IsRefused e (Ok o)
-      → IsToldBy (channel_by exec c) (OfWish w) (channel_by exec new) (told.Called o)
+      → IsAnsweredBy (channel_by exec c) (OfWish w) (channel_by exec new) (line_answer.Called o)
   refused_with None new r e o refused h k = absurd (subst (λ (x : CallRefusal). IsRefused x (Ok o)) h.0 k)
   refused_with (Some f) new r e o refused h k =
       let is : f ≡ e = sym (same_refusal e f h.0) in
       let t = refused_as e o k in
-      told_wish new (told.Called o) (record { reply = Replied t.0; now = c.now })
+      answered_wish new (line_answer.Called o) (record { reply = Replied t.0; now = c.now })
       (ap (λ (x : Option CallRefusal). wish_unless start w c.now (replied x)) (refused ∙ ap Some is) ∙ ap (wish_unless start w c.now) t.1)
       ((t.0, refl, t.2), ap (channel_by exec) h.1)
 
   pub set_refused : (new : OpenChannel) (zeros : List ℕ) (e : CallRefusal) (o : Outcome) → length zeros ≡ c.head.room → MakesReady c (ready_for c 1 zeros) new (Err e) → IsRefused e (Ok o)
-      → IsToldBy (channel_by exec c) (OfWish w) (channel_by exec new) (told.Called o)
+      → IsAnsweredBy (channel_by exec c) (OfWish w) (channel_by exec new) (line_answer.Called o)
   set_refused new zeros e o long h k =
       refused_with (refused_by c c.head.room) new (ready_for c 1 zeros) e o refl (subst (λ (n : ℕ). MakesReadyBy (refused_by c n) c (ready_for c 1 zeros) new (Err e)) long h) k
 
@@ -122,8 +122,8 @@ module _ (exec : Device) (c : OpenChannel) (w : WishCall) where
     left : channel_by exec mid ≡ record { start = start; now = mid.now }
     left = ap (channel_by exec) polls.left
 
-    pub set_pending : free ≡ false → IsToldBy (channel_by exec c) (OfWish w) (channel_by exec mid) (told.Called (outcome.StillPending w.polls))
-    set_pending e = told_wish mid (told.Called (outcome.StillPending w.polls)) (record { reply = Replied (StillPending w.polls); now = mid.now })
+    pub set_pending : free ≡ false → IsAnsweredBy (channel_by exec c) (OfWish w) (channel_by exec mid) (line_answer.Called (outcome.StillPending w.polls))
+    set_pending e = answered_wish mid (line_answer.Called (outcome.StillPending w.polls)) (record { reply = Replied (StillPending w.polls); now = mid.now })
         (after ∙ ap (λ (x : Bool). wish_after start w (record { free = x; now = mid.now })) e) ((StillPending w.polls, refl, refl), left)
 
     -- where nothing is in flight
@@ -131,14 +131,14 @@ module _ (exec : Device) (c : OpenChannel) (w : WishCall) where
     free_after o e fault = after ∙ ap (λ (x : Bool). wish_after start w (record { free = x; now = mid.now })) e ∙ ap (post_wish start w mid.now) fault
 
     pub wish_refused : (space : List ℕ) (why : SetRefusal) → free ≡ true → space ≡ mid.now.object.space → wish_fault w.binding space w.wish ≡ Some why
-        → IsToldBy (channel_by exec c) (OfWish w) (channel_by exec mid) (told.Refused why)
-    wish_refused space why e at fault = told_wish mid (told.Refused why) (record { reply = Refused why; now = mid.now })
+        → IsAnsweredBy (channel_by exec c) (OfWish w) (channel_by exec mid) (line_answer.Refused why)
+    wish_refused space why e at fault = answered_wish mid (line_answer.Refused why) (record { reply = Refused why; now = mid.now })
         (free_after (Some why) e (ap (λ (s : List ℕ). wish_fault w.binding s w.wish) (sym at) ∙ fault)) (refl, left)
 
     -- the command that is posted, with the bytes that were filled in
     pub wish_posted : (space put : List ℕ) (filled : ReadyCommand) (new : OpenChannel) (o : Outcome) → free ≡ true → space ≡ mid.now.object.space → wish_fault w.binding space w.wish ≡ None
         → put ≡ with_wish w.binding w.wish space → filled ≡ record r { bytes = put } → IsPosted exec mid (call_by w.caller filled.code filled.bytes w.polls w.hold) new o
-        → IsToldBy (channel_by exec c) (OfWish w) (channel_by exec new) (told.Called o)
+        → IsAnsweredBy (channel_by exec c) (OfWish w) (channel_by exec new) (line_answer.Called o)
     wish_posted space put filled new o e at fault is fill h =
         let call : Call = whole_call w mid.now.object.space in
         let coded : filled.code ≡ 1 = ap (λ (z : ReadyCommand). z.code) fill ∙ ap (λ (z : ReadyCommand). z.code) made.command in
@@ -148,7 +148,7 @@ module _ (exec : Device) (c : OpenChannel) (w : WishCall) where
         let a : post_call (start_by exec mid) call mid.now ≡ post_call start call mid.now = ap (λ (z : ChannelStart). post_call z call mid.now) same in
         let P : Answered → Type 0 = λ x. StandsFor x.now.records o x.reply in
         let x : Answered = post_call start call mid.now in
-        told_wish new (told.Called o) (record { reply = Replied x.reply; now = x.now })
+        answered_wish new (line_answer.Called o) (record { reply = Replied x.reply; now = x.now })
         (free_after None e (ap (λ (s : List ℕ). wish_fault w.binding s w.wish) (sym at) ∙ fault))
         ((x.reply, refl, subst P a k.told), ap (channel_by exec) k.left ∙ (λ i. record { start = same i; now = (a i).now }))
 

@@ -1,11 +1,12 @@
 -- The channels of the opened subspaces, in the order of their lines.
-use Rattle.std.specs.Prelude.{◌≡◌, ◌≢◌, ◌≤◌, ℕ, ◌-◌, ◌*◌, ◌^◌, ◌==◌, Bool, true, List, [], ◌∷◌, map, replicate}
+use Rattle.std.specs.Prelude.{◌≡◌, ◌≢◌, ◌≤◌, ℕ, ◌-◌, ◌*◌, ◌^◌, ◌==◌, Bool, true, List, [], ◌∷◌, map}
 use Rattle.std.specs.List.{AllByRecursion, list_any}
 use Rattle.pcc_history.specs.Devices.{bank_exec}
 use Rattle.pcc_journal.specs.declared.text.JournalHead.{JournalHead}
 use Rattle.pcc_script.specs.Limits.{IsAction}
 use Rattle.pcc_script.specs.declared.scenario.Line.{Line}
 use Rattle.pcc_setup.specs.declared.opening.Opened.{Opened}
+use Rattle.pcc_setup.specs.Openings.{zeros_in}
 use Rattle.cpc_package.specs.Bindings as bindings
 use Rattle.cpc_package.specs.Bindings.{LiesIn}
 use Rattle.cpc_package.specs.declared.binding.Binding.{Binding}
@@ -13,7 +14,7 @@ use Rattle.pcc_steps.specs.Wires.{IsRight}
 use Rattle.channel_core.specs.Readings.{more_time}
 use Rattle.channel_turns.specs.ChannelRuns.{Channel, ChannelStart, ScriptClock, fresh}
 use Rattle.channel_turns.specs.Standing.{IsHeadOf}
-use Rattle.script_run.specs.LineOutcomes.{Tells}
+use Rattle.script_run.specs.LineOutcomes.{IsShownAs}
 use Rattle.script_run.specs.StepRun.{Ask, Asks, LineAsk, Moves, Nothing, OfCall, OfRead, OfWish, answer, ask_of}
 use Rattle.script_run.specs.declared.outcome.LineAnswer.{LineAnswer}
 
@@ -25,7 +26,7 @@ fresh_channel start = record { start = start; now = fresh start }
 
 -- a Bank and a communication space of zeros
 abbrev pub bank_start : JournalHead → ScriptClock → ChannelStart
-bank_start head clock = record { head = head; clock = clock; device = bank_exec; state = 0 ∷ replicate head.room 0; opening = replicate head.room 0 }
+bank_start head clock = record { head = head; clock = clock; device = bank_exec; state = 0 ∷ zeros_in head; opening = zeros_in head }
 
 -- both ends can work with what is opened
 pub record IsWired (o : Opened) : Type 0 where
@@ -36,9 +37,9 @@ pub record IsWired (o : Opened) : Type 0 where
 abbrev pub moved_up : ℕ → Channel → Channel
 moved_up n c = record c { now = record c.now { added = more_time n c.now.added } }
 
--- what is told of an ask stands for its reply, and the ask leaves the channel so
-pub record IsToldBy (old : Channel) (ask : Ask) (new : Channel) (told : LineAnswer) : Type 0 where
-  pub reply : let a = answer old.start ask old.now in Tells a.now.records told a.reply
+-- this answer to an ask stands for its reply, and the ask leaves the channel so
+pub record IsAnsweredBy (old : Channel) (ask : Ask) (new : Channel) (shown : LineAnswer) : Type 0 where
+  pub reply : let a = answer old.start ask old.now in IsShownAs a.now.records shown a.reply
   pub left : new ≡ record old { now = (answer old.start ask old.now).now }
 
 -- it has given at most three readings a line, and its clock was moved up by at most the greatest number a line

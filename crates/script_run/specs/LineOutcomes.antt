@@ -10,25 +10,26 @@ use Rattle.script_run.specs.DeviceChannels.{channel_of}
 use Rattle.script_run.specs.StepRun.{ByChannel, ShownReply, Values}
 use Rattle.script_run.specs.declared.channel.DeviceChannel.{DeviceChannel}
 use Rattle.script_run.specs.declared.outcome.LineAnswer.{LineAnswer}
-use Rattle.script_run.specs.declared.outcome.LineAnswer.TheVariants as told
+use Rattle.script_run.specs.declared.outcome.LineAnswer.TheVariants as line_answer
 use Rattle.script_run.specs.declared.outcome.LineOutcome.{LineOutcome}
 
--- what is told of an ask stands for this reply, by the records of its channel
-abbrev pub Tells : List Record → LineAnswer → ShownReply → Type 0
-Tells records (told.Called outcome) reply = (r : Reply) × (reply ≡ ByChannel (Replied r)) × StandsFor records outcome r
-Tells records (told.Read values) reply = (binding : Binding) × (output : List ℕ) × (reply ≡ Values binding output) × (values.entries ≡ values_in binding output)
-Tells records (told.Refused why) reply = reply ≡ ByChannel (Refused why)
+-- an answer stands for this reply, by the records of its channel
+abbrev pub IsShownAs : List Record → LineAnswer → ShownReply → Type 0
+IsShownAs records (line_answer.Called outcome) reply = (r : Reply) × (reply ≡ ByChannel (Replied r)) × StandsFor records outcome r
+IsShownAs records (line_answer.Read values) reply = (binding : Binding) × (output : List ℕ) × (reply ≡ Values binding output)
+    × (values.entries ≡ values_in binding output)
+IsShownAs records (line_answer.Refused why) reply = reply ≡ ByChannel (Refused why)
 
--- the place of a record that is told of is below the length of the journal
+-- the place of a record that an answer names is below the length of the journal
 abbrev pub IsPlacedIn : ℕ → LineAnswer → Type 0
-IsPlacedIn len (told.Called outcome) = IsPlaced len outcome
+IsPlacedIn len (line_answer.Called outcome) = IsPlaced len outcome
 IsPlacedIn len _ = Unit {0}
 
 -- the outcome of a line stands for this reply, by the records of its channel; a line without a reply has none
 abbrev pub IsOutcomeOf : Option ShownReply → List DeviceChannel → Option LineOutcome → Type 0
 IsOutcomeOf reply channels None = reply ≡ None
 IsOutcomeOf reply channels (Some o) = (d : DeviceChannel) × (slice_get channels o.place ≡ Some d) × IsPlacedIn (length (channel_of d).now.records) o.answer
-    × ((r : ShownReply) × (reply ≡ Some r) × Tells (channel_of d).now.records o.answer r)
+    × ((r : ShownReply) × (reply ≡ Some r) × IsShownAs (channel_of d).now.records o.answer r)
 
 -- it stands for some reply
 abbrev pub HasReply : List DeviceChannel → Option LineOutcome → Type 0

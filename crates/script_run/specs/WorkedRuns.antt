@@ -38,8 +38,8 @@ abbrev run_lines : List Line → List Channel → Run
 run_lines lines cs = step_run (asks_by [] lines) cs
 
 -- a reply of a channel
-abbrev told : Reply → Option ShownReply
-told reply = Some (ByChannel (Replied reply))
+abbrev shown : Reply → Option ShownReply
+shown reply = Some (ByChannel (Replied reply))
 
 abbrev records_of : Channel → List Record
 records_of c = c.now.records
@@ -66,7 +66,8 @@ replies_in_one_thread =
     seen (run_lines (swap 0 (1 ∷ 2 ∷ []) 3 0 ∷ swap 0 (3 ∷ []) 3 0 ∷ line.Call 0 0 256 [] 1 0
     ∷ line.Call 0 0 17 (1 ∷ 2 ∷ 3 ∷ []) 1 0 ∷ line.Call 0 0 18 (9 ∷ []) 1 0 ∷ []) (bank 0 0 (every 10 0) ∷ []))
     ≡ record {
-      replies = told (Done false (0 ∷ 0 ∷ [])) ∷ told (Done false (1 ∷ 2 ∷ [])) ∷ told (BadCode 256) ∷ told (TooLong 3 2) ∷ told (Done true (9 ∷ 2 ∷ [])) ∷ [];
+      replies = shown (Done false (0 ∷ 0 ∷ [])) ∷ shown (Done false (1 ∷ 2 ∷ [])) ∷ shown (BadCode 256) ∷ shown (TooLong 3 2)
+          ∷ shown (Done true (9 ∷ 2 ∷ [])) ∷ [];
       records = (
           kept 0 16 (1 ∷ 2 ∷ []) (0 ∷ 0 ∷ []) 0 10 false
           ∷ kept 0 16 (3 ∷ 0 ∷ []) (1 ∷ 2 ∷ []) 20 30 false
@@ -81,7 +82,7 @@ abbrev pub late_record : Type 0
 late_record =
     seen (run_lines (swap 0 (1 ∷ []) 3 3 ∷ swap 1 (2 ∷ []) 4 3 ∷ []) (bank 0 0 (every 10 0) ∷ []))
     ≡ record {
-      replies = told (TimedOut 3) ∷ told (Done false (1 ∷ 0 ∷ [])) ∷ [];
+      replies = shown (TimedOut 3) ∷ shown (Done false (1 ∷ 0 ∷ [])) ∷ [];
       records = (kept 0 16 (1 ∷ 0 ∷ []) (0 ∷ 0 ∷ []) 0 10 true ∷ kept 1 16 (2 ∷ 0 ∷ []) (1 ∷ 0 ∷ []) 20 30 false ∷ []) ∷ [];
       pending = None ∷ [];
     }
@@ -91,7 +92,7 @@ abbrev pub still_pending : Type 0
 still_pending =
     seen (run_lines (swap 0 (1 ∷ []) 3 100 ∷ swap 0 (2 ∷ []) 3 0 ∷ swap 0 (2 ∷ []) 3 0 ∷ []) (bank 0 0 (every 10 0) ∷ []))
     ≡ record {
-      replies = told (TimedOut 3) ∷ told (StillPending 3) ∷ told (StillPending 3) ∷ [];
+      replies = shown (TimedOut 3) ∷ shown (StillPending 3) ∷ shown (StillPending 3) ∷ [];
       records = [] ∷ [];
       pending = Some (record { caller = 0; code = 16; input = 1 ∷ 0 ∷ []; post = 0 }) ∷ [];
     }
@@ -101,7 +102,7 @@ abbrev pub rest_of_a_hold : Type 0
 rest_of_a_hold =
     seen (run_lines (swap 0 (1 ∷ []) 2 5 ∷ look 2 0 ∷ look 2 0 ∷ []) (bank 0 0 (every 10 0) ∷ []))
     ≡ record {
-      replies = told (TimedOut 2) ∷ told (StillPending 2) ∷ told (Done false (1 ∷ 0 ∷ [])) ∷ [];
+      replies = shown (TimedOut 2) ∷ shown (StillPending 2) ∷ shown (Done false (1 ∷ 0 ∷ [])) ∷ [];
       records = (kept 0 16 (1 ∷ 0 ∷ []) (0 ∷ 0 ∷ []) 0 10 true ∷ kept 0 17 (0 ∷ 0 ∷ []) (1 ∷ 0 ∷ []) 20 30 false ∷ []) ∷ [];
       pending = None ∷ [];
     }
@@ -111,7 +112,7 @@ abbrev pub too_soon : Type 0
 too_soon =
     seen (run_lines (look 1 0 ∷ line.Wait 489 ∷ look 1 0 ∷ look 1 0 ∷ []) (bank 0 500 (every 10 1000) ∷ []))
     ≡ record {
-      replies = told (Done false (0 ∷ 0 ∷ [])) ∷ None ∷ told (TooSoon 1509 1510) ∷ told (Done false (0 ∷ 0 ∷ [])) ∷ [];
+      replies = shown (Done false (0 ∷ 0 ∷ [])) ∷ None ∷ shown (TooSoon 1509 1510) ∷ shown (Done false (0 ∷ 0 ∷ [])) ∷ [];
       records = (kept 0 17 (0 ∷ 0 ∷ []) (0 ∷ 0 ∷ []) 1000 1010 false ∷ kept 0 17 (0 ∷ 0 ∷ []) (0 ∷ 0 ∷ []) 1519 1529 false ∷ []) ∷ [];
       pending = None ∷ [];
     }
@@ -121,7 +122,7 @@ abbrev pub two_subspaces : Type 0
 two_subspaces =
     seen (run_lines (line.Call 0 0 17 [] 1 0 ∷ line.Call 0 1 17 [] 1 0 ∷ []) (bank 1 0 (every 10 0) ∷ bank 0 0 (every 10 0) ∷ []))
     ≡ record {
-      replies = told (Done false (0 ∷ 0 ∷ [])) ∷ told (Done false (0 ∷ 0 ∷ [])) ∷ [];
+      replies = shown (Done false (0 ∷ 0 ∷ [])) ∷ shown (Done false (0 ∷ 0 ∷ [])) ∷ [];
       records = (kept 0 17 (0 ∷ 0 ∷ []) (0 ∷ 0 ∷ []) 0 10 false ∷ []) ∷ (kept 0 17 (0 ∷ 0 ∷ []) (0 ∷ 0 ∷ []) 0 10 false ∷ []) ∷ [];
       pending = None ∷ None ∷ [];
     }
@@ -161,7 +162,7 @@ set_and_read =
     seen_on_processor (set_to (Some 20) 150 None 1 0 ∷ read 1 0 ∷ set_to None 9 None 1 0 ∷ read 1 0 ∷ [])
     ≡ record {
       replies =
-          told (Done false (registers 150 20 250 0 0 0)) ∷ Some (Values six_fields (registers 150 20 250 0 0 0))
+          shown (Done false (registers 150 20 250 0 0 0)) ∷ Some (Values six_fields (registers 150 20 250 0 0 0))
           ∷ Some (ByChannel (Refused (BelowLowest 9 10))) ∷ Some (Values six_fields (registers 150 20 250 0 0 0)) ∷ [];
       records = (
           kept 0 1 (registers 150 20 250 0 0 0) (registers 150 20 250 0 0 0) 0 10 false
@@ -177,7 +178,7 @@ abbrev pub refused_after_late : Type 0
 refused_after_late =
     seen_on_processor (set_to None 100 (Some 120) 1 3 ∷ set_to None 110 None 1 0 ∷ set_to None 130 None 2 0 ∷ [])
     ≡ record {
-      replies = told (TimedOut 1) ∷ told (StillPending 1) ∷ Some (ByChannel (Refused (DesiredAboveMax 130 120))) ∷ [];
+      replies = shown (TimedOut 1) ∷ shown (StillPending 1) ∷ Some (ByChannel (Refused (DesiredAboveMax 130 120))) ∷ [];
       records = (kept 0 1 (registers 100 10 120 0 0 0) (registers 100 10 120 0 0 0) 0 10 true ∷ []) ∷ [];
       pending = None ∷ [];
     }

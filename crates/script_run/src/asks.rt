@@ -4,7 +4,7 @@ ghost use Rattle.cpc_package.specs.Bindings.{IsRight, LiesIn};
 ghost use Rattle.channel_turns.specs.ChannelRuns.{call_by};
 ghost use Rattle.channel_turns.specs.Outcomes.{IsPlaced, StandsFor};
 ghost use Rattle.channel_turns.specs.Replies.{Reply};
-ghost use Rattle.script_run.specs.Channels.{IsToldBy};
+ghost use Rattle.script_run.specs.Channels.{IsAnsweredBy};
 ghost use Rattle.script_run.specs.DeviceChannels.{channel_by};
 ghost use Rattle.script_run.specs.LineOutcomes.{IsPlacedIn};
 ghost use Rattle.script_run.specs.StepRun.{OfCall, OfRead, OfWish, is_good};
@@ -32,7 +32,7 @@ pub(crate) fn call_channel<E: Executor>(
     requires polls { 0 < polls }
     requires most { polls ≤ 1000000 }
     requires early { channel.old.now.taken < 2 ^ 63 }
-    ensures told { IfOk result (IsToldBy (channel_by E.exec_of channel.old) (OfCall (call_by caller code bytes.now polls hold))
+    ensures answered { IfOk result (IsAnsweredBy (channel_by E.exec_of channel.old) (OfCall (call_by caller code bytes.now polls hold))
         (channel_by E.exec_of channel.new)) }
     ensures placed { IfOk result (IsPlacedIn (length channel.new.now.records)) }
     ensures readings { channel.new.now.taken ≤ channel.old.now.taken + 3 }
@@ -56,7 +56,7 @@ pub(crate) fn read_channel<E: Executor>(
     requires polls { 0 < polls }
     requires most { polls ≤ 1000000 }
     requires early { channel.old.now.taken < 2 ^ 63 }
-    ensures told { IfOk result (IsToldBy (channel_by E.exec_of channel.old)
+    ensures answered { IfOk result (IsAnsweredBy (channel_by E.exec_of channel.old)
         (OfRead (record { caller = caller; binding = binding.now; polls = polls; hold = hold })) (channel_by E.exec_of channel.new)) }
     ensures placed { IfOk result (IsPlacedIn (length channel.new.now.records)) }
     ensures readings { channel.new.now.taken ≤ channel.old.now.taken + 3 }
@@ -96,7 +96,7 @@ pub(crate) fn set_channel<E: Executor>(
     requires polls { 0 < polls }
     requires most { polls ≤ 1000000 }
     requires early { channel.old.now.taken < 2 ^ 63 }
-    ensures told { IfOk result (IsToldBy (channel_by E.exec_of channel.old)
+    ensures answered { IfOk result (IsAnsweredBy (channel_by E.exec_of channel.old)
         (OfWish (record { caller = caller; binding = binding.now; wish = wish.now; polls = polls; hold = hold })) (channel_by E.exec_of channel.new)) }
     ensures placed { IfOk result (IsPlacedIn (length channel.new.now.records)) }
     ensures readings { channel.new.now.taken ≤ channel.old.now.taken + 3 }

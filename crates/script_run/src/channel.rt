@@ -4,7 +4,7 @@ ghost use Rattle.pcc_script.specs.declared.limits.TheConstants.{MAX_POLLS};
 ghost use Rattle.std.specs.Option.{option_copied};
 ghost use Rattle.cpc_package.specs.Bindings.{IsRight, LiesIn};
 ghost use Rattle.channel_turns.specs.ChannelRuns.{call_by, fresh, journal_limit, pending_of};
-ghost use Rattle.script_run.specs.Channels.{IsToldBy, IsWired, bank_start, fresh_channel, moved_up};
+ghost use Rattle.script_run.specs.Channels.{IsAnsweredBy, IsWired, bank_start, fresh_channel, moved_up};
 ghost use Rattle.script_run.specs.DeviceChannels.{channel_of};
 ghost use Rattle.script_run.specs.LineOutcomes.{IsPlacedIn};
 ghost use Rattle.pcc_setup.specs.Equipment.{CanBegin};
@@ -163,7 +163,7 @@ impl DeviceChannel {
         requires polls { 0 < polls }
         requires most { polls ≤ MAX_POLLS }
         requires early { (channel_of self.old).now.taken < 2 ^ 63 }
-        ensures told { IfOk result (IsToldBy (channel_of self.old) (OfCall (call_by caller code bytes.now polls hold)) (channel_of self.new)) }
+        ensures answered { IfOk result (IsAnsweredBy (channel_of self.old) (OfCall (call_by caller code bytes.now polls hold)) (channel_of self.new)) }
         ensures placed { IfOk result (IsPlacedIn (length (channel_of self.new).now.records)) }
         ensures readings { (channel_of self.new).now.taken ≤ (channel_of self.old).now.taken + 3 }
         ensures start { (channel_of self.new).start ≡ (channel_of self.old).start }
@@ -192,7 +192,8 @@ impl DeviceChannel {
         requires polls { 0 < polls }
         requires most { polls ≤ MAX_POLLS }
         requires early { (channel_of self.old).now.taken < 2 ^ 63 }
-        ensures told { IfOk result (IsToldBy (channel_of self.old) (OfRead (record { caller = caller; binding = binding.now; polls = polls; hold = hold }))
+        ensures answered { IfOk result (IsAnsweredBy (channel_of self.old)
+            (OfRead (record { caller = caller; binding = binding.now; polls = polls; hold = hold }))
             (channel_of self.new)) }
         ensures placed { IfOk result (IsPlacedIn (length (channel_of self.new).now.records)) }
         ensures readings { (channel_of self.new).now.taken ≤ (channel_of self.old).now.taken + 3 }
@@ -223,7 +224,7 @@ impl DeviceChannel {
         requires polls { 0 < polls }
         requires most { polls ≤ MAX_POLLS }
         requires early { (channel_of self.old).now.taken < 2 ^ 63 }
-        ensures told { IfOk result (IsToldBy (channel_of self.old)
+        ensures answered { IfOk result (IsAnsweredBy (channel_of self.old)
             (OfWish (record { caller = caller; binding = binding.now; wish = wish.now; polls = polls; hold = hold })) (channel_of self.new)) }
         ensures placed { IfOk result (IsPlacedIn (length (channel_of self.new).now.records)) }
         ensures readings { (channel_of self.new).now.taken ≤ (channel_of self.old).now.taken + 3 }

@@ -6,7 +6,7 @@ ghost use Rattle.channel_turns.specs.Replies.{Reply};
 ghost use Rattle.script_run.specs.Summaries.{IsUnder, added, counted, none_counted};
 ghost use Rattle.channel_headline.specs.Asked.{Replied};
 ghost use Rattle.script_run.specs.Headlines.{own_reply};
-ghost use Rattle.script_run.specs.LineOutcomes.{HasReply, IsOutcomeOf, IsPlacedIn, Tells};
+ghost use Rattle.script_run.specs.LineOutcomes.{HasReply, IsOutcomeOf, IsPlacedIn, IsShownAs};
 ghost use Rattle.script_run.specs.StepRun.{ShownReply};
 
 use crate::channel::DeviceChannel;
@@ -50,11 +50,11 @@ impl Counts {
         }
     }
 
-    // Counts the reply that is told of an ask.
+    // Counts the reply that an answer stands for.
     fn add(&mut self, answer: LineAnswer, records: &[Record])
         requires placed { IsPlacedIn (length records.now) answer }
         requires under { IsUnder MAX_ACTIONS self.old }
-        ensures { (reply : ShownReply) → Tells records.now answer reply → self.new ≡ added self.old (own_reply reply) }
+        ensures { (reply : ShownReply) → IsShownAs records.now answer reply → self.new ≡ added self.old (own_reply reply) }
     {
         match answer {
             LineAnswer::Called(outcome) => self.add_call(outcome, records),

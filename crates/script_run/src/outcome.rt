@@ -3,7 +3,7 @@ use channel_turns::Outcome;
 use cppc_calls::SetRefusal;
 use cppc_device::Values;
 
-/// What is told of an ask.
+/// The answer to a line that asks something of a channel.
 #[derive(Clone, Copy, Debug, PartialEq, Eq)]
 pub enum LineAnswer {
     /// What became of its call.

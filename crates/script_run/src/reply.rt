@@ -3,8 +3,18 @@ ghost use Rattle.std.specs.Prelude.{◌≡◌, ◌++◌, [], ◌∷◌, Option, 
 ghost use Rattle.channel_turns.specs.Outcomes.{IsPlaced, StandsFor};
 ghost use Rattle.channel_turns.specs.Replies.{Done, JournalFull, Reply, TooLong, TooSoon};
 ghost use Rattle.pcc_text.specs.Pieces.{spelled};
-ghost use Rattle.script_run.specs.ReplyText.{entry_pieces, first_entry, number_after, numbers_after, refusal_text, replies_text, reply_text, shown_text, values_text};
-ghost use Rattle.script_run.specs.LineOutcomes.{HasReply, IsOutcomeOf, IsPlacedIn, Tells};
+ghost use Rattle.script_run.specs.ReplyText.{
+  entry_pieces,
+  first_entry,
+  number_after,
+  numbers_after,
+  refusal_text,
+  replies_text,
+  reply_text,
+  shown_text,
+  values_text,
+};
+ghost use Rattle.script_run.specs.LineOutcomes.{HasReply, IsOutcomeOf, IsPlacedIn, IsShownAs};
 ghost use Rattle.script_run.specs.StepRun.{ShownReply};
 
 use crate::channel::DeviceChannel;
@@ -41,7 +51,7 @@ pub fn put_outcome(
     }
 }
 
-// Puts the reply that is told of an ask.
+// Puts the reply that an answer stands for.
 fn put_answer(
     out: &mut Vec<u8>,
     line: u64,
@@ -49,7 +59,7 @@ fn put_answer(
     records: &[Record],
 ) -> Result<(), NoMemory>
     requires { IsPlacedIn (length records.now) answer }
-    ensures { OnOk result ((reply : ShownReply) → Tells records.now answer reply → out.new.items ≡ out.old.items ++ shown_text line reply) }
+    ensures { OnOk result ((reply : ShownReply) → IsShownAs records.now answer reply → out.new.items ≡ out.old.items ++ shown_text line reply) }
 {
     match answer {
         LineAnswer::Called(outcome) => put_reply(out, line, outcome, records),

@@ -1,5 +1,14 @@
 //! The definition of a run, evaluated on worked cases.
-ghost use Rattle.script_run.specs.WorkedRuns.{late_record, refused_after_late, replies_in_one_thread, rest_of_a_hold, set_and_read, still_pending, too_soon, two_subspaces};
+ghost use Rattle.script_run.specs.WorkedRuns.{
+  late_record,
+  refused_after_late,
+  replies_in_one_thread,
+  rest_of_a_hold,
+  set_and_read,
+  still_pending,
+  too_soon,
+  two_subspaces,
+};
 
 /// Worked runs of `step`, by replies and records.
 pub fn worked_runs()

@@ -2,7 +2,7 @@ use Rattle.std.proofs.Common.{◌≡◌, ℕ, List, [], ◌∷◌, ◌++◌, sub
 use Rattle.std.specs.Prelude.{codes, OnOk}
 use Rattle.pcc_text.specs.Pieces.{Decimal, Words, spell, spelled}
 use Rattle.pcc_setup.specs.RefusalText.{cpu_pieces}
-use Rattle.pcc_setup.proofs.Refused.{put_behind, three_before}
+use Rattle.pcc_setup.proofs.Refused.{put_after, three_before}
 use Rattle.pcc_setup.proofs.text.put_cpu.Goals as goal
 
 pub returns : goal.returns
@@ -10,5 +10,5 @@ unfolding spelled
 returns c =
     let P : List ℕ → Type 0 = λ v. OnOk c.put_cpu_fault.result (c.put_cpu_fault.new.out.items ≡ c.args.out.now.items ++ v) in
     subst P (three_before (codes "cpu ") (spell (Decimal c.args.cpu)) (codes " ") (spelled (cpu_pieces c.args.fault)))
-    (put_behind c.put_cpu_fault.result c.args.out.now.items c.put_pieces.new.out.items c.put_cpu_fault.new.out.items
+    (put_after c.put_cpu_fault.result c.args.out.now.items c.put_pieces.new.out.items c.put_cpu_fault.new.out.items
     (spelled (Words (codes "cpu ") ∷ Decimal c.args.cpu ∷ Words (codes " ") ∷ [])) (spelled (cpu_pieces c.args.fault)) c.in_ok-put_pieces.ensures c.put_cpu_fault.ensures)

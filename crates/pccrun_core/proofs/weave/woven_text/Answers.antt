@@ -2,7 +2,7 @@ use Rattle.std.proofs.Common.{◌≡◌, ◌∷◌, ℕ, List, ap, ◌∙◌}
 use Rattle.std.specs.Prelude.{replicate}
 use Rattle.pcc_journal.specs.declared.text.JournalHead.{JournalHead}
 use Rattle.pcc_steps.specs.declared.wiring.Wiring.{Wiring}
-use Rattle.pcc_setup.specs.Openings.{head_of}
+use Rattle.pcc_setup.specs.Openings.{head_on, zeros_in}
 use Rattle.pccrun_core.proofs.Woven.{have_polls, is_woven}
 use Rattle.pccrun_core.proofs.weave.woven_text.Goals as goal
 
@@ -12,7 +12,7 @@ weave_lines-requires-clause-polls c =
 
 pub returns : goal.returns
 returns c = λ t alone.
-    let state : replicate c.args.opened.now.wiring.room 0 ≡ replicate (head_of alone.open_line.device alone.open_line.id alone.subspace).room 0 = ap (λ (w : Wiring). replicate w.room 0) alone.wiring in
+    let state : replicate c.args.opened.now.wiring.room 0 ≡ zeros_in (head_on alone.open_line alone.subspace) = ap (λ (w : Wiring). replicate w.room 0) alone.wiring in
     let woven = c.in_ok-weave_lines.ensures.run in
     is_woven c.args.scenario.now t alone.open_line alone.subspace c.args.picks.now c.args.opened.now.wiring c.args.opened.now.head.limits c.in_ok-new.field-0
     c.in_ok-plain.plain.channel c.weave_lines.new.plain.channel c.in_ok-plain.plain.clock c.weave_lines.new.plain.clock c.deref.result.now c.deref-2.result.now woven.0 woven.1.readings c.put_journal.new.out.items

@@ -4,13 +4,13 @@ use Rattle.channel_turns.specs.ChannelRuns.{Channel}
 use Rattle.script_run.proofs.Wishes.{Begun, set_refused, wish_posted, wish_readings, written_back}
 use Rattle.script_run.proofs.asks.set_channel.Goals as goal
 
-pub returns-in-Err-clause-told : goal.returns-in-Err-clause-told
-returns-in-Err-clause-told g c =
+pub returns-in-Err-clause-answered : goal.returns-in-Err-clause-answered
+returns-in-Err-clause-answered g c =
     let long : length c.deref.result.now ≡ c.args.channel.now.head.room = search rules in
     set_refused g.E.Executor.exec_of c.args.channel.now (record { caller = c.args.caller; binding = c.args.binding.now; wish = c.args.wish.now; polls = c.args.polls; hold = c.args.hold }) c.ready.new.self c.deref.result.now c.in-Err.refusal c.in_ok-of_refusal-in-Err.field-0 long c.in-Err.ensures.ready c.in_ok-of_refusal-in-Err.ensures
 
-pub returns-clause-told : goal.returns-clause-told
-returns-clause-told g c =
+pub returns-clause-answered : goal.returns-clause-answered
+returns-clause-answered g c =
     let long : length c.deref.result.now ≡ c.args.channel.now.head.room = search rules in
     let begun : Begun g.E.Executor.exec_of c.args.channel.now (record { caller = c.args.caller; binding = c.args.binding.now; wish = c.args.wish.now; polls = c.args.polls; hold = c.args.hold }) c.deref.result.now c.in-Ok.ready c.ready.new.self c.await_earlier.new.self c.await_earlier.result = record { long = long; made = c.in-Ok.ensures.ready; polled = c.await_earlier.ensures.polled } in
     let free : c.await_earlier.result ≡ true = search rules in
@@ -29,4 +29,4 @@ returns-clause-readings g c =
 
 pub returns-clause-start : goal.returns-clause-start
 returns-clause-start g c =
-    ap (λ (x : Channel). x.start) (returns-clause-told g c).left
+    ap (λ (x : Channel). x.start) (returns-clause-answered g c).left

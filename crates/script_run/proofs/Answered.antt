@@ -18,15 +18,15 @@ use Rattle.channel_turns.specs.Outcomes.{StandsFor}
 use Rattle.channel_turns.specs.Replies.{Reply, Done, BadCode, TooLong, JournalFull, StillPending, TooSoon, TimedOut}
 use Rattle.channel_turns.specs.declared.outcome.Outcome.{Outcome}
 use Rattle.channel_headline.specs.Asked.{Replied}
-use Rattle.script_run.specs.Channels.{IsToldBy}
+use Rattle.script_run.specs.Channels.{IsAnsweredBy}
 use Rattle.script_run.specs.DeviceChannels.{channel_by}
 use Rattle.script_run.specs.StepRun.{ByChannel, OfCall, OfRead, ReadCall, ShownReply, call_of, is_good, shown_read}
 use Rattle.script_run.specs.StepRun as run
-use Rattle.script_run.specs.declared.outcome.LineAnswer.TheVariants as told
+use Rattle.script_run.specs.declared.outcome.LineAnswer.TheVariants as line_answer
 
 module _ (exec : Device) (old new : OpenChannel) where
-  pub told_call : (call : Call) (o : Outcome) → IsAnswered exec old call new o → IsToldBy (channel_by exec old) (OfCall call) (channel_by exec new) (told.Called o)
-  told_call call o h = record {
+  pub answered_call : (call : Call) (o : Outcome) → IsAnswered exec old call new o → IsAnsweredBy (channel_by exec old) (OfCall call) (channel_by exec new) (line_answer.Called o)
+  answered_call call o h = record {
     reply = ((answer_call (start_by exec old) call old.now).reply, refl, h.told);
     left = ap (channel_by exec) h.left;
   }
@@ -38,7 +38,7 @@ module _ (exec : Device) (old new : OpenChannel) where
   -- a read that shows no numbers
   pub read_called : (r : ReadCall) (o : Outcome) (good : Bool) → IsAnswered exec old (call_of r) new o
       → ((reply : Reply) → StandsFor new.now.records o reply → good ≡ is_good reply) → good ≡ false
-      → IsToldBy (channel_by exec old) (OfRead r) (channel_by exec new) (told.Called o)
+      → IsAnsweredBy (channel_by exec old) (OfRead r) (channel_by exec new) (line_answer.Called o)
   read_called r o good h k bad = let reply : Reply = (answer_call (start_by exec old) (call_of r) old.now).reply in record {
     reply = (reply, plain reply (sym (k reply (stands (call_of r) o h)) ∙ bad), h.told);
     left = ap (channel_by exec) h.left;
@@ -111,7 +111,7 @@ shows b (TimedOut n) now e h = absurd (cc e)
 
 pub read_values : (exec : Device) (old new : OpenChannel) (r : ReadCall) (o : Outcome) (good : Bool) (space : List ℕ) (v : values.Values) → IsAnswered exec old (call_of r) new o
     → ((reply : Reply) → StandsFor new.now.records o reply → good ≡ is_good reply) → good ≡ true → space ≡ new.now.object.space → v.entries ≡ values_in r.binding space
-    → IsToldBy (channel_by exec old) (OfRead r) (channel_by exec new) (told.Read v)
+    → IsAnsweredBy (channel_by exec old) (OfRead r) (channel_by exec new) (line_answer.Read v)
 read_values exec old new r o good space v h k is at e =
     let a : Answered = answer_call (start_by exec old) (call_of r) old.now in
     let now_is : new.now ≡ a.now = ap (λ (c : OpenChannel). c.now) h.left in
