@@ -6,6 +6,7 @@ use Rattle.std.proofs.lemmas.Bool.Decides.{nat_tests}
 use Rattle.std.proofs.lemmas.Option.{slice_get_within}
 use Rattle.pcct_table.specs.declared.subspace.Subspace.{Subspace}
 use Rattle.pcct_table.specs.declared.table.Table.{Table}
+use Rattle.pcct_table.specs.Subspaces.{kind_of}
 use Rattle.pcc_script.specs.declared.scenario.Line.{Line}
 use Rattle.pcc_script.specs.declared.scenario.Line.TheVariants as line
 use Rattle.pcc_script.specs.declared.scenario.OpenLine.{OpenLine}
@@ -13,7 +14,7 @@ use Rattle.pcc_script.specs.declared.scenario.Scenario.{Scenario}
 use Rattle.pcc_setup.specs.declared.opening.Opened.{Opened}
 use Rattle.cpc_package.specs.declared.binding.Binding.{Binding}
 use Rattle.pcc_setup.specs.Equipment.{equipped}
-use Rattle.pcc_setup.specs.Openings.{head_of, image_of, line_fault, opened_by, opened_with}
+use Rattle.pcc_setup.specs.Openings.{asks_on, head_of, image_of, line_fault, opened_by, opened_with}
 use Rattle.pcc_setup.specs.Processors.{Binds, controller_named, controller_on, controls, entries_fault, fault_on, named_subspace}
 use Rattle.pcc_setup.specs.SetUps.{IsSetUp, action_fault, is_bank}
 use Rattle.pcc_setup.specs.declared.action.ActionFault.TheVariants.{NoCpu}
@@ -22,7 +23,7 @@ use Rattle.cpc_package.specs.declared.entry.Entry.{Entry}
 use Rattle.pcc_script.specs.declared.scenario.Device.{Device}
 use Rattle.pcc_script.specs.declared.scenario.Device.TheVariants.{Bank, Cppc}
 use Rattle.pcc_setup.specs.declared.refusal.UseFault.TheVariants as unused
-use Rattle.pcc_wiring.specs.declared.fault.Asks.TheVariants.{System}
+use Rattle.pcc_wiring.specs.declared.fault.Asks.{Asks}
 use Rattle.pcc_wiring.specs.Faults.{fault_of}
 use Rattle.pcc_wiring.specs.Wirings.{wiring_with}
 use Rattle.script_run.proofs.OpenedScripts.{there}
@@ -57,9 +58,14 @@ one_line opens e = let n : length opens ≡ 1 = grind (arith, nat_tests) in go o
     go (o ∷ []) n = (o, refl)
     go (o ∷ p ∷ xs) n = absurd (omega (arith, n))
 
+-- one side may ask on a structure, which has no fault then
+pub record IsFree (u : Subspace) : Type 0 where
+  pub asks : Asks
+  pub free : fault_of asks u ≡ None
+
 -- the one subspace that it opens
 abbrev pub Alone : Scenario → Table → List Opened → Type 0
-Alone s t os = (x : Opened) × (os ≡ x ∷ []) × (h : IsOpenedAlone s t x) × (fault_of System h.subspace ≡ None)
+Alone s t os = (x : Opened) × (os ≡ x ∷ []) × (h : IsOpenedAlone s t x) × IsFree h.subspace
 
 pub alone : (input : List ℕ) (s : Scenario) (os : List Opened) → (h : Serves command.Weave input s os) → Alone s h.opens.table os
 alone input s os h =
@@ -76,15 +82,15 @@ alone input s os h =
     let is : os ≡ x ∷ [] =
     h.opens.list_is ∙ ap (λ (v : List OpenLine). map (equipped cpus s.caps) (opened_by t v)) one.1
     ∙ ap (λ (m : Option Subspace). map (equipped cpus s.caps) (opened_with o.device o.id t.flags m ++ [])) u.1 in
-    (x, is, record { open_line = o; opens = one.1; subspace = u.0; structure = u.1; head = refl; wiring = refl }, u.2)
+    (x, is, record { open_line = o; opens = one.1; subspace = u.0; structure = u.1; head = refl; wiring = refl }, record { asks = asks_on o.device (kind_of u.0); free = u.2 })
 
 -- the first of them
 pub alone_at : (input : List ℕ) (s : Scenario) (os : List Opened) (y : Opened) → (h : Serves command.Weave input s os) → y ≡ get_or os 0 y
-    → (a : IsOpenedAlone s h.opens.table y) × (fault_of System a.subspace ≡ None)
+    → (a : IsOpenedAlone s h.opens.table y) × IsFree a.subspace
 alone_at input s os y h is =
     let a = alone input s os h in
     let same : y ≡ a.0 = is ∙ ap (λ (v : List Opened). get_or v 0 y) a.1 in
-    subst (λ (z : Opened). (b : IsOpenedAlone s h.opens.table z) × (fault_of System b.subspace ≡ None)) (sym same) (a.2, a.3)
+    subst (λ (z : Opened). (b : IsOpenedAlone s h.opens.table z) × IsFree b.subspace) (sym same) (a.2, a.3)
 
 pub some_opened : (input : List ℕ) (s : Scenario) (os : List Opened) → Serves command.Weave input s os → 0 < length os
 some_opened input s os h = let n : length os ≡ 1 = ap length (alone input s os h).1 in omega (arith, n)

@@ -3,7 +3,7 @@ use crate::commands::{TABLE, joined, status_of, status_of_long};
 use std::test::Fail;
 
 #[test]
-fn the_table_of_a_script_is_tested_behind_its_lines(rt: HostRuntime) -> Result<(), Fail> {
+fn the_table_of_a_script_is_tested_after_its_lines(rt: HostRuntime) -> Result<(), Fail> {
     let alloc = rt.alloc();
     let rows: [(&[u8], &[u8]); 3] = [
         (
@@ -47,13 +47,6 @@ const NO_ERRORS: &[u8] =
 000000000000000000000000000000000000000000000000002000030000d1fe000000000100000000000000002000030000d1fe00000000feffffff\
 0000000000000000000000000000000000000000000000000000000000000000";
 
-// One structure of type 4.
-const PLATFORM_ASKS: &[u8] =
-    b"50434354d4000000029550434352554e4558414d504c453101000000544553540100000000000000000000000000000004a400000000000000000080\
-000000001800000000000000000000000000000000000000000000000000000000000000000000000000000000000000000000000000000000000000\
-000000000000000000000000000000000000000000000000002000030000d1fe000000000100000000000000002000030000d1fe00000000feffffff\
-0000000001000000000000000000000000000000000000000000000000000000";
-
 const WOVEN: &[u8] =
     b"o store 8 0000001250434300\no store 9 0000000000000001\no load 1 0000000000000000\no store 1 0000000000000001\n\
 o load 0 0000000000000001\no store 0 0000000000000000\no store 2 0000000000000001 -> posted\n\
@@ -68,7 +61,7 @@ record 0 caller 0 code 18 error post 0 done 10 timely in 0100000000000000 out 01
 fn subspaces_of_the_types_three_to_five(rt: HostRuntime) -> Result<(), Fail> {
     let alloc = rt.alloc();
     let call: &[u8] = b"\nclock 0 10\nopen 0 bank\ncall 0 0 18 01 1 0\n";
-    let rows: [(&str, &[u8], &[u8], &[u8], u8); 5] = [
+    let rows: [(&str, &[u8], &[u8], &[u8], u8); 4] = [
         (
             "step",
             HARDWARE_REGISTERS,
@@ -100,17 +93,79 @@ record 0 caller 0 code 18 ok post 0 done 10 timely in 01000000000000000000000000
 end 0\n",
             0,
         ),
-        (
-            "step",
-            PLATFORM_ASKS,
-            b"",
-            b"refused open 0 wrong role\n",
-            3,
-        ),
     ];
     for (words, table, picks, text, status) in rows {
         let mut script = Vec::from_slice(alloc, b"table ")?;
         for part in [table, call, picks] {
+            script.extend_from_slice(part)?;
+        }
+        assert_eq!(rt; status_of(alloc, words, &script, text)?, Some(status));
+    }
+    Ok(())
+}
+
+// One structure of type 4, whose update register is the check register.
+const PLATFORM_ASKS: &[u8] =
+    b"50434354d4000000029550434352554e4558414d504c453101000000544553540100000000000000000000000000000004a400000000000000000080\
+000000001800000000000000000000000000000000000000000000000000000000000000000000000000000000000000000000000000000000000000\
+000000000000000000000000000000000000000000000000002000030000d1fe000000000100000000000000002000030000d1fe00000000feffffff\
+0000000001000000000000000000000000000000000000000000000000000000";
+
+// The same with an update register that never sets completion.
+const NEVER_SETS: &[u8] =
+    b"50434354d4000000029650434352554e4558414d504c453101000000544553540100000000000000000000000000000004a400000000000000000080\
+000000001800000000000000000000000000000000000000000000000000000000000000000000000000000000000000000000000000000000000000\
+000000000000000000000000000000000000000000000000002000030000d1fe000000000100000000000000002000030000d1fe00000000feffffff\
+0000000000000000000000000000000000000000000000000000000000000000";
+
+// The platform asks for a swap, and the operating system answers.
+const ANSWERED: &[u8] =
+    b"p store 8 0000000050434300\np store 9 0000001000000005\np store 10 0000000000000001\np load 0 0000000000000001\n\
+p store 0 0000000000000000\np store 2 0000000000000001 -> posted\no swap 2 0000000000000000 0000000000000001\n\
+o load 8 0000000050434300\no load 9 0000001000000005\no load 10 0000000000000001\no store 10 0000000000000000\n\
+o load 0 0000000000000000\no store 0 0000000000000001 -> served\np load 0 0000000000000001\n\
+p load 8 0000000050434300\np load 9 0000001000000005\np load 10 0000000000000000 -> done ok\n\
+journal 0 type 4 bank room 8 turnaround 0 rate 0 errors no\n\
+record 0 caller 0 code 16 ok post 0 done 10 timely in 0100000000000000 out 0000000000000000\nend 0\n";
+
+#[test]
+fn the_platform_asks_on_type_four(rt: HostRuntime) -> Result<(), Fail> {
+    let alloc = rt.alloc();
+    let rows: [(&str, &[u8], &[u8], &[u8], u8); 4] = [
+        (
+            "weave",
+            PLATFORM_ASKS,
+            b"\nclock 0 10\nopen 0 bank\ncall 0 0 16 01 3 0\npick ppppppooooooopppp\n",
+            ANSWERED,
+            0,
+        ),
+        (
+            "step",
+            PLATFORM_ASKS,
+            b"\nclock 0 10\nopen 0 bank\ncall 0 0 16 01 2 2\ncall 1 0 17 - 1 0\n",
+            b"4 timed out 2\n5 ok 0100000000000000\njournal 0 type 4 bank room 8 turnaround 0 rate 0 errors no\n\
+record 0 caller 0 code 16 ok post 0 done 10 late in 0100000000000000 out 0000000000000000\n\
+record 1 caller 1 code 17 ok post 20 done 30 timely in 0000000000000000 out 0100000000000000\nend 0\n",
+            0,
+        ),
+        (
+            "step",
+            NEVER_SETS,
+            b"\nclock 0 10\nopen 0 bank\n",
+            b"refused open 0 never sets\n",
+            3,
+        ),
+        (
+            "step",
+            PLATFORM_ASKS,
+            b"\nclock 0 10\nopen 0 cppc -\n",
+            b"refused open 0 wrong role\n",
+            3,
+        ),
+    ];
+    for (words, table, lines, text, status) in rows {
+        let mut script = Vec::from_slice(alloc, b"table ")?;
+        for part in [table, lines] {
             script.extend_from_slice(part)?;
         }
         assert_eq!(rt; status_of(alloc, words, &script, text)?, Some(status));
