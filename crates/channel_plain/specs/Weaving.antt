@@ -37,14 +37,6 @@ module _ {K : Type 0} (taken : K → ℕ) (tells : K → ℕ → Option ℕ) whe
     PicksOnce side s k s' k' line = (r : ℕ) × Takes taken tells k k' (picked exec calls side r s).reads r
         × (s' ≡ (picked exec calls side r s).state) × (line ≡ line_of side (picked exec calls side r s))
 
-    -- these picks of a new channel made these lines: a run of words, at the clock's next readings, which leaves this channel
-    pub record IsWeave (sides : List Side) (old : Clocked K) (trace : List TraceLine) (new : Clocked K) : Type 0 where
-      pub readings : List ℕ
-      pub read : Readings old.clock readings new.clock
-      pub few : length readings ≤ length sides
-      pub run : WordRun exec old.channel.ask.wiring old.channel.calls.limits old.channel.start (opening_of old.channel.ask.wiring) calls sides trace readings
-          new.channel.calls.records (flown new.channel.ask.in_flight new.channel.calls.sent) (exchanges_of_commands new.channel.executed)
-
     module _ (is_state : List ℕ → Type 0) (room_of : List ℕ → ℕ) where
       -- the lines of some picks, from a channel and its clock to what they leave
       pub data Wove (s : PlainState) (k : K) : List Side → List TraceLine → List ℕ → PlainState → K → Type 0 where
@@ -54,6 +46,16 @@ module _ {K : Type 0} (taken : K → ℕ) (tells : K → ℕ → Option ℕ) whe
             → Takes taken tells m m' (picked exec calls side r t).reads r
             → Wove s k (sides ++ side ∷ []) (ls ++ line_of side (picked exec calls side r t) ∷ [])
             (rs ++ reading_of (picked exec calls side r t).reads r) (picked exec calls side r t).state m'
+
+      -- these picks of a new channel made these lines: a run of words, at the clock's next readings, which leaves this channel
+      pub record IsWeave (sides : List Side) (old : Clocked K) (trace : List TraceLine) (new : Clocked K) : Type 0 where
+        pub readings : List ℕ
+        pub read : Readings old.clock readings new.clock
+        pub few : length readings ≤ length sides
+        pub run : WordRun exec old.channel.ask.wiring old.channel.calls.limits old.channel.start (opening_of old.channel.ask.wiring) calls sides trace readings
+            new.channel.calls.records (flown new.channel.ask.in_flight new.channel.calls.sent) (exchanges_of_commands new.channel.executed)
+        -- the picks, one after the other
+        pub wove : Wove old.channel old.clock sides trace readings new.channel new.clock
 
       -- these picks were made one after the other, and more picks can follow
       pub record Follows (sides : List Side) (old : Clocked K) (trace : List TraceLine) (new : Clocked K) : Type 0 where

@@ -48,9 +48,9 @@ fn weave_to<O: LineSink, E: Executor, K: Clock>(
     requires fresh { IsFresh plain.old.channel }
     requires polls { HavePolls calls.now }
     ensures run { OnOk result ((trace : List TraceLine)
-        × IsWeave K.taken K.tells E.exec_of calls.now picks.now plain.old trace plain.new × O.took out.old trace out.new) }
+        × IsWeave K.taken K.tells E.exec_of calls.now E.is_state E.room_of picks.now plain.old trace plain.new × O.took out.old trace out.new) }
     ensures cut { OnErr result ((n : ℕ) × (trace : List TraceLine)
-        × IsWeave K.taken K.tells E.exec_of calls.now (take n picks.now) plain.old trace plain.new) }
+        × IsWeave K.taken K.tells E.exec_of calls.now E.is_state E.room_of (take n picks.now) plain.old trace plain.new) }
     ensures good { IsGood E.exec_of plain.new.channel }
     ensures whole { IsWhole (opening_of plain.old.channel.ask.wiring) calls.now plain.new.channel.calls.records }
     ensures stays { Stays plain.old.channel plain.new.channel }
@@ -74,9 +74,9 @@ pub fn weave<E: Executor, K: Clock>(
 ) -> Result<Trace, NoMemory>
     requires fresh { IsFresh plain.old.channel }
     requires polls { HavePolls calls.now }
-    ensures run { IfOk result (λ trace. IsWeave K.taken K.tells E.exec_of calls.now picks.now plain.old trace plain.new) }
+    ensures run { IfOk result (λ trace. IsWeave K.taken K.tells E.exec_of calls.now E.is_state E.room_of picks.now plain.old trace plain.new) }
     ensures cut { OnErr result ((n : ℕ) × (trace : List TraceLine)
-        × IsWeave K.taken K.tells E.exec_of calls.now (take n picks.now) plain.old trace plain.new) }
+        × IsWeave K.taken K.tells E.exec_of calls.now E.is_state E.room_of (take n picks.now) plain.old trace plain.new) }
 
     // Of all picks, or of those before want of memory.
     ensures good { IsGood E.exec_of plain.new.channel }
@@ -100,9 +100,10 @@ pub fn weave_lines<E: Executor, K: Clock>(
     requires fresh { IsFresh plain.old.channel }
     requires polls { HavePolls calls.now }
     ensures run { OnOk result ((trace : List TraceLine)
-        × IsWeave K.taken K.tells E.exec_of calls.now picks.now plain.old trace plain.new × (out.new.items ≡ out.old.items ++ trace_text trace)) }
+        × IsWeave K.taken K.tells E.exec_of calls.now E.is_state E.room_of picks.now plain.old trace plain.new
+        × (out.new.items ≡ out.old.items ++ trace_text trace)) }
     ensures cut { OnErr result ((n : ℕ) × (trace : List TraceLine)
-        × IsWeave K.taken K.tells E.exec_of calls.now (take n picks.now) plain.old trace plain.new) }
+        × IsWeave K.taken K.tells E.exec_of calls.now E.is_state E.room_of (take n picks.now) plain.old trace plain.new) }
 
     // Of all picks, or of those before want of memory.
     ensures good { IsGood E.exec_of plain.new.channel }

@@ -11,7 +11,7 @@ returns-clause-run g c = let h = c.pick_all-done.ensures in let p = c.asking_tab
     on_ok_weaker c.pick_all-done.result
     (λ o. (
       h.1,
-      subst (λ (l : List Side). IsWeave g.K.Clock.taken g.K.Clock.tells g.E.Executor.exec_of c.args.calls.now l c.args.plain.now h.1 c.pick_all-done.new.plain) o.0
+      subst (λ (l : List Side). IsWeave g.K.Clock.taken g.K.Clock.tells g.E.Executor.exec_of c.args.calls.now g.E.Executor.is_state g.E.Executor.room_of l c.args.plain.now h.1 c.pick_all-done.new.plain) o.0
           (is_weave g.K.Clock.taken g.K.Clock.tells g.E.Executor.exec_of c.args.calls.now g.E.Executor.is_state g.E.Executor.room_of p.post p.look p.step q.begin q.step q.device c.requires.polls _ c.args.plain.now h.1 c.pick_all-done.new.plain c.requires.fresh c.stand.ensures.stands h.2),
       o.1,
     )) h.3
@@ -25,7 +25,7 @@ returns-clause-good g c = is_good c.history_laws.ensures g.E.Executor.exec_of g.
 
 pub returns-clause-whole : goal.returns-clause-whole
 returns-clause-whole g c = let h = c.pick_all-done.ensures in let p = c.asking_tables.ensures in let q = c.answering_tables.ensures in
-    whole_of_weave g.K.Clock.taken g.K.Clock.tells g.E.Executor.exec_of c.args.calls.now _ c.args.plain.now h.1 c.pick_all-done.new.plain
+    whole_of_weave g.K.Clock.taken g.K.Clock.tells g.E.Executor.exec_of c.args.calls.now g.E.Executor.is_state g.E.Executor.room_of _ c.args.plain.now h.1 c.pick_all-done.new.plain
     (is_weave g.K.Clock.taken g.K.Clock.tells g.E.Executor.exec_of c.args.calls.now g.E.Executor.is_state g.E.Executor.room_of p.post p.look p.step q.begin q.step q.device c.requires.polls _ c.args.plain.now h.1 c.pick_all-done.new.plain c.requires.fresh c.stand.ensures.stands h.2)
 
 pub returns-clause-stays : goal.returns-clause-stays

@@ -1,0 +1,11 @@
+//! Type 4: the platform posts commands, and the operating system handles each of them whole, once and in order (ACPI 6.5, 14.1.6).
+#![tactic(auto)]
+
+mod notice;
+mod notify;
+mod weaving;
+
+pub use notice::Notice;
+pub use notify::NotifyPlain;
+pub use pcc_wiring::asks_of;
+pub use weaving::weave_lines;
