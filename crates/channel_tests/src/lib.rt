@@ -14,6 +14,8 @@ mod limits;
 #[cfg(test)]
 mod machines;
 #[cfg(test)]
+mod notices;
+#[cfg(test)]
 mod subspaces;
 #[cfg(test)]
 mod traces;

@@ -11,7 +11,7 @@ use pcc_steps::Wiring;
 use rate_limit::Limits;
 use std::alloc::Global;
 
-fn call(alloc: Global, caller: u32, code: u32, bytes: &[u8], polls: u32) -> Result<Asked, NoMemory>
+pub fn call(alloc: Global, caller: u32, code: u32, bytes: &[u8], polls: u32) -> Result<Asked, NoMemory>
     ensures { IfOk result (λ c. c.polls ≡ polls) }
 {
     Ok(Asked {
@@ -22,7 +22,7 @@ fn call(alloc: Global, caller: u32, code: u32, bytes: &[u8], polls: u32) -> Resu
     })
 }
 
-fn sides(alloc: Global, letters: &[u8]) -> Result<Vec<Side>, NoMemory> {
+pub fn sides(alloc: Global, letters: &[u8]) -> Result<Vec<Side>, NoMemory> {
     let mut sides = Vec::new(alloc);
     for letter in letters {
         sides.push(if *letter == b'o' {

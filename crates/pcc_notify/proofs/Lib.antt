@@ -1,3 +1,4 @@
 pub mod Handling
 pub mod Posting
 pub mod Tracing
+pub mod Lies

@@ -4,8 +4,10 @@
 mod notice;
 mod notify;
 mod weaving;
+mod worked;
 
 pub use notice::Notice;
 pub use notify::NotifyPlain;
 pub use pcc_wiring::asks_of;
 pub use weaving::weave_lines;
+pub use worked::{worked_lies, worked_notices};
