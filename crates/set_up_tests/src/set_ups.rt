@@ -143,7 +143,7 @@ fn lines_of_refusals(rt: HostRuntime) -> Result<(), Fail> {
     let register = WiringFault::RegisterWidth {
         role: Role::Acknowledge,
     };
-    let rows: [(Refusal, &[u8]); 12] = [
+    let rows: [(Refusal, &[u8]); 11] = [
         (Refusal::Long, b"refused long\n"),
         (
             Refusal::Script {
