@@ -111,7 +111,9 @@ fn a_command_of_the_platform_is_handled(rt: HostRuntime) {
         panic!(rt; "one command is handled");
     }
     let notice = seen.notify.notice(0).expect(&rt, "memory");
-    assert!(rt; notice.code == 16 && notice.input.as_slice() == [1, 0, 0, 0, 0, 0, 0, 0].as_slice());
+    assert!(rt;
+        notice.code == 16 && notice.input.as_slice() == [1, 0, 0, 0, 0, 0, 0, 0].as_slice()
+    );
     assert!(rt; seen.notify.journal().len() == 1 && seen.notify.notes().len() == 1);
     assert!(rt; seen.notify.pending().is_none());
 }
@@ -170,7 +172,9 @@ fn a_handled_command_is_in_flight(rt: HostRuntime) {
         panic!(rt; "two commands are handled");
     }
     let notice = seen.notify.notice(1).expect(&rt, "memory");
-    assert!(rt; notice.code == 16 && notice.input.as_slice() == [2, 0, 0, 0, 0, 0, 0, 0].as_slice());
+    assert!(rt;
+        notice.code == 16 && notice.input.as_slice() == [2, 0, 0, 0, 0, 0, 0, 0].as_slice()
+    );
     assert!(rt; seen.notify.journal().len() == 1 && seen.notify.executed().len() == 2);
     assert!(rt; seen.notify.pending().is_some());
 }

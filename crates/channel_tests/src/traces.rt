@@ -11,7 +11,13 @@ use pcc_steps::Wiring;
 use rate_limit::Limits;
 use std::alloc::Global;
 
-pub fn call(alloc: Global, caller: u32, code: u32, bytes: &[u8], polls: u32) -> Result<Asked, NoMemory>
+pub fn call(
+    alloc: Global,
+    caller: u32,
+    code: u32,
+    bytes: &[u8],
+    polls: u32,
+) -> Result<Asked, NoMemory>
     ensures { IfOk result (λ c. c.polls ≡ polls) }
 {
     Ok(Asked {

@@ -36,9 +36,11 @@ returns-clause-reply_as_input c = λ h. other_at 1 2 1 _ refl refl (λ e. below 
 pub returns-clause-none_recorded : goal.returns-clause-none_recorded
 returns-clause-none_recorded c = λ h. elim h.recorded_all [
   | inl e ↦ below 0 2 (omega arith) (sym (ap (λ (l : List Exchange). length l) e))
-  | inr p ↦ below 1 2 (omega arith) (sym (ap (λ (l : List Exchange). length l) p.1)) ]
+  | inr p ↦ below 1 2 (omega arith) (sym (ap (λ (l : List Exchange). length l) p.1))
+]
 
 pub returns-clause-vanished : goal.returns-clause-vanished
 returns-clause-vanished c = λ h. elim h.recorded_all [
   | inl e ↦ below 1 2 (omega arith) (sym (ap (λ (l : List Exchange). length l) e))
-  | inr p ↦ p.2 ]
+  | inr p ↦ p.2
+]
