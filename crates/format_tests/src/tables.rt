@@ -123,7 +123,7 @@ fn the_first_check_that_fails_is_told(rt: HostRuntime) -> Result<(), Fail> {
 }
 
 #[test]
-fn a_structure_behind_256_is_too_many(rt: HostRuntime) -> Result<(), Fail> {
+fn a_structure_after_256_is_too_many(rt: HostRuntime) -> Result<(), Fail> {
     let alloc = rt.alloc();
     let many = TableFault::TooMany { at: 15_920 };
     let bytes = structures(alloc, 257, 15_982, 0)?;
@@ -134,7 +134,7 @@ fn a_structure_behind_256_is_too_many(rt: HostRuntime) -> Result<(), Fail> {
 }
 
 #[test]
-fn bytes_behind_a_table_are_left(rt: HostRuntime) -> Result<(), Fail> {
+fn bytes_after_a_table_are_left(rt: HostRuntime) -> Result<(), Fail> {
     let alloc = rt.alloc();
     let mut bytes = Vec::from_slice(alloc, &ONE_GENERIC_SUBSPACE)?;
     bytes.push(0)?;

@@ -72,7 +72,7 @@ module _ {K : Type 0} (taken : K → ℕ) (tells : K → ℕ → Option ℕ) (ex
   abbrev pub notified : Clocked K → Notified K
   notified x = record { channel = x.channel; clock = x.clock; posted = posted_of x.channel }
 
-  notifying : (sides : List Side) (old new : Clocked K) (trace : List TraceLine) → IsFresh old.channel → Stands exec is_state room_of new.channel
+  pub notifying : (sides : List Side) (old new : Clocked K) (trace : List TraceLine) → IsFresh old.channel → Stands exec is_state room_of new.channel
       → IsWeave taken tells exec calls is_state room_of sides old trace new
       → IsNotifying taken tells exec calls is_state room_of sides (notified old) trace (notified new)
   notifying sides old new trace fresh stands w = record {

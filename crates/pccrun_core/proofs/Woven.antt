@@ -6,7 +6,7 @@ use Rattle.std.proofs.lemmas.Bool.{le-ltb, ltb-false, ltb-true}
 use Rattle.std.proofs.lemmas.List.{get_or_append_left, length-append, length-map}
 use Rattle.std.proofs.Math.Seq.{get_or-append_seam}
 use Rattle.pcc_causes.specs.Clock.{line_reading}
-use Rattle.pcc_history.specs.Devices.{bank_exec}
+use Rattle.pcc_history.specs.Devices.{Device, bank_exec}
 use Rattle.pcc_history.specs.Histories.{Legal}
 use Rattle.pcc_io.specs.LineClocks.{LineState, line_tells}
 use Rattle.pcc_script.specs.declared.scenario.Letter.{Letter}
@@ -38,6 +38,9 @@ use Rattle.channel_plain.specs.Wholes.{IsWhole}
 use Rattle.channel_plain.specs.WordRuns.{WordRun, flown}
 use Rattle.pcc_script.specs.declared.scenario.OpenLine.{OpenLine}
 use Rattle.pcc_setup.specs.Openings.{head_on, zeros_in}
+use Rattle.pcc_journal.specs.declared.record.Pending.{Pending}
+use Rattle.pcc_notify.specs.declared.notice.Notice.{Notice}
+use Rattle.pcc_notify.specs.Notices.{AreNotices, IsNotifying, Notified, posts_of as posted_by}
 use Rattle.pccrun_core.specs.Weaving.{AreReadings, IsCall, IsWoven, asked_by, side_of}
 use Rattle.weave_headline.proofs.Headlines.{word_headline}
 use Rattle.pcc_wiring.specs.Wirings.{wiring_with}
@@ -129,6 +132,14 @@ least_of (line.Wait n ∷ ls) h k i c e = absurd h.0
 pub have_polls : (ls : List Line) (calls : List Asked) → AllByRecursion IsCall ls → AllByRecursion IsAction ls → calls ≡ map asked_by ls → HavePolls calls
 have_polls ls calls h k e = subst HavePolls (sym e) (record { least = least_of ls h k })
 
+-- what has become of the commands that a trace posts
+pub noticed : {K : Type 0} (taken : K → ℕ) (tells : K → ℕ → Option ℕ) (exec : Device) (calls : List Asked) (is_state : List ℕ → Type 0) (room_of : List ℕ → ℕ)
+    (sides : List Side) (old : Notified K) (trace : List TraceLine) (new : Notified K) → IsNotifying taken tells exec calls is_state room_of sides old trace new
+    → AreNotices (posted_by old.channel.ask.wiring trace) (exchanges_of_commands new.channel.executed) (exchanges_of new.channel.calls.records)
+    (pending_by new.channel.ask.in_flight new.channel.calls.sent)
+noticed taken tells exec calls is_state room_of sides old trace new n = subst (λ (p : List Notice). AreNotices p (exchanges_of_commands new.channel.executed)
+    (exchanges_of new.channel.calls.records) (pending_by new.channel.ask.in_flight new.channel.calls.sent)) n.posted n.notices
+
 -- what is written is a trace and its journal
 pub is_woven : (s : Scenario) (t : Table) (o : OpenLine) (u : Subspace) (letters : List Letter) (w : Wiring) (limits : Limits) (state : List ℕ) (begin end : PlainState) (clock0 clock : LineState) (calls : List Asked) (sides : List Side) (trace : List TraceLine) (rs text : List ℕ)
     → s.opens ≡ o ∷ [] → slice_get t.subspaces o.id ≡ Some u → s.picks ≡ Some letters → length letters ≤ 65536 → w ≡ wiring_with o.id t.flags u → limits ≡ (head_on o u).limits → state ≡ 0 ∷ zeros_in (head_on o u)
@@ -136,8 +147,9 @@ pub is_woven : (s : Scenario) (t : Table) (o : OpenLine) (u : Subspace) (letters
     → Readings ticks_of line_tells clock0 rs clock → length rs ≤ length sides
     → WordRun bank_exec begin.ask.wiring begin.calls.limits begin.start (opening_of begin.ask.wiring) calls sides trace rs end.calls.records (flown end.ask.in_flight end.calls.sent) (exchanges_of_commands end.executed)
     → IsGood bank_exec end → IsWhole (opening_of begin.ask.wiring) calls end.calls.records → Stays begin end
+    → AreNotices (posted_by begin.ask.wiring trace) (exchanges_of_commands end.executed) (exchanges_of end.calls.records) (pending_by end.ask.in_flight end.calls.sent)
     → text ≡ trace_text trace ++ journal_text (head_on o u) end.calls.records (pending_by end.ask.in_flight end.calls.sent) → IsWoven s t text
-is_woven s t o u letters w limits state begin end clock0 clock calls sides trace rs text alone first chosen few wired limited stated new clocked called sided readings bound run good whole stay is =
+is_woven s t o u letters w limits state begin end clock0 clock calls sides trace rs text alone first chosen few wired limited stated new clocked called sided readings bound run good whole stay notices is =
     let n : length (map side_of letters) ≡ length letters = length-map letters side_of in
     let m : length sides ≡ length (map side_of letters) = ap length sided in
     let wires : begin.ask.wiring ≡ wiring_with o.id t.flags u = new.ask.0 ∙ wired in
@@ -168,6 +180,8 @@ is_woven s t o u letters w limits state begin end clock0 clock calls sides trace
       legal = legal;
       whole = subst W (λ i. (wires i, called i)) whole;
       ahead = good.ahead;
+      notices = subst (λ (z : Wiring × Option Pending). AreNotices (posted_by z.0 trace) (exchanges_of_commands end.executed) (exchanges_of end.calls.records) z.1)
+          (λ i. (wires i, pending_flown end.ask.in_flight end.calls.sent i)) notices;
       limits = subst K (stay.limits ∙ lims) (limits_flown end.calls.limits (times_of end.calls.records) end.ask.in_flight end.calls.sent good.limits);
       headline = word_headline bank_exec (wiring_with o.id t.flags u) (head_on o u).limits (0 ∷ zeros_in (head_on o u)) (zeros_in (head_on o u)) (map asked_by s.actions)
           (map side_of letters) trace rs end.calls.records (flown end.ask.in_flight end.calls.sent) (exchanges_of_commands end.executed) wired_run legal;

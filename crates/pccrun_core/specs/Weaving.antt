@@ -24,6 +24,7 @@ use Rattle.channel_core.specs.Sendings.{command_of, post_of}
 use Rattle.channel_plain.specs.TraceText.{trace_text}
 use Rattle.channel_plain.specs.Wholes.{IsWhole}
 use Rattle.channel_plain.specs.WordRuns.{WordRun}
+use Rattle.pcc_notify.specs.Notices.{AreNotices, posts_of}
 use Rattle.weave_headline.specs.WordHeadline.{WordHeadline}
 use Rattle.pcc_wiring.specs.Wirings.{wiring_with}
 use Rattle.pcc_setup.specs.declared.opening.Opened.{Opened}
@@ -53,7 +54,8 @@ IsAhead executed recorded = (executed ≡ recorded) ⊎ ((e : Exchange) × (exec
 
 -- The text is a trace and its journal. The trace is a run of single words on the one opened structure, for the calls and the letters of the script,
 -- and it leaves these records and this command in flight. They are a legal and whole history and keep the limits, and at most one executed
--- command isn't recorded yet. The trace and the journal keep the headline.
+-- command isn't recorded yet. The executed commands are those that the words hold where the trace posts, in order and each once, but that the last
+-- may be not yet executed. The trace and the journal keep the headline.
 pub record IsWoven (s : Scenario) (t : Table) (text : List ℕ) : Type 0 where
   pub open_line : OpenLine
   pub opens : s.opens ≡ open_line ∷ []
@@ -73,6 +75,7 @@ pub record IsWoven (s : Scenario) (t : Table) (text : List ℕ) : Type 0 where
   pub legal : Legal bank_exec (head_on open_line subspace).reports (0 ∷ zeros_in (head_on open_line subspace)) (exchanges_of records)
   pub whole : IsWhole (zeros_in (head_on open_line subspace)) (map asked_by s.actions) records
   pub ahead : IsAhead executed (exchanges_of records)
+  pub notices : AreNotices (posts_of (wiring_with open_line.id t.flags subspace) trace) executed (exchanges_of records) (command_of sent)
   pub limits : WithinLimits (head_on open_line subspace).limits (times_of records) (post_of sent)
   pub headline : WordHeadline bank_exec (wiring_with open_line.id t.flags subspace) (head_on open_line subspace).limits
       (0 ∷ zeros_in (head_on open_line subspace)) (zeros_in (head_on open_line subspace)) (map asked_by s.actions)

@@ -12,12 +12,14 @@ ghost use Rattle.pccrun_core.specs.Weaving.{IsCall, IsOpenedAlone, IsWoven, aske
 use crate::command::Command;
 use crate::error::CommandError;
 use crate::script::{Served, served_script};
-use channel_plain::{Asked, Plain, Side, weave_lines};
+use channel_plain::{Asked, Plain, Side};
 use pcc_exec::Bank;
 use pcc_io::{Bytes, LineClock, NoMemory};
 use pcc_journal::put_journal;
+use pcc_notify::NotifyPlain;
 use pcc_script::{Actions, Letter, Line, Picks, Scenario};
 use pcc_setup::Opened;
+use pcc_steps::is_responder;
 use pcc_wiring::right_wirings;
 use std::alloc::Global;
 
@@ -76,6 +78,78 @@ fn sides_of(alloc: Global, picks: &Picks) -> Result<Vec<Side>, NoMemory>
     Ok(sides)
 }
 
+// The trace and the journal of the calls and picks of a script, on a subspace where the operating system asks.
+fn plain_text(
+    alloc: Global,
+    scenario: &Scenario,
+    picks: &Picks,
+    opened: &Opened,
+    calls: &[Asked],
+    sides: &[Side],
+) -> Result<Vec<u8>, NoMemory>
+    requires within { IsWithin scenario.now }
+    requires lines { AllByRecursion IsCall scenario.now.actions }
+    requires picks { scenario.now.picks ≡ Some picks.now }
+    requires right { IsRight opened.now.wiring }
+    requires calls { calls.now ≡ map asked_by scenario.now.actions }
+    requires sides { sides.now ≡ map side_of picks.now }
+    ensures { IfOk result (λ v. (t : Table) → IsOpenedAlone scenario.now t opened.now → IsWoven scenario.now t v.items) }
+{
+    let mut plain = Plain::new(
+        alloc,
+        opened.wiring,
+        Bank::new(alloc, opened.wiring.room)?,
+        opened.head.limits,
+        LineClock::new(scenario.start, scenario.step),
+    )?;
+    let mut out = Vec::new(alloc);
+    channel_plain::weave_lines(&mut out, &mut plain, calls, sides)?;
+    plain.stand();
+    put_journal(
+        &mut out,
+        &opened.head,
+        plain.journal().as_slice(),
+        plain.pending(),
+    )?;
+    Ok(out)
+}
+
+// The same on type 4, where the platform asks.
+fn notify_text(
+    alloc: Global,
+    scenario: &Scenario,
+    picks: &Picks,
+    opened: &Opened,
+    calls: &[Asked],
+    sides: &[Side],
+) -> Result<Vec<u8>, NoMemory>
+    requires within { IsWithin scenario.now }
+    requires lines { AllByRecursion IsCall scenario.now.actions }
+    requires picks { scenario.now.picks ≡ Some picks.now }
+    requires right { IsRight opened.now.wiring }
+    requires kind { opened.now.wiring.kind ≡ 4 }
+    requires calls { calls.now ≡ map asked_by scenario.now.actions }
+    requires sides { sides.now ≡ map side_of picks.now }
+    ensures { IfOk result (λ v. (t : Table) → IsOpenedAlone scenario.now t opened.now → IsWoven scenario.now t v.items) }
+{
+    let mut notify = NotifyPlain::new(
+        alloc,
+        opened.wiring,
+        Bank::new(alloc, opened.wiring.room)?,
+        opened.head.limits,
+        LineClock::new(scenario.start, scenario.step),
+    )?;
+    let mut out = Vec::new(alloc);
+    pcc_notify::weave_lines(&mut out, &mut notify, calls, sides)?;
+    put_journal(
+        &mut out,
+        &opened.head,
+        notify.journal().as_slice(),
+        notify.pending(),
+    )?;
+    Ok(out)
+}
+
 // The trace and the journal of a served script, which opens this subspace alone.
 fn woven_text(
     alloc: Global,
@@ -91,22 +165,11 @@ fn woven_text(
 {
     let calls = calls_of(alloc, &scenario.actions)?;
     let sides = sides_of(alloc, picks)?;
-    let mut plain = Plain::new(
-        alloc,
-        opened.wiring,
-        Bank::new(alloc, opened.wiring.room)?,
-        opened.head.limits,
-        LineClock::new(scenario.start, scenario.step),
-    )?;
-    let mut out = Vec::new(alloc);
-    weave_lines(&mut out, &mut plain, &calls, &sides)?;
-    put_journal(
-        &mut out,
-        &opened.head,
-        plain.journal().as_slice(),
-        plain.pending(),
-    )?;
-    Ok(out)
+    if is_responder(opened.wiring.kind) {
+        notify_text(alloc, scenario, picks, opened, &calls, &sides)
+    } else {
+        plain_text(alloc, scenario, picks, opened, &calls, &sides)
+    }
 }
 
 /// The trace and the journal of the script that a text spells. The condition is a text of at most 4,194,304 bytes.
