@@ -1,10 +1,9 @@
-use Rattle.std.proofs.Common.{◌≡◌, ◌⊎◌, inl, inr, ℕ, List, [], ◌∷◌, length, refl, ap, sym, arith}
-use Rattle.std.specs.Prelude.{None, Some}
+use Rattle.std.proofs.Common.{inl, inr, List, [], ◌∷◌, length, refl, ap, sym, arith}
 use Rattle.pcc_history.specs.Channel.{Exchange}
 use Rattle.pcc_notify.proofs.Lies.{Handled, below, handled, other_at}
 use Rattle.pcc_notify.specs.declared.notice.Notice.{Notice}
 use Rattle.pcc_notify.specs.Notices.{handled_of}
-use Rattle.pcc_notify.specs.Worked.{first_exchange, second_exchange, second_pending}
+use Rattle.pcc_notify.specs.Worked.{first_exchange, second_exchange}
 use Rattle.pcc_notify.proofs.worked.worked_lies.Goals as goal
 
 pub returns-clause-handled_twice : goal.returns-clause-handled_twice
@@ -36,9 +35,11 @@ returns-clause-reply_as_input c = λ h. other_at 1 2 1 _ refl refl (λ e. below 
 pub returns-clause-none_recorded : goal.returns-clause-none_recorded
 returns-clause-none_recorded c = λ h. elim h.recorded_all [
   | inl e ↦ below 0 2 (omega arith) (sym (ap (λ (l : List Exchange). length l) e))
-  | inr p ↦ below 1 2 (omega arith) (sym (ap (λ (l : List Exchange). length l) p.1)) ]
+  | inr p ↦ below 1 2 (omega arith) (sym (ap (λ (l : List Exchange). length l) p.1))
+]
 
 pub returns-clause-vanished : goal.returns-clause-vanished
 returns-clause-vanished c = λ h. elim h.recorded_all [
   | inl e ↦ below 1 2 (omega arith) (sym (ap (λ (l : List Exchange). length l) e))
-  | inr p ↦ p.2 ]
+  | inr p ↦ p.2
+]
