@@ -46,7 +46,7 @@ struct Seen {
 }
 
 // The picks, and one more of a side.
-fn seen(
+fn woven(
     alloc: Global,
     wiring: Wiring,
     calls: &[Asked],
@@ -96,7 +96,7 @@ fn a_command_of_the_platform_is_handled(rt: HostRuntime) {
             preserve: 0xffff_fffe,
             set: 1,
         };
-        seen(
+        woven(
             alloc,
             responder(true, update),
             &[call(alloc, 0, 16, &[1], 3)?],
@@ -157,7 +157,7 @@ fn a_handled_command_is_in_flight(rt: HostRuntime) {
             preserve: 0,
             set: 1,
         };
-        seen(
+        woven(
             alloc,
             responder(false, update),
             &[call(alloc, 0, 16, &[1], 3)?, call(alloc, 1, 16, &[2], 3)?],

@@ -1,5 +1,5 @@
 -- What has become of the commands that were posted, between two picks.
-use Rattle.std.proofs.Common.{◌≡◌, ◌⊎◌, inl, inr, ℕ, zero, suc, ◌<◌, Bool, true, false, List, [], ◌∷◌, ◌++◌, length, map, get_or, refl, sym, ap, ◌∙◌, subst, arith}
+use Rattle.std.proofs.Common.{◌≡◌, ◌⊎◌, inl, inr, ℕ, zero, suc, ◌<◌, Bool, true, false, List, [], ◌∷◌, ◌++◌, length, get_or, refl, sym, ap, ◌∙◌, subst, arith}
 use Rattle.std.specs.Prelude.{Option, Some, None, slice_get}
 use Rattle.std.proofs.lemmas.List.{append-nil, map-append}
 use Rattle.pcc_history.specs.Channel.{Exchange}
@@ -12,14 +12,14 @@ use Rattle.pcc_steps.specs.declared.wiring.Style.TheVariants.{Headed, Joined3, S
 use Rattle.pcc_steps.specs.declared.ask.AskStage.{AskStage}
 use Rattle.pcc_steps.specs.declared.ask.AskStage.TheVariants.{AskRest, PostBlock, PostHeader, PostUpdateLoad, PostUpdateStore, PostMarkLoad, PostMarkStore, PostBellLoad, PostBellStore, PostLine, LookWord, LookError, LookBlock, LookLine, LookLineStore, LookAckLoad, LookAckStore}
 use Rattle.pcc_steps.specs.Wires.{style_of, block_of}
-use Rattle.pcc_steps.specs.Asking.{Ask, Flies}
-use Rattle.pcc_steps.specs.Agree.{Agree, Answerer, Asker, Core, Fits, Turn, Waits, answered, bell_pose, flight, pose_at, quiet, replying, resting, taken, turn}
+use Rattle.pcc_steps.specs.Asking.{Flies}
+use Rattle.pcc_steps.specs.Agree.{Answerer, Asker, Core, Fits, Turn, Waits, answered, bell_pose, flight, pose_at, quiet, replying, resting, taken, turn}
 use Rattle.pcc_steps.specs.Carrying.{carried, carried_at}
 use Rattle.channel_core.specs.declared.sent.Sent.{Sent}
 use Rattle.channel_plain.specs.Picks.{PlainState, pending_by}
 use Rattle.channel_plain.specs.Standing.{IsCarried, Stands, answerer_of, asker_of}
 use Rattle.pcc_notify.specs.declared.notice.Notice.{Notice}
-use Rattle.pcc_notify.specs.Notices.{AreNotices, IsInFlight, flying_of, handled_of, notice_of, posted_of}
+use Rattle.pcc_notify.specs.Notices.{AreNotices, flying_of, handled_of, notice_of, posted_of}
 
 -- ---- both histories, by whether a command is in flight
 

@@ -1,11 +1,11 @@
 -- Lists that aren't what becomes of two posted commands.
-use Rattle.std.proofs.Common.{◌≡◌, ◌⊎◌, inl, inr, ℕ, ◌<◌, List, [], ◌∷◌, ◌++◌, length, map, get_or, refl, ap, sym, ◌∙◌, arith}
-use Rattle.std.specs.Prelude.{Option, None}
+use Rattle.std.proofs.Common.{◌≡◌, ◌⊎◌, inl, inr, ℕ, ◌<◌, List, [], ◌∷◌, ◌++◌, map, get_or, ap, sym, ◌∙◌, arith}
+use Rattle.std.specs.Prelude.{Option}
 use Rattle.shmem_header.specs.Spelling.{word_bytes}
 use Rattle.pcc_history.specs.Channel.{Exchange}
 use Rattle.pcc_journal.specs.declared.record.Pending.{Pending}
 use Rattle.pcc_notify.specs.declared.notice.Notice.{Notice}
-use Rattle.pcc_notify.specs.Notices.{AreNotices, IsInFlight, handled_of}
+use Rattle.pcc_notify.specs.Notices.{handled_of}
 use Rattle.pcc_notify.specs.Worked.{Became, first_notice, second_notice}
 
 -- the first byte of the input at a place

@@ -1,20 +1,18 @@
 -- What a pick posts: a command is posted with the step that ends a post, and the words hold it then.
-use Rattle.std.proofs.Common.{◌≡◌, ℕ, ◌+◌, ◌%◌, Bool, not, true, false, nat_eq, List, [], ◌∷◌, ◌++◌, length, drop, get_or, set, refl, sym, ap, ◌∙◌, subst}
+use Rattle.std.proofs.Common.{◌≡◌, ℕ, ◌+◌, ◌%◌, Bool, not, true, false, nat_eq, List, [], ◌∷◌, ◌++◌, length, drop, set, refl, sym, ap, ◌∙◌, subst}
 use Rattle.std.specs.Prelude.{Option, Some, None, Result, Ok, Err, IfOk, OnErr}
 use Rattle.pcc_io.specs.declared.items.NoMemory.{NoMemory}
 use Rattle.std.specs.List.{slice_get}
-use Rattle.std.proofs.lemmas.List.{append_assoc, append-nil, map-append}
-use Rattle.pcc_bytes.specs.Bytes.{IsBytes}
-use Rattle.pcc_history.specs.Channel.{Exchange}
+use Rattle.std.proofs.lemmas.List.{append-nil, map-append}
 use Rattle.pcc_history.specs.Devices.{Device}
-use Rattle.shmem_header.specs.Spelling.{words_of, bytes_of}
+use Rattle.shmem_header.specs.Spelling.{bytes_of}
 use Rattle.pcc_journal.specs.Records.{exchange_of_record, exchanges_of, times_of}
 use Rattle.pcc_journal.specs.declared.record.Record.{Record}
 use Rattle.pcc_steps.specs.declared.wiring.Wiring.{Wiring}
 use Rattle.pcc_steps.specs.declared.wiring.Style.{Style}
 use Rattle.pcc_steps.specs.declared.wiring.Style.TheVariants.{Headed, Joined3, Separate3, Joined4, Separate4, Reduced5}
 use Rattle.pcc_steps.specs.declared.ask.AskStage.{AskStage}
-use Rattle.pcc_steps.specs.declared.ask.AskStage.TheVariants.{AskRest, PostBlock, PostHeader, PostUpdateLoad, PostUpdateStore, PostMarkLoad, PostMarkStore, PostBellLoad, PostBellStore, PostLine, LookWord, LookError, LookBlock, LookLine, LookLineStore, LookAckLoad, LookAckStore}
+use Rattle.pcc_steps.specs.declared.ask.AskStage.TheVariants.{AskRest, PostLine, LookWord, LookBlock, LookLine, LookLineStore}
 use Rattle.pcc_steps.specs.declared.ask.AskOutcome.{AskOutcome}
 use Rattle.pcc_steps.specs.declared.ask.AskOutcome.TheVariants.{Posted, Clear, Drained}
 use Rattle.pcc_steps.specs.declared.answer.AnswerStage.TheVariants.{TakeBlock}
@@ -24,11 +22,10 @@ use Rattle.pcc_steps.specs.Kinds.{is_responder}
 use Rattle.pcc_steps.specs.Wires.{style_of, heads_of, code_by, sees_done, acknowledges}
 use Rattle.pcc_steps.specs.Asking.{Ask, Flies, ask_budgeted, ask_fed, ask_fed_at, ask_looking, ask_next, ask_next_at, ask_told, ask_told_at, end_told, line_told, look_told, read_told, has_more}
 use Rattle.pcc_steps.specs.Answering.{Answer, answer_next, answer_told}
-use Rattle.pcc_steps.specs.Agree.{act, Agree, Agreed, Answerer, Asker, Core, Fits, HasAskedBy, HasHeader, Marked, Others, closed, found, flying, is_pending_at, listed, pose_at, trail, turn}
+use Rattle.pcc_steps.specs.Agree.{act, Agreed, Answerer, Asker, Core, Fits, HasAskedBy, HasHeader, Marked, Others, closed, found, flying, is_pending_at, listed, pose_at, trail, turn}
 use Rattle.pcc_steps.specs.Carrying.{carried, carried_at, is_rest}
 use Rattle.pcc_steps.proofs.AskFeeds.{Fed, fed, stepped, rest_is}
 use Rattle.pcc_steps.proofs.Bits.{code_known}
-use Rattle.pcc_steps.proofs.Headers.{Carries}
 use Rattle.pcc_steps.proofs.Spaces.{bytes_again}
 use Rattle.pcc_steps.proofs.Trails.{sent_carries}
 use Rattle.channel_core.specs.Sendings.{given_up_after, is_given_up}

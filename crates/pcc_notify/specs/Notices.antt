@@ -1,5 +1,5 @@
 -- The commands that are posted, read off the words of shared memory, and what has become of them.
-use Rattle.std.specs.Prelude.{◌≡◌, ◌⊎◌, ℕ, Bool, true, false, List, [], ◌∷◌, ◌++◌, map, drop, get_or, Option, Some, None}
+use Rattle.std.specs.Prelude.{◌≡◌, ◌⊎◌, ℕ, List, [], ◌∷◌, ◌++◌, map, drop, get_or, Option, Some, None}
 use Rattle.pcc_history.specs.Channel.{Exchange}
 use Rattle.pcc_history.specs.Devices.{Device}
 use Rattle.shmem_header.specs.Spelling.{words_of, bytes_of}

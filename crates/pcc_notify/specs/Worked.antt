@@ -1,6 +1,6 @@
 -- Worked traces of type 4, made by hand from the step tables, with the commands that they post: a space of 8 bytes before a Bank, and a clock
 -- whose readings are 0, 10, 20 and so on.
-use Rattle.std.specs.Prelude.{◌≡◌, ℕ, Bool, true, false, replicate, List, [], ◌∷◌, ◌++◌, Option, Some, None}
+use Rattle.std.specs.Prelude.{◌≡◌, ℕ, true, false, replicate, List, [], ◌∷◌, ◌++◌, Option, Some, None}
 use Rattle.pcc_history.specs.Channel.{Exchange}
 use Rattle.pcc_journal.specs.declared.record.Pending.{Pending}
 use Rattle.pcc_steps.specs.declared.wiring.Wiring.{Wiring}

@@ -2,7 +2,9 @@
 ghost use Rattle.std.specs.Prelude.{◌≡◌, ◌++◌, ◌∷◌, [], Some, None};
 ghost use Rattle.channel_plain.specs.WorkedPicks.{one_byte};
 ghost use Rattle.pcc_notify.specs.Notices.{posts_of};
-ghost use Rattle.pcc_notify.specs.Worked.{Became, all_registers, bad_trace, cut_trace, first_exchange, first_notice, first_trace, handled_trace, joined_with_registers, second_exchange, second_notice, second_pending, separate_without_registers, two_posts};
+ghost use Rattle.pcc_notify.specs.Worked.{all_registers, bad_trace, cut_trace, first_trace, handled_trace, joined_with_registers};
+ghost use Rattle.pcc_notify.specs.Worked.{Became, first_exchange, first_notice, second_exchange, second_notice, second_pending};
+ghost use Rattle.pcc_notify.specs.Worked.{separate_without_registers, two_posts};
 
 /// Worked traces, and the commands that they post. It does nothing.
 pub fn worked_notices()
@@ -30,7 +32,8 @@ pub fn worked_lies()
     ensures first_left_out { Became (second_exchange ∷ []) [] (Some second_pending) → ⊥ }
     ensures none_handled { Became [] [] None → ⊥ }
     // the reply of the second command in place of its input
-    ensures reply_as_input { Became (first_exchange ∷ record second_exchange { input = second_exchange.output } ∷ []) (first_exchange ∷ []) (Some second_pending) → ⊥ }
+    ensures reply_as_input { Became (first_exchange ∷ record second_exchange { input = second_exchange.output } ∷ [])
+        (first_exchange ∷ []) (Some second_pending) → ⊥ }
     // both are handled, and neither is recorded
     ensures none_recorded { Became (first_exchange ∷ second_exchange ∷ []) [] (Some second_pending) → ⊥ }
     // the second one is neither recorded nor in flight

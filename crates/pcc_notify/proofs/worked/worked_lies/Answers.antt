@@ -1,10 +1,9 @@
-use Rattle.std.proofs.Common.{◌≡◌, ◌⊎◌, inl, inr, ℕ, List, [], ◌∷◌, length, refl, ap, sym, arith}
-use Rattle.std.specs.Prelude.{None, Some}
+use Rattle.std.proofs.Common.{inl, inr, List, [], ◌∷◌, length, refl, ap, sym, arith}
 use Rattle.pcc_history.specs.Channel.{Exchange}
 use Rattle.pcc_notify.proofs.Lies.{Handled, below, handled, other_at}
 use Rattle.pcc_notify.specs.declared.notice.Notice.{Notice}
 use Rattle.pcc_notify.specs.Notices.{handled_of}
-use Rattle.pcc_notify.specs.Worked.{first_exchange, second_exchange, second_pending}
+use Rattle.pcc_notify.specs.Worked.{first_exchange, second_exchange}
 use Rattle.pcc_notify.proofs.worked.worked_lies.Goals as goal
 
 pub returns-clause-handled_twice : goal.returns-clause-handled_twice
