@@ -91,3 +91,6 @@ script_kept cmd text s os r h (Unserved u k q (ByUse v set fault is)) =
     let used : use_fault cmd s ≡ None = h.used in
     let not_ : use_fault cmd s ≡ Some fault = subst (λ (w : Scenario). use_fault cmd w ≡ Some fault) same is in
     absurd cc
+
+-- what becomes of a script that a command is given
+pub ruleset serving = (not_served, is_served, has_set_up)

@@ -175,3 +175,11 @@ made_runs words left left' status n text (Summed m asked made is) h = refl
 made_runs words left left' status n text (Usage unasked) h = absurd (unasked (request.Make n) h)
 made_runs words left left' status n text (TooLong c asked more) h = absurd (makes_alone words c n asked h)
 made_runs words left left' status n text (Refused c asked input read r cause) h = absurd (makes_alone words c n asked h)
+
+-- ---- rules
+
+-- each answer to words and their input
+pub ruleset answers = (usage, summed, made_of, refused_for, not_set_up, too_long)
+
+-- a script that is run, or made up and run
+pub ruleset runs = (served_input_runs, made_runs, makes_alone)

@@ -62,7 +62,7 @@ fn set_up_for(alloc: Global, command: Command, scenario: &Scenario) -> Result<Se
 }
 
 /// The script that a text spells, with its set-up, where the command serves it. The condition is a text of at most 4,194,304 bytes.
-#[tactic(auto, using(crate::proofs::Small::small_packages, crate::proofs::Refused::not_served, crate::proofs::Refused::is_served, crate::proofs::Refused::has_set_up))]
+#[tactic(auto, using(crate::proofs::Small::small_packages, crate::proofs::Refused::serving))]
 pub fn served_script(alloc: Global, command: Command, text: &[u8]) -> Result<Served, CommandError>
     requires { length text.now ≤ input_limit }
     ensures script { MatchResult result (λ x. Serves command text.now x.scenario x.set_up.opened) (IsRefusedBy (ScriptRefused command text.now)) }

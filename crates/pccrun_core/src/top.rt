@@ -90,7 +90,7 @@ fn made(alloc: Global, command: Command, input: &[u8]) -> Result<Vec<u8>, Comman
 }
 
 // What the words and the bytes of the source lead to.
-#[tactic(auto, using(crate::proofs::Tops::usage, crate::proofs::Tops::summed, crate::proofs::Tops::made_of, crate::proofs::Tops::refused_for, crate::proofs::Tops::not_set_up, crate::proofs::Tops::too_long))]
+#[tactic(auto, using(crate::proofs::Tops::answers))]
 fn answer_to<S: Source>(alloc: Global, words: &[String], source: &mut S) -> Result<Answer, Stop>
     ensures answer { IfOk result (λ a. Answers (map (λ w. string_bytes w) words.now) (S.left source.old) (S.left source.new) (code_of a.status) a.text) }
     ensures read_fault { IsErrOf result Stop.ReadFault → ((c : Command) × AsksFor (map (λ w. string_bytes w) words.now) c)
@@ -150,7 +150,7 @@ fn refused(alloc: Global, refusal: Refusal) -> Result<Answer, Stop>
 /// Does all that the program does for a command without threads: tests the words, reads the source to its end where they ask for a command on
 /// the input, runs what they ask for, and writes its whole text. It always returns. Each input is made or refused, never both, and refused by one line:
 /// `input_laws` and `answer_laws` say it of the definitions that the clauses cite.
-#[tactic(auto, using(crate::proofs::Tops::served_input_runs, crate::proofs::Tops::made_runs, crate::proofs::Tops::makes_alone, crate::proofs::Headlined::headlined))]
+#[tactic(auto, using(crate::proofs::Tops::runs, crate::proofs::Headlined::headlined))]
 pub fn run<S: Source, W: Sink>(
     alloc: Global,
     words: &[String],
