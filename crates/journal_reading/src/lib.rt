@@ -1,0 +1,10 @@
+//! The text of a journal, read exactly: the journal that the front of a text tells, or the first line that is wrong.
+#![tactic(auto)]
+
+mod lines;
+mod reading;
+mod told;
+mod words;
+
+pub use reading::told_from;
+pub use told::{AuditError, AuditKind, Records, Told};
