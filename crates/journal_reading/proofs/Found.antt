@@ -50,10 +50,16 @@ head_spelled h = head_cases h.id h.kind h.cppc h.room h.limits h.reports
 head_fit : (h : JournalHead) → IsHead h → Fit head_row (head_values h)
 head_fit h k = (
   (h.id, refl, k.id),
-  ((h.kind, refl, k.kind),
-  ((h.cppc, refl),
-  ((h.room, refl, k.room),
-  ((h.limits.turnaround, refl, k.turnaround), ((h.limits.per_minute, refl, k.rate), ((h.reports, refl), refl)))))),
+  (
+    (h.kind, refl, k.kind),
+    (
+      (h.cppc, refl),
+      (
+        (h.room, refl, k.room),
+        ((h.limits.turnaround, refl, k.turnaround), ((h.limits.per_minute, refl, k.rate), ((h.reports, refl), refl))),
+      ),
+    ),
+  ),
 )
 
 head_back : (h : JournalHead) → Fit head_row (head_values h) → IsHead h
@@ -108,9 +114,13 @@ record_fit : (place : ℕ) (r : Record) → IsRecord r → Fit (record_row place
 unfolding exchange_row
 record_fit place r k = (
   (r.caller, refl, k.caller),
-  ((r.code, refl, k.code),
-  ((r.error, refl),
-  ((r.post, refl, k.post), ((r.done, refl, k.done), ((r.late, refl), ((r.input, refl, k.input), ((r.output, refl, k.output), refl))))))),
+  (
+    (r.code, refl, k.code),
+    (
+      (r.error, refl),
+      ((r.post, refl, k.post), ((r.done, refl, k.done), ((r.late, refl), ((r.input, refl, k.input), ((r.output, refl, k.output), refl))))),
+    ),
+  ),
 )
 
 record_back : (place : ℕ) (r : Record) → Fit (record_row place) (record_values r) → IsRecord r

@@ -30,3 +30,5 @@ pub first_refused : (first : ℕ) (text : List ℕ) (e : AuditError) (line : ℕ
     → HoldsOf e (λ n j. (n ≡ line) × (j ≡ k))
 first_refused first text error.NoMemory line k w v = tt
 first_refused first text (error.Fault n j) line k w v = one_fault first text n line j k w v
+
+pub ruleset reported = (is_found, only_found, only_refused, found_right, first_refused)

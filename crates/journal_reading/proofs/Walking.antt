@@ -71,6 +71,8 @@ pub walking_end : (text rest : List ℕ) (records : List Record) → (IsRecordLi
     → AllRecords text records rest
 walking_end text rest records never w = record { right = w.right; few = w.few; is = w.is; last = never; lines = w.lines }
 
+pub ruleset walks = (walking_start, walking_more, walking_many, walking_end)
+
 -- ---- a pending command
 
 pub no_pending : (text : List ℕ) → (IsPendingLine text → ⊥) → AnyPending text None text

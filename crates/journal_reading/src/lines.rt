@@ -11,8 +11,11 @@ use pcc_text::cut;
 use std::alloc::Global;
 
 /// The head whose line is the first of a text, and what follows the line.
-#[tactic(auto, using(crate::proofs::Found::head_found, crate::proofs::Found::head_refused, crate::proofs::Found::head_missing, crate::proofs::Cuts::one_less))]
-pub fn head_at<'a>(alloc: Global, text: &'a [u8]) -> Result<Option<(JournalHead, &'a [u8])>, NoMemory>
+#[tactic(auto, using(crate::proofs::Found::head_refused, crate::proofs::Found::head_missing, crate::proofs::Cuts::one_less))]
+pub fn head_at<'a>(
+    alloc: Global,
+    text: &'a [u8],
+) -> Result<Option<(JournalHead, &'a [u8])>, NoMemory>
     ensures some { IfOk result (λ o. IfSome o (λ x. HeadAt text.now x.0 x.1.now)) }
     ensures none { IfOk result (λ o. o ≡ None → IsHeadLine text.now → ⊥) }
     ensures less { IfOk result (λ o. IfSome o (λ x. OneLess text.now x.1.now)) }
@@ -27,8 +30,12 @@ pub fn head_at<'a>(alloc: Global, text: &'a [u8]) -> Result<Option<(JournalHead,
 }
 
 /// The record whose line is the first of a text and has this place, and what follows the line.
-#[tactic(auto, using(crate::proofs::Found::record_found, crate::proofs::Found::record_refused, crate::proofs::Found::record_missing, crate::proofs::Cuts::one_less))]
-pub fn record_at<'a>(alloc: Global, place: usize, text: &'a [u8]) -> Result<Option<(Record, &'a [u8])>, NoMemory>
+#[tactic(auto, using(crate::proofs::Found::record_refused, crate::proofs::Cuts::one_less))]
+pub fn record_at<'a>(
+    alloc: Global,
+    place: usize,
+    text: &'a [u8],
+) -> Result<Option<(Record, &'a [u8])>, NoMemory>
     ensures some { IfOk result (λ o. IfSome o (λ x. RecordAt place text.now x.0 x.1.now)) }
     ensures none { IfOk result (λ o. o ≡ None → IsRecordLine place text.now → ⊥) }
     ensures less { IfOk result (λ o. IfSome o (λ x. OneLess text.now x.1.now)) }
@@ -43,8 +50,11 @@ pub fn record_at<'a>(alloc: Global, place: usize, text: &'a [u8]) -> Result<Opti
 }
 
 /// The pending command whose line is the first of a text, and what follows the line.
-#[tactic(auto, using(crate::proofs::Found::pending_found, crate::proofs::Found::pending_refused, crate::proofs::Found::pending_missing, crate::proofs::Cuts::one_less))]
-pub fn pending_at<'a>(alloc: Global, text: &'a [u8]) -> Result<Option<(Pending, &'a [u8])>, NoMemory>
+#[tactic(auto, using(crate::proofs::Found::pending_refused, crate::proofs::Found::pending_missing, crate::proofs::Cuts::one_less))]
+pub fn pending_at<'a>(
+    alloc: Global,
+    text: &'a [u8],
+) -> Result<Option<(Pending, &'a [u8])>, NoMemory>
     ensures some { IfOk result (λ o. IfSome o (λ x. PendingAt text.now x.0 x.1.now)) }
     ensures none { IfOk result (λ o. o ≡ None → IsPendingLine text.now → ⊥) }
     ensures less { IfOk result (λ o. IfSome o (λ x. OneLess text.now x.1.now)) }
@@ -60,7 +70,11 @@ pub fn pending_at<'a>(alloc: Global, text: &'a [u8]) -> Result<Option<(Pending, 
 
 /// What follows the last line of the journal with this head, where that line is the first of a text.
 #[tactic(auto, using(crate::proofs::Found::end_found, crate::proofs::Found::end_refused, crate::proofs::Found::end_missing))]
-pub fn end_at<'a>(alloc: Global, head: &JournalHead, text: &'a [u8]) -> Result<Option<&'a [u8]>, NoMemory>
+pub fn end_at<'a>(
+    alloc: Global,
+    head: &JournalHead,
+    text: &'a [u8],
+) -> Result<Option<&'a [u8]>, NoMemory>
     requires { IsHead head.now }
     ensures some { IfOk result (λ o. IfSome o (λ x. EndAt text.now head.now x.now)) }
     ensures none { IfOk result (λ o. o ≡ None → IsEndLine head.now text.now → ⊥) }

@@ -13,8 +13,12 @@ use pcc_journal::{MAX_ITEMS, Pending};
 use std::alloc::Global;
 
 /// The records whose lines are at the front of a text, and what follows them. The first line of the text has the number `first`.
-#[tactic(auto, using(crate::proofs::Walking::walking_start, crate::proofs::Walking::walking_more, crate::proofs::Walking::walking_many, crate::proofs::Walking::walking_end))]
-fn records_at<'a>(alloc: Global, text: &'a [u8], first: u32) -> Result<(Records, &'a [u8]), AuditError>
+#[tactic(auto, using(crate::proofs::Walking::walks))]
+fn records_at<'a>(
+    alloc: Global,
+    text: &'a [u8],
+    first: u32,
+) -> Result<(Records, &'a [u8]), AuditError>
     requires { first + length (lines_of text.now) < 2 ^ 32 }
     ensures some { IfOk result (λ x. AllRecords text.now x.0 x.1.now) }
     ensures many { IfFault result (TooMany first text.now) }
@@ -60,7 +64,7 @@ fn lines_of_pending(pending: &Option<Pending>) -> u32
 }
 
 /// The journal at the front of a text and what follows it, or the first fault.
-#[tactic(auto, using(crate::proofs::Walking::no_head, crate::proofs::Walking::too_many, crate::proofs::Walking::no_line, crate::proofs::Walking::is_front))]
+#[tactic(auto, using(crate::proofs::Walking::no_head, crate::proofs::Walking::too_many, crate::proofs::Walking::no_line))]
 fn read<'a>(alloc: Global, text: &'a [u8], first_line: u32) -> Result<(Told, &'a [u8]), AuditError>
     requires { first_line + length (lines_of text.now) < 2 ^ 32 }
     ensures told { IfOk result (λ x. IsFront text.now x.0 x.1.now) }
@@ -96,7 +100,7 @@ fn read<'a>(alloc: Global, text: &'a [u8], first_line: u32) -> Result<(Told, &'a
 ///
 /// A first line that is no journal's, a line that is right nowhere or not there, and bytes with no line feed after them are `Text`, as is a line
 /// that is missing. The right line of a 4,097th record is `Many`. The first line of the text has the number `first_line`.
-#[tactic(auto, using(crate::proofs::Public::is_found, crate::proofs::Public::only_found, crate::proofs::Public::only_refused, crate::proofs::Public::found_right, crate::proofs::Public::first_refused))]
+#[tactic(auto, using(crate::proofs::Public::reported))]
 pub fn told_from(alloc: Global, text: &[u8], first_line: u32) -> Result<(Told, usize), AuditError>
     requires { first_line + length (lines_of text.now) < 2 ^ 32 }
     // The front of the text is the text of what is read.

@@ -1,7 +1,8 @@
 //! The words of a journal's lines.
 ghost use Rattle.std.specs.Prelude.{◌≡◌, ◌∷◌, [], IfOk, Some, None, bytes_eq, decimal, false, length, map, option_map, true};
 ghost use Rattle.pcc_bytes.specs.Fields.{split_at};
-ghost use Rattle.journal_reading.specs.Rows.{end_row, exchange_row, exchange_values, flag_of, head_row, head_values, pending_row, pending_values, read_at, read_row, record_row, record_values};
+ghost use Rattle.journal_reading.specs.Rows.{end_row, exchange_row, exchange_values, flag_of, head_row, head_values, pending_row, pending_values};
+ghost use Rattle.journal_reading.specs.Rows.{read_at, read_row, record_row, record_values};
 
 use itoa::Buffer;
 use pcc_io::{Bytes, NoMemory};
