@@ -6,3 +6,4 @@ pub mod OneLine
 pub mod OneFault
 pub mod Walking
 pub mod Public
+pub mod Deciding
