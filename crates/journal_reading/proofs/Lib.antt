@@ -7,3 +7,4 @@ pub mod OneFault
 pub mod Walking
 pub mod Public
 pub mod WorkedJournals
+pub mod Deciding
