@@ -1,6 +1,6 @@
 -- The lines of a journal, at the front of a text.
 use Rattle.std.proofs.Common.{◌≡◌, ℕ, ◌^◌, ◌<◌, ◌≤◌, Bool, true, false, List, [], ◌∷◌, ◌++◌, drop, refl, sym, ap, ◌∙◌, subst, arith, lit<}
-use Rattle.std.specs.Prelude.{Some, None, codes, decimal}
+use Rattle.std.specs.Prelude.{Some, None, codes}
 use Rattle.pcc_bytes.specs.Bytes.{IsBytes}
 use Rattle.pcc_bytes.specs.Fields.{split_at}
 use Rattle.pcc_text.proofs.Laws.{lacks-decimal}
@@ -13,7 +13,7 @@ use Rattle.pcc_journal.specs.JournalText.{end_line, head_line, pending_line, rec
 use Rattle.journal_reading.specs.Told.{IsHead, IsPending, IsRecord}
 use Rattle.journal_reading.specs.Faults.{HeadAt, IsEndLine, IsHeadLine, IsPendingLine, IsRecordLine, PendingAt, RecordAt}
 use Rattle.journal_reading.specs.Parts.{EndAt}
-use Rattle.journal_reading.specs.Rows.{Fit, HexBytes, IsOf, OfBytes, OfNumber, Step, Upto, Value, end_row, exchange_row, head_row, head_values, line_of, pending_row, pending_values, read_row, record_row, record_values, words}
+use Rattle.journal_reading.specs.Rows.{Fit, HexBytes, IsOf, OfBytes, OfNumber, Step, Upto, end_row, exchange_row, head_row, head_values, line_of, pending_row, pending_values, read_row, record_row, record_values, words}
 use Rattle.journal_reading.proofs.RowLines.{IsLine, IsRow, found, missing, refused}
 
 number_fits : (limit n : ℕ) → IsOf (Upto limit) (OfNumber n) → n ≤ limit

@@ -1,5 +1,5 @@
 -- What is reported of a text.
-use Rattle.std.proofs.Common.{◌≡◌, ℕ, ◌+◌, ◌-◌, List, ◌++◌, length, refl, sym, ap, ◌∙◌, subst, arith}
+use Rattle.std.proofs.Common.{◌≡◌, ℕ, ◌+◌, ◌-◌, List, length, refl, ap, ◌∙◌, arith}
 use Rattle.std.proofs.lemmas.List.{length-append}
 use Rattle.journal_reading.specs.declared.told.Told.{Told}
 use Rattle.journal_reading.specs.declared.told.AuditError.{AuditError}

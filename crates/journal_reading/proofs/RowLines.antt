@@ -1,5 +1,5 @@
 -- A line of a row, at the front of a text.
-use Rattle.std.proofs.Common.{◌≡◌, ℕ, ◌≤◌, List, [], ◌∷◌, ◌++◌, length, refl, sym, ap, ◌∙◌, subst, arith}
+use Rattle.std.proofs.Common.{◌≡◌, ℕ, ◌≤◌, List, [], ◌∷◌, ◌++◌, length, sym, ap, ◌∙◌, arith}
 use Rattle.std.specs.Prelude.{Option, Some, None}
 use Rattle.pcc_bytes.specs.Fields.{joined, split_at}
 use Rattle.pcc_text.proofs.Laws.{same_some, split_join, text_of_parts}

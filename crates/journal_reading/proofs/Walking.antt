@@ -1,6 +1,6 @@
 -- The lines of a journal, read one after another.
-use Rattle.std.proofs.Common.{◌≡◌, ◌≢◌, ◌⊎◌, inl, inr, ℕ, suc, ◌+◌, ◌<◌, ◌≤◌, List, [], ◌∷◌, ◌++◌, length, refl, sym, ap, ◌∙◌, subst, arith}
-use Rattle.std.specs.Prelude.{Option, Some, None, Ok, Err}
+use Rattle.std.proofs.Common.{◌≡◌, ◌≢◌, inl, inr, ℕ, ◌+◌, ◌≤◌, List, [], ◌∷◌, ◌++◌, length, refl, sym, ap, ◌∙◌, subst, arith}
+use Rattle.std.specs.Prelude.{Option, Some, None}
 use Rattle.std.specs.List.{AllByRecursion}
 use Rattle.std.proofs.lemmas.List.{append-nil, append_assoc, length-append}
 use Rattle.pcc_bytes.specs.Fields.{lines_of}
@@ -12,7 +12,7 @@ use Rattle.pcc_journal.specs.JournalText.{end_line, head_line, journal_text, pen
 use Rattle.journal_reading.specs.declared.told.AuditKind.{AuditKind}
 use Rattle.journal_reading.specs.declared.told.AuditKind.TheVariants as kind
 use Rattle.journal_reading.specs.declared.told.Told.{Told}
-use Rattle.journal_reading.specs.Told.{IsRecord, IsTold, most_records, told_text}
+use Rattle.journal_reading.specs.Told.{IsRecord, most_records}
 use Rattle.journal_reading.specs.Faults.{AreLines, HeadAt, IsEndLine, IsHeadLine, IsNextLine, IsPendingLine, IsRecordLine, JournalWrong, NoHead, OneMore, PendingAt, RecordAt, WrongLine, pending_lines}
 use Rattle.journal_reading.specs.Parts.{AllRecords, AnyPending, EndAt, IsFront, OneLess, TooMany}
 

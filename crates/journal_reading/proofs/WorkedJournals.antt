@@ -1,9 +1,9 @@
 -- The worked journal is told, and another one isn't.
-use Rattle.std.proofs.Common.{◌≡◌, ℕ, ◌<◌, ◌≤◌, List, [], ◌∷◌, refl, arith, lit<, lit≤}
+use Rattle.std.proofs.Common.{◌≤◌, [], refl, arith}
 use Rattle.pcc_bytes.specs.Bytes.{IsBytes}
 use Rattle.journal_reading.specs.declared.told.AuditKind.TheVariants as kind
 use Rattle.journal_reading.specs.Told.{IsHead, IsPending, IsRecord, IsTold}
-use Rattle.journal_reading.specs.Faults.{IsHeadLine, JournalWrong, NoHead}
+use Rattle.journal_reading.specs.Faults.{JournalWrong, NoHead}
 use Rattle.journal_reading.specs.Worked.{late_record, pending_command, too_wide, worked_head, worked_told}
 use Rattle.journal_reading.proofs.Found.{head_missing}
 

@@ -1,5 +1,5 @@
 -- The first fault of a text that is to begin with a journal's: lines of a journal, and then one wrong thing.
-use Rattle.std.specs.Prelude.{◌≡◌, ◌≤◌, ◌⊎◌, ◌+◌, ℕ, suc, List, ◌++◌, length, Option, Some, None, Result, Ok, Err, IfSome}
+use Rattle.std.specs.Prelude.{◌≡◌, ◌≤◌, ◌⊎◌, ◌+◌, ℕ, List, ◌++◌, length, Option, Some, None, Result, Ok, Err, IfSome}
 use Rattle.std.specs.List.{AllByRecursion}
 use Rattle.pcc_text.specs.Pieces.{spelled}
 use Rattle.pcc_journal.specs.declared.record.Record.{Record}

@@ -1,4 +1,3 @@
-use Rattle.std.proofs.Common.{◌≡◌}
 use Rattle.journal_reading.proofs.Found.{head_found}
 use Rattle.journal_reading.proofs.lines.head_at.Goals as goal
 

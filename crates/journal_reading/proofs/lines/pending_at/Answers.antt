@@ -1,4 +1,3 @@
-use Rattle.std.proofs.Common.{◌≡◌}
 use Rattle.journal_reading.proofs.Found.{pending_found}
 use Rattle.journal_reading.proofs.lines.pending_at.Goals as goal
 

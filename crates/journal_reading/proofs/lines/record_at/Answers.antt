@@ -1,4 +1,3 @@
-use Rattle.std.proofs.Common.{◌≡◌, arith}
 use Rattle.journal_reading.proofs.Found.{record_found, record_missing}
 use Rattle.journal_reading.proofs.lines.record_at.Goals as goal
 

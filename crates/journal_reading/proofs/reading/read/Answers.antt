@@ -1,4 +1,3 @@
-use Rattle.std.proofs.Common.{◌≡◌}
 use Rattle.journal_reading.proofs.Walking.{is_front}
 use Rattle.journal_reading.proofs.reading.read.Goals as goal
 

@@ -1,4 +1,3 @@
-use Rattle.std.proofs.Common.{◌≡◌}
 use Rattle.journal_reading.proofs.Walking.{walking_more}
 use Rattle.journal_reading.proofs.reading.records_at.Goals as goal
 
