@@ -1,0 +1,10 @@
+pub mod Cuts
+pub mod RowReading
+pub mod RowLines
+pub mod Found
+pub mod OneLine
+pub mod OneFault
+pub mod Walking
+pub mod Public
+pub mod WorkedJournals
+pub mod Deciding
