@@ -1,4 +1,6 @@
-//! The processor of a package of six fields.
+//! Controllers of one processor: of six fields, and of all that an operating system writes.
+ghost use Rattle.std.specs.Prelude.{◌<◌, ◌^◌, length};
+
 use cpc_package::{SIX_FIELDS_PACKAGE, bind, cpc_from};
 use cppc_device::{Cap, CppcDevice, DeviceFault, start_inside, values_of};
 use pcc_exec::{ExecStatus, Executor};
@@ -8,10 +10,36 @@ use std::test::Fail;
 // The desired, the minimum and the maximum performance are 100, 10 and 300.
 const IMAGE: [u8; 12] = *b"\x64\0\0\0\x0a\0\0\0\x2c\x01\0\0";
 
-// A controller of the package's processor alone, in a space of 32 bytes.
+// A package of fields of one byte, each at the byte of its entry's number.
+const BYTE_FIELDS_PACKAGE: [u8; 299] =
+    *b"\x12\x4a\x12\x17\x0a\x17\x0a\x03\x0b\x2c\x01\x0a\xc8\x0a\x50\x0a\x0a\
+    \x11\x14\x0a\x11\x82\x0c\0\0\0\0\0\0\0\0\0\0\0\0\0\x79\0\
+    \x11\x14\x0a\x11\x82\x0c\0\x0a\x08\0\0\x07\0\0\0\0\0\0\0\x79\0\
+    \x11\x14\x0a\x11\x82\x0c\0\x0a\x08\0\0\x08\0\0\0\0\0\0\0\x79\0\
+    \x11\x14\x0a\x11\x82\x0c\0\x0a\x08\0\0\x09\0\0\0\0\0\0\0\x79\0\
+    \x11\x14\x0a\x11\x82\x0c\0\x0a\x08\0\0\x0a\0\0\0\0\0\0\0\x79\0\
+    \x11\x14\x0a\x11\x82\x0c\0\x0a\x08\0\0\x0b\0\0\0\0\0\0\0\x79\0\
+    \0\
+    \x11\x14\x0a\x11\x82\x0c\0\x0a\x08\0\0\x0d\0\0\0\0\0\0\0\x79\0\
+    \x11\x14\x0a\x11\x82\x0c\0\x0a\x08\0\0\x0e\0\0\0\0\0\0\0\x79\0\
+    \x11\x14\x0a\x11\x82\x0c\0\x0a\x08\0\0\x0f\0\0\0\0\0\0\0\x79\0\
+    \x11\x14\x0a\x11\x82\x0c\0\x0a\x08\0\0\x10\0\0\0\0\0\0\0\x79\0\
+    \x11\x14\x0a\x11\x82\x0c\0\x0a\x08\0\0\x11\0\0\0\0\0\0\0\x79\0\
+    \x11\x14\x0a\x11\x82\x0c\0\x0a\x08\0\0\x12\0\0\0\0\0\0\0\x79\0\
+    \x11\x14\x0a\x11\x82\x0c\0\x0a\x08\0\0\x13\0\0\0\0\0\0\0\x79\0\
+    \x0a\x64\x0b\x90\x01\x0b\xd0\x07";
+
+// A controller of a package's processor alone, in a space of 32 bytes.
 #[tactic(auto, using(crate::proofs::Alone::one_processor))]
-fn controller(alloc: Global, image: &[u8], caps: &[Cap]) -> Result<CppcDevice, DeviceFault> {
-    let Ok((cpc, _)) = cpc_from(alloc, &SIX_FIELDS_PACKAGE) else {
+fn controller_of(
+    alloc: Global,
+    bytes: &[u8],
+    image: &[u8],
+    caps: &[Cap],
+) -> Result<CppcDevice, DeviceFault>
+    requires { length bytes.now < 2 ^ 32 }
+{
+    let Ok((cpc, _)) = cpc_from(alloc, bytes) else {
         return Err(DeviceFault::NoMemory);
     };
     let Ok(cpu) = bind(&cpc, 32) else {
@@ -21,6 +49,11 @@ fn controller(alloc: Global, image: &[u8], caps: &[Cap]) -> Result<CppcDevice, D
         return Err(DeviceFault::NoMemory);
     }
     CppcDevice::new(alloc, 32, image, &[cpu], caps)
+}
+
+// A controller of the processor of six fields.
+fn controller(alloc: Global, image: &[u8], caps: &[Cap]) -> Result<CppcDevice, DeviceFault> {
+    controller_of(alloc, &SIX_FIELDS_PACKAGE, image, caps)
 }
 
 // What a command makes of a space that has as many bytes as the registers.
@@ -49,6 +82,21 @@ fn counters_grow_and_the_desired_performance_is_written(rt: HostRuntime) -> Resu
         space == *b"\x96\0\0\0\x0a\0\0\0\x2c\x01\0\0\0\0\0\0\xc8\0\0\0\0\0\0\0\xfa\0\0\0\0\0\0\0"
     );
     assert!(rt; run(&mut device, 2, &mut space) == Some(ExecStatus::Bad));
+    Ok(())
+}
+
+// The counters, entries 13 and 14, are the controller's own.
+#[test]
+fn a_write_takes_each_field_that_an_operating_system_writes(rt: HostRuntime) -> Result<(), Fail> {
+    let mut device = controller_of(rt.alloc(), &BYTE_FIELDS_PACKAGE, &[], &[])
+        .ok()
+        .ok_or("no device")?;
+    let mut space = [0xff; 32];
+    assert!(rt; run(&mut device, 1, &mut space) == Some(ExecStatus::Good));
+    assert!(rt;
+        space
+            == *b"\0\0\0\0\0\0\0\xff\xff\xff\xff\xff\0\0\0\xff\xff\xff\xff\xff\0\0\0\0\0\0\0\0\0\0\0\0"
+    );
     Ok(())
 }
 

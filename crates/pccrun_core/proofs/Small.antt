@@ -5,7 +5,7 @@ use Rattle.std.proofs.lemmas.List.{length-append}
 use Rattle.hex.specs.Hex.{lower_digits}
 use Rattle.hex.proofs.HexLemmas.{length-encode_with}
 use Rattle.pcc_bytes.specs.Fields.{hex_text, line_text}
-use Rattle.pcc_script.specs.Text.{Statement, cap_statement, clock_statement, cpu_statement, action_statement, line_of, open_statement, pick_statements, script_text, statements_of, statements_text, table_statement}
+use Rattle.pcc_script.specs.Text.{Statement, cap_statement, clock_statement, cpu_statement, action_statement, line_of, open_statement, pick_statements, script_text, statements_text, table_statement}
 use Rattle.pcc_script.specs.declared.scenario.Scenario.{Scenario}
 use Rattle.pccrun_core.specs.Answers.{input_limit}
 use Rattle.pccrun_core.specs.Refusals.{IsSpelled}
