@@ -1,0 +1,5 @@
+pub mod Bits
+pub mod Commands
+pub mod LimitsExactly
+pub mod YesExactly
+pub mod OneVerdict

@@ -1,0 +1,4 @@
+pub mod Verdicts
+pub mod WishBits
+pub mod Judged
+pub mod Good
