@@ -105,6 +105,7 @@ one_command_refusal one spelling single command.Weave input r q h k = one_script
 one_command_refusal one spelling single command.Show input r q h k = one_table_refusal input r q h k
 one_command_refusal one spelling single command.Build input r q h k = one_text_refusal input r q h k
 one_command_refusal one spelling single command.Cpc input r q h k = one_package_refusal one spelling single input r q h k
+one_command_refusal one spelling single command.Raise input r q h k = one_package_refusal one spelling single input r q h k
 
 pub one_rejection : OnePackage → OneSpelling → OneFault → (c : Command) (input : List ℕ) (r q : Refusal) → Rejects c input r → Rejects c input q → r ≡ q
 one_rejection one spelling single c input r q (Exceeds more) (Exceeds also) = refl
@@ -126,6 +127,7 @@ made_or_refused some apart one spelling command.Show input fit = elim (whole_or_
 ]
 made_or_refused some apart one spelling command.Build input fit = text_or_refused input
 made_or_refused some apart one spelling command.Cpc input fit = package_or_refused some apart one spelling input fit
+made_or_refused some apart one spelling command.Raise input fit = package_or_refused some apart one spelling input fit
 
 pub accepted_or_rejected : SomePackage → NotBoth → OnePackage → OneSpelling → (c : Command) (input : List ℕ) → IsBytes input → IsAccepted c input ⊎ IsRejected c input
 accepted_or_rejected some apart one spelling c input fit = elim (cases_lt input_limit (length input)) [
@@ -152,6 +154,7 @@ is_made command.Weave input text h = (h.0, h.1, h.2)
 is_made command.Show input text h = (h.0, h.1)
 is_made command.Build input bytes h = (h.0, record { value = record { bytes = bytes; fit = h.2; spell = h.3 }; text_is = h.1 })
 is_made command.Cpc input text h = (h.0, h.1)
+is_made command.Raise input text h = (h.0, h.1)
 
 pub some_text : (c : Command) (input : List ℕ) → c ≢ command.Weave → IsMade c input → (text : List ℕ) × Makes c input text
 some_text command.Step input other h =
@@ -161,6 +164,7 @@ some_text command.Weave input other h = absurd (other refl)
 some_text command.Show input other h = (show_text h.0, (h.0, h.1, refl))
 some_text command.Build input other h = (h.1.value.bytes, (h.0, h.1.text_is, h.1.value.fit, h.1.value.spell))
 some_text command.Cpc input other h = (package_text h.0, (h.0, h.1, refl))
+some_text command.Raise input other h = (item_bytes (raised h.0), (h.0, h.1, right_raised h.0 h.1.item.is h.1.right))
 
 -- a command serves one script, which opens one list of subspaces and has one list of processors
 one_cpus : (s u : Scenario) (os other : List Opened) → s ≡ u → (h : Opens s os) → (k : Opens u other) → h.checked.cpus ≡ k.checked.cpus
@@ -190,3 +194,5 @@ one_text one command.Show input text other differs h k = h.2 ∙ ap show_text (o
 one_text one command.Build input text other differs h k = one_build input text other h k
 one_text one command.Cpc input text other differs h k =
     h.2 ∙ ap package_text (one input [] input [] h.0 k.0 h.1 k.1 refl) ∙ sym k.2
+one_text one command.Raise input bytes other differs h k =
+    h.2.item.spelled ∙ ap (λ (c : Item). item_bytes (raised c)) (one input [] input [] h.0 k.0 h.1 k.1 refl) ∙ sym k.2.item.spelled

@@ -1,6 +1,6 @@
 -- What the words and the bytes read lead to.
 use Rattle.std.proofs.Common.{◌≡◌, ℕ, ◌+◌, ◌<◌, ◌≤◌, true, List, [], ◌∷◌, ◌++◌, length, get_or, map, refl, sym, ap, ◌∙◌, subst, arith}
-use Rattle.std.specs.Prelude.{Option, Some, None, bytes_eq, codes, decimal}
+use Rattle.std.specs.Prelude.{◌==◌, if◌then◌else◌, Option, Some, None, bytes_eq, codes, decimal}
 use Rattle.std.specs.Io.KnownBytes.{Consumes, IsAtEnd}
 use Rattle.std.proofs.lemmas.List.{append-nil, length-append}
 use Rattle.std.proofs.lemmas.Slice.Eq.{bytes_eq-Decides}
@@ -84,55 +84,30 @@ all_read left left' xs bytes told read end =
     let empty : found.0 ≡ [] = subst IsAtEnd found.1 end in
     sym (found.2 ∙ ap (λ (v : List ℕ). bytes ++ v) empty ∙ append-nil bytes)
 
--- the second letter tells the command
-abbrev second : List ℕ → ℕ
-second (x ∷ y ∷ ys) = y
-second _ = 0
+-- the fourth letter tells the command
+abbrev fourth : List ℕ → ℕ
+fourth word = get_or word 3 0
 
-abbrev letter_of : Command → ℕ
-letter_of command.Step = 116
-letter_of command.Weave = 101
-letter_of command.Show = 104
-letter_of command.Build = 117
-letter_of command.Cpc = 112
+abbrev told_by : ℕ → Command
+told_by letter =
+    if letter == 112 then command.Step
+    else (if letter == 118 then command.Weave
+    else (if letter == 119 then command.Show
+    else (if letter == 108 then command.Build
+    else (if letter == 115 then command.Raise
+    else command.Cpc))))
 
-second_of : (c : Command) → second (word_of c) ≡ letter_of c
-second_of command.Step = refl
-second_of command.Weave = refl
-second_of command.Show = refl
-second_of command.Build = refl
-second_of command.Cpc = refl
-
-one_letter : (c d : Command) → letter_of c ≡ letter_of d → c ≡ d
-one_letter command.Step command.Step e = refl
-one_letter command.Weave command.Weave e = refl
-one_letter command.Show command.Show e = refl
-one_letter command.Build command.Build e = refl
-one_letter command.Cpc command.Cpc e = refl
-one_letter command.Step command.Weave e = absurd (omega arith)
-one_letter command.Step command.Show e = absurd (omega arith)
-one_letter command.Step command.Build e = absurd (omega arith)
-one_letter command.Weave command.Step e = absurd (omega arith)
-one_letter command.Weave command.Show e = absurd (omega arith)
-one_letter command.Weave command.Build e = absurd (omega arith)
-one_letter command.Show command.Step e = absurd (omega arith)
-one_letter command.Show command.Weave e = absurd (omega arith)
-one_letter command.Show command.Build e = absurd (omega arith)
-one_letter command.Build command.Step e = absurd (omega arith)
-one_letter command.Build command.Weave e = absurd (omega arith)
-one_letter command.Build command.Show e = absurd (omega arith)
-one_letter command.Step command.Cpc e = absurd (omega arith)
-one_letter command.Weave command.Cpc e = absurd (omega arith)
-one_letter command.Show command.Cpc e = absurd (omega arith)
-one_letter command.Build command.Cpc e = absurd (omega arith)
-one_letter command.Cpc command.Step e = absurd (omega arith)
-one_letter command.Cpc command.Weave e = absurd (omega arith)
-one_letter command.Cpc command.Show e = absurd (omega arith)
-one_letter command.Cpc command.Build e = absurd (omega arith)
+told_back : (c : Command) → told_by (fourth (word_of c)) ≡ c
+told_back command.Step = refl
+told_back command.Weave = refl
+told_back command.Show = refl
+told_back command.Build = refl
+told_back command.Cpc = refl
+told_back command.Raise = refl
 
 -- words ask for one command
 one_command : (c d : Command) → word_of c ≡ word_of d → c ≡ d
-one_command c d e = one_letter c d (sym (second_of c) ∙ ap second e ∙ second_of d)
+one_command c d e = sym (told_back c) ∙ ap (λ (w : List ℕ). told_by (fourth w)) e ∙ told_back d
 
 pub same_command : (words : List (List ℕ)) (c d : Command) → AsksFor words c → AsksFor words d → c ≡ d
 same_command words c d a b = one_command c d (same_head (word_of c) (word_of d) (sym a ∙ b))
@@ -144,6 +119,7 @@ kept command.Weave input r h k = script_kept command.Weave input h.0 h.1 r h.2 k
 kept command.Show input r h k = table_kept input h.0 r h.1 k
 kept command.Build input r h (WrongLine none line wrong fault) = none h.0 (has_text h.0 h.1.value) h.1.text_is
 kept command.Cpc input r h k = package_kept input h.0 r h.1 k
+kept command.Raise input r h k = package_kept input h.0 r h.1 k
 
 -- a served input leads to what is made of it alone
 pub served_input_runs : (words : List (List ℕ)) (left left' : Option (List ℕ)) (status : ℕ) (text : List ℕ) → Answers words left left' status text → IsServedInput words left → status ≡ 0

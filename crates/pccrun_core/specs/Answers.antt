@@ -5,6 +5,7 @@ use Rattle.pcc_bytes.specs.Bytes.{IsBytes}
 use Rattle.aml_pkg.specs.declared.item.Item.{Item}
 use Rattle.cpc_package.specs.Packages.{CpcBytes}
 use Rattle.cpc_package.specs.PackageText.{package_text}
+use Rattle.cpc_package.specs.Raising.{raised}
 use Rattle.pcc_script.specs.declared.limits.TheConstants.{MAX_MADE_CALLS}
 use Rattle.pcc_script.specs.declared.scenario.Scenario.{Scenario}
 use Rattle.pcct_table.specs.declared.table.Table.{Table}
@@ -35,6 +36,7 @@ word_of command.Weave = codes "weave"
 word_of command.Show = codes "show"
 word_of command.Build = codes "build"
 word_of command.Cpc = codes "cpc"
+word_of command.Raise = codes "raise"
 
 -- the words ask for a command on the whole input that is built
 abbrev pub AsksFor : List (List ℕ) → Command → Type 0
@@ -52,7 +54,7 @@ Asks words (request.Run c) = AsksFor words c
 Asks words (request.Make n) = AsksToMake words n
 
 abbrev pub usage_line : List ℕ
-usage_line = codes "usage: pccrun show|build|cpc|step|weave|threads|audit|make N\n"
+usage_line = codes "usage: pccrun show|build|cpc|step|weave|threads|audit|make N|raise\n"
 
 -- ---- what was read
 
@@ -91,7 +93,7 @@ pub record IsTextOf (t : Table) (text : List ℕ) : Type 0 where
   pub text_is : text ≡ show_text t
 
 -- What a command makes of its whole input: of a served script the text of its run; of the bytes of a table its text; of the text of
--- a table its bytes; of the bytes of a package its text.
+-- a table its bytes; of the bytes of a package its text, or the bytes of that package as one of revision 3.
 abbrev pub Makes : Command → List ℕ → List ℕ → Type 0
 Makes command.Step input text = (s : Scenario) × (opened : List Opened) × (h : Serves command.Step input s opened)
     × IsStepText s opened h.opens.checked.cpus text
@@ -99,6 +101,7 @@ Makes command.Weave input text = (s : Scenario) × (opened : List Opened) × (h 
 Makes command.Show input text = (t : Table) × TableBytes input t × (text ≡ show_text t)
 Makes command.Build input bytes = (t : Table) × (input ≡ show_text t) × IsBytes bytes × TableBytes bytes t
 Makes command.Cpc input text = (c : Item) × CpcBytes input c × (text ≡ package_text c)
+Makes command.Raise input bytes = (c : Item) × CpcBytes input c × CpcBytes bytes (raised c)
 
 -- a command makes something of this input
 abbrev pub IsMade : Command → List ℕ → Type 0
@@ -107,6 +110,7 @@ IsMade command.Weave input = (s : Scenario) × (opened : List Opened) × Serves 
 IsMade command.Show input = (t : Table) × TableBytes input t
 IsMade command.Build input = (t : Table) × IsTextOf t input
 IsMade command.Cpc input = (c : Item) × CpcBytes input c
+IsMade command.Raise input = (c : Item) × CpcBytes input c
 
 -- ---- what is written
 

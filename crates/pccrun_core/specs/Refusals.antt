@@ -45,3 +45,4 @@ Refuses command.Weave text r = ScriptRefused command.Weave text r
 Refuses command.Show bytes r = TableRefused bytes r
 Refuses command.Build text r = TextRefused text r
 Refuses command.Cpc bytes r = PackageRefused bytes r
+Refuses command.Raise bytes r = PackageRefused bytes r

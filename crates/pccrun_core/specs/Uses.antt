@@ -30,3 +30,4 @@ use_fault command.Weave s = weave_fault s
 use_fault command.Show s = None
 use_fault command.Build s = None
 use_fault command.Cpc s = None
+use_fault command.Raise s = None

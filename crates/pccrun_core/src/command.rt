@@ -22,6 +22,8 @@ pub enum Command {
     Build,
     /// Prints the text of a package of performance control.
     Cpc,
+    /// Writes a package of performance control again, as one of revision 3.
+    Raise,
 }
 
 /// The command whose word this is.
@@ -38,6 +40,8 @@ fn command_named(word: &[u8]) -> Option<Command>
         Some(Command::Build)
     } else if is_text(word, b"cpc") {
         Some(Command::Cpc)
+    } else if is_text(word, b"raise") {
+        Some(Command::Raise)
     } else {
         None
     }
@@ -89,5 +93,5 @@ pub fn request_of(words: &[String]) -> Option<Request>
 pub fn usage() -> &'static [u8]
     ensures { result.now ≡ usage_line }
 {
-    b"usage: pccrun show|build|cpc|step|weave|threads|audit|make N\n"
+    b"usage: pccrun show|build|cpc|step|weave|threads|audit|make N|raise\n"
 }

@@ -16,7 +16,7 @@ ghost use Rattle.pccrun_core.specs.declared.top.Stop.TheVariants.{NoMemory as Ou
 
 use crate::command::{Command, Request, request_of, usage};
 use crate::error::CommandError;
-use crate::package::cpc;
+use crate::package::{cpc, raise};
 use crate::step::step;
 use crate::tables::{build, show};
 use crate::weave::weave;
@@ -86,6 +86,7 @@ fn made(alloc: Global, command: Command, input: &[u8]) -> Result<Vec<u8>, Comman
         Command::Show => show(alloc, input),
         Command::Build => build(alloc, input),
         Command::Cpc => cpc(alloc, input),
+        Command::Raise => raise(alloc, input),
     }
 }
 

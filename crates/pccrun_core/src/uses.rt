@@ -50,6 +50,6 @@ pub fn use_fault(command: Command, scenario: &Scenario) -> Option<UseFault>
             }
         }
         Command::Weave => weave_fault(scenario),
-        Command::Show | Command::Build | Command::Cpc => None,
+        Command::Show | Command::Build | Command::Cpc | Command::Raise => None,
     }
 }

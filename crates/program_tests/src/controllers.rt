@@ -45,11 +45,18 @@ const HEAD: &[u8] = b"journal 0 type 0 cppc room 32 turnaround 0 rate 0 errors y
 
 const READ_AND_SET: &[u8] = b"read 0 0 3 0\nset 0 0 10 150 300 3 0\nread 0 0 3 0\n";
 
-const READ_AND_SET_TEXT: &[u8] =
-    b"5 values 2=300 3=200 4=80 5=10 7=100 8=10 9=300 12=0 13=100 14=100 15=0 17=0 20=100 21=400 22=2000\n\
-6 ok 960000000a0000002c0100000000000064000000000000006400000000000000\n\
-7 values 2=300 3=200 4=80 5=10 7=150 8=10 9=300 12=0 13=200 14=250 15=0 17=0 20=100 21=400 22=2000\n\
-journal 0 type 0 cppc room 32 turnaround 0 rate 0 errors yes\n\
+const FIRST_READ: &[u8] = b"5 values 2=300 3=200 4=80 5=10 7=100 8=10 9=300 12=0 13=100 14=100 15=0 17=0 20=100";
+
+const WISH_SET: &[u8] =
+    b"6 ok 960000000a0000002c0100000000000064000000000000006400000000000000\n";
+
+const LAST_READ: &[u8] = b"7 values 2=300 3=200 4=80 5=10 7=150 8=10 9=300 12=0 13=200 14=250 15=0 17=0 20=100";
+
+/// What entries 21 and 22 add to a line of values.
+const FREQUENCIES: &[u8] = b" 21=400 22=2000";
+
+const READ_AND_SET_JOURNAL: &[u8] =
+    b"journal 0 type 0 cppc room 32 turnaround 0 rate 0 errors yes\n\
 record 0 caller 0 code 0 ok post 0 done 1 timely in 640000000a0000002c0100000000000000000000000000000000000000000000 \
 out 640000000a0000002c0100000000000064000000000000006400000000000000\n\
 record 1 caller 0 code 1 ok post 2 done 3 timely in 960000000a0000002c0100000000000064000000000000006400000000000000 \
@@ -96,11 +103,40 @@ out 960000000a0000002c0100000000000000000000000000000000000000000000\n\
 pending caller 0 code 0 post 2 in 960000000a0000002c0100000000000000000000000000000000000000000000\n\
 end 0\n";
 
+/// What `step` writes for a read, a wish and a read, where the last entries add this to a line of values.
+fn read_and_set_text(alloc: Global, last: &[u8]) -> Result<Vec<u8>, NoMemory> {
+    joined(
+        alloc,
+        &[
+            FIRST_READ,
+            last,
+            b"\n",
+            WISH_SET,
+            LAST_READ,
+            last,
+            b"\n",
+            READ_AND_SET_JOURNAL,
+        ],
+    )
+}
+
+// A package of revision 2 has no entries 21 and 22. All else is as with one of revision 3.
+#[test]
+fn processors_of_revision_two(rt: HostRuntime) -> Result<(), Fail> {
+    let alloc = rt.alloc();
+    let head = b"\x12\x40\x11\x15\x0a\x15\x0a\x02";
+    let package = joined(alloc, &[head, &SIX_FIELDS_PACKAGE[8..273]])?;
+    let text = read_and_set_text(alloc, b"")?;
+    assert_eq!(rt; status(alloc, &package, READ_AND_SET, &text)?, Some(0));
+    Ok(())
+}
+
 #[test]
 fn reads_and_wishes(rt: HostRuntime) -> Result<(), Fail> {
     let alloc = rt.alloc();
+    let read_and_set = read_and_set_text(alloc, FREQUENCIES)?;
     let rows: [(&[u8], &[u8]); 4] = [
-        (READ_AND_SET, READ_AND_SET_TEXT),
+        (READ_AND_SET, &read_and_set),
         (WISHES, WISHES_TEXT),
         (CAPPED, CAPPED_TEXT),
         (HELD, HELD_TEXT),

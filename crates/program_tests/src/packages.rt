@@ -1,6 +1,8 @@
 //! Packages of performance control as texts.
 use crate::commands::{changed, joined, status_of, status_of_long};
 use cpc_package::SIX_FIELDS_PACKAGE;
+use pcc_io::NoMemory;
+use std::alloc::Global;
 use std::test::Fail;
 
 const SIX_FIELDS_TEXT: &[u8] = b"0 NumEntries integer 23 byte\n\
@@ -82,5 +84,49 @@ fn other_entries_of_a_package(rt: HostRuntime) -> Result<(), Fail> {
         ],
     )?;
     assert_eq!(rt; status_of_long(alloc, "cpc", &word, &text)?, Some(0));
+    Ok(())
+}
+
+// The same package as one of revision 2: 21 entries, of which those from 2 on are as they were.
+fn of_revision_two(alloc: Global) -> Result<Vec<u8>, NoMemory> {
+    let head = b"\x12\x40\x11\x15\x0a\x15\x0a\x02";
+    joined(alloc, &[head, &SIX_FIELDS_PACKAGE[8..273]])
+}
+
+#[test]
+fn packages_of_revision_two_are_printed(rt: HostRuntime) -> Result<(), Fail> {
+    let alloc = rt.alloc();
+    let package = of_revision_two(alloc)?;
+    let text = joined(
+        alloc,
+        &[
+            b"0 NumEntries integer 21 byte\n1 Revision integer 2 byte\n",
+            &SIX_FIELDS_TEXT[55..927],
+        ],
+    )?;
+    assert_eq!(rt; status_of_long(alloc, "cpc", &package, &text)?, Some(0));
+    let wrong = changed(alloc, &package, &[(7, 3)])?;
+    let line = b"refused package wrong revision 1 6\n";
+    assert_eq!(rt; status_of_long(alloc, "cpc", &wrong, line)?, Some(3));
+    assert_eq!(rt; status_of_long(alloc, "raise", &wrong, line)?, Some(3));
+    Ok(())
+}
+
+#[test]
+fn packages_are_raised(rt: HostRuntime) -> Result<(), Fail> {
+    let alloc = rt.alloc();
+    let package = of_revision_two(alloc)?;
+    let head = b"\x12\x42\x11\x17\x0a\x17\x0a\x03";
+    let raised = joined(alloc, &[head, &SIX_FIELDS_PACKAGE[8..273], b"\0\0"])?;
+    let followed = joined(alloc, &[&package, b"\0"])?;
+    let rows: [(&[u8], u8, &[u8]); 4] = [
+        (&package, 0, &raised),
+        (&raised, 0, &raised),
+        (&SIX_FIELDS_PACKAGE, 0, &SIX_FIELDS_PACKAGE),
+        (&followed, 3, b"refused package trailing 273\n"),
+    ];
+    for (input, status, bytes) in rows {
+        assert_eq!(rt; status_of_long(alloc, "raise", input, bytes)?, Some(status));
+    }
     Ok(())
 }

@@ -1,5 +1,9 @@
 //! What a script opens: structures of each type, several subspaces, and none that can be opened.
-use crate::commands::{TABLE, joined, status_of, status_of_long};
+use crate::commands::{TABLE, changed, joined, status_of, status_of_long};
+use pcc_io::NoMemory;
+use pcc_text::put_hex;
+use pcct_codec::ONE_GENERIC_SUBSPACE;
+use std::alloc::Global;
 use std::test::Fail;
 
 #[test]
@@ -280,5 +284,33 @@ fn scripts_without_calls(rt: HostRuntime) -> Result<(), Fail> {
         let input = joined(alloc, &[table, lines])?;
         assert_eq!(rt; status_of_long(alloc, "step", &input, text)?, Some(status));
     }
+    Ok(())
+}
+
+/// A script with this table.
+fn script_with(alloc: Global, table: &[u8], lines: &[u8]) -> Result<Vec<u8>, NoMemory> {
+    let mut text = Vec::from_slice(alloc, b"table ")?;
+    put_hex(&mut text, table)?;
+    text.extend_from_slice(lines)?;
+    Ok(text)
+}
+
+const BEHIND_UNKNOWN_TEXT: &[u8] = b"4 error 00000000000000000000000000000000\n\
+journal 1 type 0 bank room 16 turnaround 0 rate 0 errors yes\n\
+record 0 caller 0 code 0 error post 0 done 10 timely in 00000000000000000000000000000000 out 00000000000000000000000000000000\n\
+end 1\n";
+
+// A structure of a type of a later release takes an ID, and can't be opened.
+#[test]
+fn structures_of_unknown_types_are_counted(rt: HostRuntime) -> Result<(), Fail> {
+    let alloc = rt.alloc();
+    let unknown = changed(alloc, &ONE_GENERIC_SUBSPACE, &[(48, 6), (9, 0x68)])?;
+    let opened = script_with(alloc, &unknown, b"\nclock 0 10\nopen 0 bank\n")?;
+    let line = b"refused open 0 unknown type 6\n";
+    assert_eq!(rt; status_of_long(alloc, "step", &opened, line)?, Some(3));
+    let header = changed(alloc, &ONE_GENERIC_SUBSPACE[..48], &[(4, 112), (9, 0x64)])?;
+    let table = joined(alloc, &[&header, b"\x06\x02", &ONE_GENERIC_SUBSPACE[48..]])?;
+    let behind = script_with(alloc, &table, b"\nclock 0 10\nopen 1 bank\ncall 0 1 0 - 3 0\n")?;
+    assert_eq!(rt; status_of_long(alloc, "step", &behind, BEHIND_UNKNOWN_TEXT)?, Some(0));
     Ok(())
 }

@@ -30,6 +30,31 @@ fn tables_are_shown_and_built(rt: HostRuntime) -> Result<(), Fail> {
     Ok(())
 }
 
+const LATER_TYPE_TEXT: &[u8] =
+    b"pcct revision=2 oem_id=50434352554e oem_table=4558414d504c4531 oem_revision=1 \
+creator=54455354 creator_revision=1 flags=0 reserved=0000000000000000\n\
+subspace 0 type 6 bytes=00000000000000000080000000001800000000000000002000030000d0fe00000000feffffff000000000100000000000000\
+e8030000000000000000\n";
+
+// A structure of a type of a later release, and one of the same type without bytes.
+#[test]
+fn structures_of_unknown_types_are_kept(rt: HostRuntime) -> Result<(), Fail> {
+    let alloc = rt.alloc();
+    let kept = changed(alloc, &ONE_GENERIC_SUBSPACE, &[(48, 6), (9, 0x68)])?;
+    let front = changed(alloc, &ONE_GENERIC_SUBSPACE[..48], &[(4, 50), (9, 0x50)])?;
+    let empty = joined(alloc, &[&front, b"\x06\x02"])?;
+    let empty_text = joined(alloc, &[NO_SUBSPACES_TEXT, b"subspace 0 type 6 bytes=-\n"])?;
+    let rows: [(&[u8], &[u8]); 2] = [(&kept, LATER_TYPE_TEXT), (&empty, &empty_text)];
+    for (bytes, text) in rows {
+        assert_eq!(rt; status_of_long(alloc, "show", bytes, text)?, Some(0));
+        assert_eq!(rt; status_of_long(alloc, "build", text, bytes)?, Some(0));
+    }
+    let known = joined(alloc, &[NO_SUBSPACES_TEXT, b"subspace 0 type 5 bytes=-\n"])?;
+    let line = b"refused line 2 text\n";
+    assert_eq!(rt; status_of_long(alloc, "build", &known, line)?, Some(3));
+    Ok(())
+}
+
 #[test]
 fn wrong_tables_are_refused(rt: HostRuntime) -> Result<(), Fail> {
     let alloc = rt.alloc();
@@ -39,7 +64,8 @@ fn wrong_tables_are_refused(rt: HostRuntime) -> Result<(), Fail> {
         (&[(8, 3), (9, 0x6d)], b"refused table revision 3\n"),
         (&[(4, 0x6f)], b"refused table short 110\n"),
         (&[(48, 2), (9, 0x6c)], b"refused table size 48 2 62\n"),
-        (&[(48, 6)], b"refused table type 48 6\n"),
+        (&[(48, 6), (49, 1), (9, 0xa5)], b"refused table size 48 6 1\n"),
+        (&[(4, 0x31), (5, 0xff)], b"refused table length 65329\n"),
         (&[(4, 109)], b"refused table overrun 48\n"),
         (&[(50, 7)], b"refused table checksum 7\n"),
         (&[(4, 48), (9, 0x5a)], b"refused table trailing 48\n"),

@@ -4,7 +4,7 @@ use pcc_io::{MemSink, MemSource};
 use pccrun_core::run;
 use std::test::Fail;
 
-const USAGE: &[u8] = b"usage: pccrun show|build|cpc|step|weave|threads|audit|make N\n";
+const USAGE: &[u8] = b"usage: pccrun show|build|cpc|step|weave|threads|audit|make N|raise\n";
 
 #[test]
 fn words_that_ask_for_nothing(rt: HostRuntime) -> Result<(), Fail> {
@@ -17,6 +17,7 @@ fn words_that_ask_for_nothing(rt: HostRuntime) -> Result<(), Fail> {
         "make 04",
         "make 4 4",
         "Step",
+        "raise x",
         "",
     ] {
         let words = words_of(alloc, text)?;
