@@ -4,7 +4,7 @@ use Rattle.std.specs.Prelude.{OnOk}
 use Rattle.std.proofs.lemmas.List.{append-nil, length-append, length-drop, length-take, take-append-drop}
 use Rattle.pcct_table.specs.declared.table.Table.{Table}
 use Rattle.pcct_codec.specs.declared.fault.TableFault.{TableFault}
-use Rattle.pcct_codec.specs.declared.fault.TableFault.TheVariants.{Short, Signature, LengthOutside, Revision, TooMany, Overrun, SubspaceType, SubspaceLength, Checksum, ReadFault, NoMemory}
+use Rattle.pcct_codec.specs.declared.fault.TableFault.TheVariants.{Short, Signature, LengthOutside, Revision, TooMany, Overrun, SubspaceLength, Checksum, ReadFault, NoMemory}
 use Rattle.pcct_codec.specs.Faults.{FaultIs, Right, decision, told_length}
 use Rattle.pcct_codec.specs.Tables.{TableBytes}
 use Rattle.pcct_codec.proofs.Decisions.{right_source}
@@ -40,7 +40,6 @@ wrong bytes (LengthOutside len) h a b = (Wrong (LengthOutside len) h, tt)
 wrong bytes (Revision found) h a b = (Wrong (Revision found) h, tt)
 wrong bytes (TooMany at) h a b = (Wrong (TooMany at) h, tt)
 wrong bytes (Overrun at) h a b = (Wrong (Overrun at) h, tt)
-wrong bytes (SubspaceType at kind) h a b = (Wrong (SubspaceType at kind) h, tt)
 wrong bytes (SubspaceLength at kind found) h a b = (Wrong (SubspaceLength at kind found) h, tt)
 wrong bytes (Checksum sum) h a b = (Wrong (Checksum sum) h, tt)
 wrong bytes ReadFault h a b = absurd (b refl)

@@ -3,11 +3,13 @@ use Rattle.std.specs.Prelude.{ℕ, List, [], ◌∷◌, ◌++◌, codes}
 use Rattle.pcc_text.specs.Pieces.{Spelled, Words, Decimal, spelled}
 use Rattle.pcc_script.specs.declared.fault.ScriptKind.{ScriptKind}
 use Rattle.pcc_script.specs.declared.fault.ScriptKind.TheVariants as script
+use Rattle.journal_reading.specs.declared.told.AuditKind.{AuditKind}
+use Rattle.journal_reading.specs.declared.told.AuditKind.TheVariants as audit
 use Rattle.pcct_table.specs.declared.build.BuildKind.{BuildKind}
 use Rattle.pcct_table.specs.declared.build.BuildKind.TheVariants as kind
 use Rattle.pcct_codec.specs.declared.fault.TableFault.{TableFault}
 use Rattle.pcct_codec.specs.declared.fault.TableFault.TheVariants.{Short, Signature, LengthOutside, Revision, TooMany, Overrun}
-use Rattle.pcct_codec.specs.declared.fault.TableFault.TheVariants.{SubspaceType, SubspaceLength, Checksum, ReadFault, NoMemory}
+use Rattle.pcct_codec.specs.declared.fault.TableFault.TheVariants.{SubspaceLength, Checksum, ReadFault, NoMemory}
 use Rattle.cpc_package.specs.PackageText.{kind_text}
 use Rattle.cpc_package.specs.declared.binding.BindFault.{BindFault}
 use Rattle.cpc_package.specs.declared.binding.BindFault.TheVariants as bind
@@ -37,7 +39,6 @@ fault_pieces (LengthOutside len) = Words (codes "length ") ∷ Decimal len ∷ [
 fault_pieces (Revision found) = Words (codes "revision ") ∷ Decimal found ∷ []
 fault_pieces (TooMany at) = Words (codes "many ") ∷ Decimal at ∷ []
 fault_pieces (Overrun at) = Words (codes "overrun ") ∷ Decimal at ∷ []
-fault_pieces (SubspaceType at kind) = Words (codes "type ") ∷ Decimal at ∷ Words (codes " ") ∷ Decimal kind ∷ []
 fault_pieces (SubspaceLength at kind found) = Words (codes "size ") ∷ Decimal at ∷ Words (codes " ") ∷ Decimal kind ∷ Words (codes " ") ∷ Decimal found ∷ []
 fault_pieces (Checksum sum) = Words (codes "checksum ") ∷ Decimal sum ∷ []
 fault_pieces ReadFault = []
@@ -47,6 +48,11 @@ fault_pieces NoMemory = []
 abbrev pub kind_word : BuildKind → List ℕ
 kind_word kind.Text = codes " text"
 kind_word kind.Many = codes " many"
+
+-- what is wrong with a line of journals
+abbrev pub journal_word : AuditKind → List ℕ
+journal_word audit.Text = codes " text"
+journal_word audit.Many = codes " many"
 
 -- what is wrong with a line of a script
 abbrev pub script_word : ScriptKind → List ℕ
@@ -71,6 +77,7 @@ use_word use_fault.Pick = codes "pick"
 use_word use_fault.Many = codes "many"
 use_word use_fault.Bank = codes "bank"
 use_word use_fault.Wait = codes "wait"
+use_word use_fault.Audit = codes "audit"
 
 abbrev pub role_word : Role → List ℕ
 role_word role.Doorbell = codes "doorbell"
@@ -79,7 +86,12 @@ role_word role.Check = codes "check"
 role_word role.Update = codes "update"
 role_word role.Error = codes "error"
 
+-- words and a number
+abbrev pub numbered : List ℕ → ℕ → List Spelled
+numbered word number = Words word ∷ Decimal number ∷ []
+
 abbrev pub wiring_pieces : WiringFault → List Spelled
+wiring_pieces (wiring.UnknownType kind) = numbered (codes "unknown type ") kind
 wiring_pieces wiring.WrongRole = Words (codes "wrong role") ∷ []
 wiring_pieces (wiring.SpaceTooSmall len) = Words (codes "space ") ∷ Decimal len ∷ []
 wiring_pieces (wiring.RegisterSpace r) = Words (codes "register space ") ∷ Words (role_word r) ∷ []
@@ -93,10 +105,6 @@ open_pieces NoSubspace = Words (codes "no subspace") ∷ []
 open_pieces OpenedTwice = Words (codes "opened twice") ∷ []
 open_pieces (Unwired fault) = wiring_pieces fault
 open_pieces ImageLong = Words (codes "image long") ∷ []
-
--- words and a number
-abbrev pub numbered : List ℕ → ℕ → List Spelled
-numbered word number = Words word ∷ Decimal number ∷ []
 
 -- what is wrong with a package, the number of the entry, and the place
 abbrev pub package_pieces : CpcFault → List Spelled
@@ -129,6 +137,7 @@ abbrev pub refusal_pieces : Refusal → List Spelled
 refusal_pieces refusal.Long = Words (codes "long") ∷ []
 refusal_pieces (refusal.Script line wrong) = line_pieces line (script_word wrong)
 refusal_pieces (refusal.TableText line wrong) = line_pieces line (kind_word wrong)
+refusal_pieces (refusal.JournalText line wrong) = line_pieces line (journal_word wrong)
 refusal_pieces (refusal.Action line fault) = line_pieces line (action_word fault)
 refusal_pieces (refusal.Table fault) = Words (codes "table ") ∷ fault_pieces fault
 refusal_pieces (refusal.Trailing at) = Words (codes "table trailing ") ∷ Decimal at ∷ []

@@ -5,6 +5,7 @@ ghost use Rattle.pcc_setup.specs.declared.refusal.InputError.TheVariants.{NoMemo
 use crate::action::ActionFault;
 use crate::opening::OpenFault;
 use cpc_package::{BindFault, CpcFault};
+use journal_reading::AuditKind;
 use pcc_io::NoMemory;
 use pcc_script::ScriptKind;
 use pcc_wiring::Overlap;
@@ -23,6 +24,8 @@ pub enum UseFault {
     Bank,
     /// A `wait` line where none may be.
     Wait,
+    /// An action or a `pick` line before the journals.
+    Audit,
 }
 
 /// Why a processor isn't bound.
@@ -49,6 +52,8 @@ pub enum Refusal {
     Script { line: u64, kind: ScriptKind },
     /// The text is no table's: its first line that is wrong.
     TableText { line: u64, kind: BuildKind },
+    /// The text is no journal's: its first line that is wrong.
+    JournalText { line: u64, kind: AuditKind },
     /// The action of this line names nothing that the script opens.
     Action { line: u64, fault: ActionFault },
     /// The bytes are no table: the first check that fails.

@@ -1,7 +1,7 @@
 //! The one line that reports why an input is refused.
 ghost use Rattle.std.specs.Prelude.{◌≡◌, ◌++◌, ◌∷◌, [], IfOk, OnOk};
 ghost use Rattle.pcc_text.specs.Pieces.{Decimal, Words, spelled};
-ghost use Rattle.pcct_codec.specs.declared.fault.TableFault.TheVariants.{SubspaceLength, SubspaceType};
+ghost use Rattle.pcct_codec.specs.declared.fault.TableFault.TheVariants.{SubspaceLength};
 ghost use Rattle.cpc_package.specs.declared.binding.BindFault.TheVariants as bind;
 ghost use Rattle.pcc_setup.specs.declared.refusal.Refusal.TheVariants as refusal;
 ghost use Rattle.pcc_setup.specs.RefusalText.{
@@ -11,6 +11,7 @@ ghost use Rattle.pcc_setup.specs.RefusalText.{
   bind_pieces,
   cpu_pieces,
   fault_pieces,
+  journal_word,
   kind_word,
   line_pieces,
   numbered,
@@ -28,6 +29,7 @@ use crate::action::ActionFault;
 use crate::opening::OpenFault;
 use crate::refusal::{CpuFault, Refusal, UseFault};
 use cpc_package::{BindFault, CpcFault};
+use journal_reading::AuditKind;
 use pcc_io::NoMemory;
 use pcc_script::ScriptKind;
 use pcc_text::{Piece, put, put_pieces};
@@ -40,20 +42,6 @@ fn put_numbered(out: &mut Vec<u8>, word: &[u8], number: u64) -> Result<(), NoMem
     ensures { OnOk result (out.new.items ≡ out.old.items ++ spelled (numbered word.now number)) }
 {
     put_pieces(out, &[Piece::Text(word), Piece::Number(number)])
-}
-
-fn put_type(out: &mut Vec<u8>, at: u32, kind: u8) -> Result<(), NoMemory>
-    ensures { OnOk result (out.new.items ≡ out.old.items ++ spelled (fault_pieces (SubspaceType at kind))) }
-{
-    put_pieces(
-        out,
-        &[
-            Piece::Text(b"type "),
-            Piece::Number(at as u64),
-            Piece::Text(b" "),
-            Piece::Number(kind as u64),
-        ],
-    )
 }
 
 fn put_size(out: &mut Vec<u8>, at: u32, kind: u8, found: u8) -> Result<(), NoMemory>
@@ -83,7 +71,6 @@ fn put_fault(out: &mut Vec<u8>, fault: TableFault) -> Result<(), NoMemory>
         TableFault::Revision { found } => put_numbered(out, b"revision ", found as u64),
         TableFault::TooMany { at } => put_numbered(out, b"many ", at as u64),
         TableFault::Overrun { at } => put_numbered(out, b"overrun ", at as u64),
-        TableFault::SubspaceType { at, kind } => put_type(out, at, kind),
         TableFault::SubspaceLength { at, kind, found } => put_size(out, at, kind, found),
         TableFault::Checksum { sum } => put_numbered(out, b"checksum ", sum as u64),
         TableFault::ReadFault | TableFault::NoMemory => unreachable!(),
@@ -106,6 +93,7 @@ fn put_wiring_fault(out: &mut Vec<u8>, fault: WiringFault) -> Result<(), NoMemor
     ensures { OnOk result (out.new.items ≡ out.old.items ++ spelled (wiring_pieces fault)) }
 {
     match fault {
+        WiringFault::UnknownType { kind } => put_numbered(out, b"unknown type ", kind as u64),
         WiringFault::WrongRole => put_pieces(out, &[Piece::Text(b"wrong role")]),
         WiringFault::SpaceTooSmall { len } => {
             put_pieces(out, &[Piece::Text(b"space "), Piece::Number(len)])
@@ -164,6 +152,15 @@ fn kind_word(kind: BuildKind) -> &'static [u8]
     }
 }
 
+fn journal_word(kind: AuditKind) -> &'static [u8]
+    ensures { result.now ≡ journal_word kind }
+{
+    match kind {
+        AuditKind::Text => b" text",
+        AuditKind::Many => b" many",
+    }
+}
+
 fn script_word(kind: ScriptKind) -> &'static [u8]
     ensures { result.now ≡ script_word kind }
 {
@@ -197,6 +194,7 @@ fn use_word(fault: UseFault) -> &'static [u8]
         UseFault::Many => b"many",
         UseFault::Bank => b"bank",
         UseFault::Wait => b"wait",
+        UseFault::Audit => b"audit",
     }
 }
 
@@ -333,6 +331,7 @@ fn put_refusal(out: &mut Vec<u8>, refusal: Refusal) -> Result<(), NoMemory>
         Refusal::Long => put_pieces(out, &[Piece::Text(b"long")]),
         Refusal::Script { line, kind } => put_line(out, line, script_word(kind)),
         Refusal::TableText { line, kind } => put_line(out, line, kind_word(kind)),
+        Refusal::JournalText { line, kind } => put_line(out, line, journal_word(kind)),
         Refusal::Action { line, fault } => put_line(out, line, action_word(fault)),
         Refusal::Table(fault) => {
             put(out, b"table ")?;
