@@ -1,5 +1,5 @@
 -- The fields of the Platform Communications Channel Table and of its structures, a row for each (ACPI 6.5, 14.1).
-use Rattle.std.specs.Prelude.{ℕ, ◌==◌, if◌then◌else◌, List, [], ◌∷◌, ◌++◌, map, take, drop, Option, Some, None, codes}
+use Rattle.std.specs.Prelude.{ℕ, ◌==◌, ◌-◌, nat_lt, if◌then◌else◌, List, [], ◌∷◌, ◌++◌, map, take, drop, Option, Some, None, codes}
 use Rattle.std.specs.Str.{bytes_eq}
 use Rattle.pcc_bytes.specs.Bytes.{number_at}
 use Rattle.pcct_table.specs.declared.rows.Kind.{Kind}
@@ -125,9 +125,13 @@ hw_register_fields =
     ∷ field (codes "turnaround") 92 Dword
     ∷ []
 
--- the fields of a type's structures after their heads; an unknown type has none
-abbrev pub fields_of_kind : ℕ → List Field
-fields_of_kind kind =
+-- the types from this one on are those of later releases
+abbrev pub unknown_kinds : ℕ
+unknown_kinds = 6
+
+-- the fields of a known type's structures after their heads
+abbrev pub known_fields : ℕ → List Field
+known_fields kind =
     if kind == 0 then generic_fields
     else (if kind == 1 then hw_reduced1_fields
     else (if kind == 2 then hw_reduced2_fields
@@ -136,9 +140,17 @@ fields_of_kind kind =
     else (if kind == 5 then hw_register_fields
     else [])))))
 
--- the number of bytes of a structure, by its type, where the type is known
-abbrev pub size_of_kind : ℕ → Option ℕ
-size_of_kind kind =
+-- the one field of a structure of an unknown type: all its bytes after its head
+abbrev pub bytes_fields : ℕ → List Field
+bytes_fields n = field (codes "bytes") 2 (Array n) ∷ []
+
+-- the fields of a structure after its head, by its type and its number of bytes
+abbrev pub fields_of_kind : ℕ → ℕ → List Field
+fields_of_kind kind size = if nat_lt kind unknown_kinds then known_fields kind else bytes_fields (size - 2)
+
+-- the number of bytes of a known type's structures
+abbrev pub known_size : ℕ → Option ℕ
+known_size kind =
     if kind == 0 then Some 62
     else (if kind == 1 then Some 62
     else (if kind == 2 then Some 90
@@ -146,6 +158,14 @@ size_of_kind kind =
     else (if kind == 4 then Some 164
     else (if kind == 5 then Some 96
     else None)))))
+
+-- a number of bytes that a structure of an unknown type may have: its head at least, and no more than one byte says
+abbrev pub unknown_size : ℕ → Option ℕ
+unknown_size found = if nat_lt found 2 then None else (if nat_lt found 256 then Some found else None)
+
+-- the number of bytes of a structure, by its type, and by its second byte where the type is unknown
+abbrev pub size_of_kind : ℕ → ℕ → Option ℕ
+size_of_kind kind found = if nat_lt kind unknown_kinds then known_size kind else unknown_size found
 
 -- the first field of a name
 abbrev pub field_named : List Field → List ℕ → Option Field

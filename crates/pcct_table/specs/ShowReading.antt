@@ -1,5 +1,5 @@
 -- How the code reads a text, from left to right, as functions on lists. Only contracts of private functions cite these.
-use Rattle.std.specs.Prelude.{◌≡◌, ◌≤◌, ◌==◌, ℕ, suc, nat_lt, Bool, true, false, if◌then◌else◌, List, [], ◌∷◌, ◌++◌, length, take, drop}
+use Rattle.std.specs.Prelude.{◌≡◌, ◌≤◌, ◌+◌, ◌==◌, ℕ, suc, nat_lt, Bool, true, false, if◌then◌else◌, List, [], ◌∷◌, ◌++◌, length, take, drop}
 use Rattle.std.specs.Prelude.{slice_index_or, Option, Some, None, Result, Ok, Err, option_and_then, bytes_eq, codes, decimal}
 use Rattle.std.specs.List.{AllByRecursion}
 use Rattle.pcc_bytes.specs.Fields.{last_in, lines_of, split_at}
@@ -12,7 +12,7 @@ use Rattle.pcct_table.specs.declared.rows.Kind.{Kind}
 use Rattle.pcct_table.specs.declared.rows.Kind.TheVariants.{Byte, Word, Dword, Qword, Address, Array}
 use Rattle.pcct_table.specs.declared.subspace.Subspace.{Subspace}
 use Rattle.pcct_table.specs.declared.table.Table.{Table}
-use Rattle.pcct_table.specs.Rows.{Field, fields_of_kind, size_of_kind}
+use Rattle.pcct_table.specs.Rows.{Field, known_fields, known_size, unknown_kinds}
 use Rattle.pcct_table.specs.Values.{fields_bytes, number_bytes}
 use Rattle.pcct_table.specs.Subspaces.{IsSubspace, SubspaceBytes}
 use Rattle.pcct_table.specs.ShowText.{HasText, later_fields, later_values, structure_lines, table_lines}
@@ -109,13 +109,36 @@ read_header ws =
       bytes ← read_words later_fields (drop 2 ws)
       Some (head_bytes revision ++ bytes)) else None)
 
+-- the bytes of a structure of a known type, from the words of its fields
+abbrev pub read_known : ℕ → List (List ℕ) → Option (List ℕ)
+read_known kind ws = do
+  size ← known_size kind
+  bytes ← read_words (known_fields kind) ws
+  Some (kind ∷ size ∷ bytes)
+
+-- so many bytes follow the head of a structure of an unknown type at most
+abbrev pub most_bytes : ℕ
+most_bytes = 253
+
+abbrev pub with_head : ℕ → List ℕ → Option (List ℕ)
+with_head kind bytes = if nat_lt most_bytes (length bytes) then None else Some (kind ∷ (2 + length bytes) ∷ bytes)
+
+-- the bytes of a structure of an unknown type, from its one word
+unfoldable pub read_bytes : ℕ → List ℕ → Option (List ℕ)
+read_bytes kind w = do
+  text ← behind_name (codes "bytes") w
+  bytes ← hex_of text
+  with_head kind bytes
+
+abbrev pub read_unknown : ℕ → List (List ℕ) → Option (List ℕ)
+read_unknown kind (w ∷ []) = read_bytes kind w
+read_unknown kind _ = None
+
 -- the bytes of a structure of a type, from the words of its fields
 abbrev pub read_kind : Option ℕ → List (List ℕ) → Option (List ℕ)
 read_kind o ws = do
   kind ← o
-  size ← size_of_kind kind
-  bytes ← read_words (fields_of_kind kind) ws
-  Some (kind ∷ size ∷ bytes)
+  if nat_lt kind unknown_kinds then read_known kind ws else read_unknown kind ws
 
 -- the bytes of the structure whose line has these words
 unfoldable pub read_line : ℕ → List (List ℕ) → Option (List ℕ)

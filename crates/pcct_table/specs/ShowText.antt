@@ -6,8 +6,9 @@ use Rattle.pcc_bytes.specs.Bytes.{IsBytes}
 use Rattle.pcc_bytes.specs.Fields.{hex_text, joined, line_text}
 use Rattle.pcc_gas.specs.declared.address.Gas.{Gas}
 use Rattle.pcct_table.specs.declared.subspace.Subspace.{Subspace}
+use Rattle.pcct_table.specs.declared.subspace.Subspace.TheVariants.{Other}
 use Rattle.pcct_table.specs.declared.table.Table.{Table}
-use Rattle.pcct_table.specs.Rows.{Field, fields_of_kind, header_fields, header_size}
+use Rattle.pcct_table.specs.Rows.{Field, bytes_fields, header_fields, header_size, known_fields}
 use Rattle.pcct_table.specs.Values.{Addressed, Bytes, Number, Value, values_in}
 use Rattle.pcct_table.specs.Subspaces.{IsSubspace, kind_of, values_of}
 
@@ -65,10 +66,15 @@ header_line t = joined (header_words t)
 
 -- ---- the structures
 
+-- the fields of a structure after its head
+abbrev pub fields_shown : Subspace → List Field
+fields_shown (Other o) = bytes_fields (length o.bytes)
+fields_shown s = known_fields (kind_of s)
+
 -- `subspace PLACE type KIND` and the words of the structure
 abbrev pub show_words : ℕ → Subspace → List (List ℕ)
 show_words place s =
-    codes "subspace" ∷ decimal place ∷ codes "type" ∷ decimal (kind_of s) ∷ words (fields_of_kind (kind_of s)) (values_of s)
+    codes "subspace" ∷ decimal place ∷ codes "type" ∷ decimal (kind_of s) ∷ words (fields_shown s) (values_of s)
 
 unfoldable pub show_line : ℕ → Subspace → List ℕ
 show_line place s = joined (show_words place s)

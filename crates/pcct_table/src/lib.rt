@@ -24,10 +24,10 @@ pub use extended::Type34;
 pub use generic::Type0;
 pub use hw_reduced::{Type1, Type2};
 pub use hw_register::Type5;
-pub use rows::{Kind, Row, rows_of_kind};
+pub use rows::{Kind, Row, bytes_row, rows_of_kind};
 pub use show::show_lines;
 pub use subspace::{
-    Subspace, one_spelling, one_subspace, put_subspace, size_of_kind, subspace_from,
+    Other, Subspace, one_spelling, one_subspace, put_subspace, size_of_kind, subspace_from,
 };
 pub use subspaces::{MAX_SUBSPACES, Subspaces, limits_are};
 pub use table::Table;

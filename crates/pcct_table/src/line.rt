@@ -1,15 +1,21 @@
 //! A line of a table's text.
-ghost use Rattle.std.specs.Prelude.{◌≡◌, ◌≤◌, IfOk, Some, drop, length, map, option_map};
+ghost use Rattle.std.specs.Prelude.{◌≡◌, ◌<◌, ◌≤◌, IfOk, Some, drop, length, map, option_map};
 ghost use Rattle.pcc_bytes.specs.Fields.{split_at};
-ghost use Rattle.pcct_table.specs.ShowReading.{ReadsStructure, read_header, read_kind, read_line, read_revision};
+ghost use Rattle.pcct_table.specs.ShowReading.{ReadsStructure, read_bytes, read_header, read_kind, read_known, read_line, read_revision, read_unknown};
 
 use crate::header::{head_bytes, later_rows};
 use crate::rows::rows_of_kind;
 use crate::subspace::{Subspace, size_of_kind, subspace_from};
-use crate::words::read_words;
+use crate::words::{behind_name, read_words};
 use pcc_io::NoMemory;
-use pcc_text::{is_text, number, part, put, split};
+use pcc_text::{bytes_of, is_text, number, part, put, split};
 use std::alloc::Global;
+
+/// The types from this one on are those of later releases.
+const UNKNOWN_KINDS: u8 = 6;
+
+/// How many bytes follow the head of a structure of an unknown type at most.
+const MOST_BYTES: usize = 253;
 
 /// The parts from a place on.
 #[tactic(auto, using(crate::proofs::Slices::slices))]
@@ -61,11 +67,12 @@ pub fn header_of_line(alloc: Global, line: &[u8]) -> Result<Option<Vec<u8>>, NoM
     header_bytes(alloc, &split(alloc, line, b' ')?)
 }
 
-// The bytes of a structure of a type, from the words of its fields.
-fn kind_bytes(alloc: Global, kind: u8, words: &[&[u8]]) -> Result<Option<Vec<u8>>, NoMemory>
-    ensures { IfOk result (λ o. option_map (λ v. v.items) o ≡ read_kind (Some kind) (map (λ x. x.now) words.now)) }
+// The bytes of a structure of a known type, from the words of its fields.
+fn known_bytes(alloc: Global, kind: u8, words: &[&[u8]]) -> Result<Option<Vec<u8>>, NoMemory>
+    requires { kind < 6 }
+    ensures { IfOk result (λ o. option_map (λ v. v.items) o ≡ read_known kind (map (λ x. x.now) words.now)) }
 {
-    let Some(size) = size_of_kind(kind) else {
+    let Some(size) = size_of_kind(kind, 0) else {
         return Ok(None);
     };
     let mut bytes = Vec::new(alloc);
@@ -74,6 +81,39 @@ fn kind_bytes(alloc: Global, kind: u8, words: &[&[u8]]) -> Result<Option<Vec<u8>
         return Ok(None);
     }
     Ok(Some(bytes))
+}
+
+// The bytes of a structure of an unknown type, from its one word.
+#[tactic(auto, unfolding(crate::specs::ShowReading::read_bytes))]
+fn unknown_bytes(alloc: Global, kind: u8, word: &[u8]) -> Result<Option<Vec<u8>>, NoMemory>
+    ensures { IfOk result (λ o. option_map (λ v. v.items) o ≡ read_bytes kind word.now) }
+{
+    let Some(text) = behind_name(b"bytes", word) else {
+        return Ok(None);
+    };
+    let Some(bytes) = bytes_of(alloc, text)? else {
+        return Ok(None);
+    };
+    if bytes.len() > MOST_BYTES {
+        return Ok(None);
+    }
+    let mut whole = Vec::new(alloc);
+    put(&mut whole, &[kind, 2 + bytes.len() as u8])?;
+    put(&mut whole, bytes.as_slice())?;
+    Ok(Some(whole))
+}
+
+// The bytes of a structure of a type, from the words of its fields.
+fn kind_bytes(alloc: Global, kind: u8, words: &[&[u8]]) -> Result<Option<Vec<u8>>, NoMemory>
+    ensures { IfOk result (λ o. option_map (λ v. v.items) o ≡ read_kind (Some kind) (map (λ x. x.now) words.now)) }
+{
+    if kind < UNKNOWN_KINDS {
+        return known_bytes(alloc, kind, words);
+    }
+    match words {
+        [word] => unknown_bytes(alloc, kind, word),
+        _ => Ok(None),
+    }
 }
 
 // The bytes of a structure, from the words of its line.
@@ -111,6 +151,6 @@ pub fn subspace_of_line(
     let words = split(alloc, line, b' ')?;
     match structure_bytes(alloc, place, &words)? {
         None => Ok(None),
-        Some(bytes) => Ok(Some(subspace_from(&bytes))),
+        Some(bytes) => Ok(Some(subspace_from(alloc, &bytes)?)),
     }
 }

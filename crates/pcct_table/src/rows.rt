@@ -1,6 +1,6 @@
 //! The fields of each type of structure, after its type and its size (ACPI 6.5, 14.1).
 ghost use Rattle.std.specs.Prelude.{◌≡◌};
-ghost use Rattle.pcct_table.specs.Rows.{fields_of, fields_of_kind};
+ghost use Rattle.pcct_table.specs.Rows.{bytes_fields, fields_of, known_fields};
 
 use Kind::{Address, Array, Byte, Dword, Qword, Word};
 
@@ -102,9 +102,9 @@ const HW_REGISTER: [Row; 12] = [
     Row(b"turnaround", 92, Dword),
 ];
 
-/// The fields of a type's structures, in the order of their places. An unknown type has none.
+/// The fields of a known type's structures, in the order of their places.
 pub fn rows_of_kind(kind: u8) -> &'static [Row]
-    ensures { fields_of result.now ≡ fields_of_kind kind }
+    ensures { fields_of result.now ≡ known_fields kind }
 {
     match kind {
         0 => &GENERIC,
@@ -114,4 +114,11 @@ pub fn rows_of_kind(kind: u8) -> &'static [Row]
         5 => &HW_REGISTER,
         _ => &[],
     }
+}
+
+/// The one field of a structure of an unknown type: the N bytes after its head.
+pub fn bytes_row(n: usize) -> [Row; 1]
+    ensures { fields_of result ≡ bytes_fields n }
+{
+    [Row(b"bytes", 2, Array(n))]
 }

@@ -4,14 +4,14 @@ ghost use Rattle.std.specs.List.{flat_map};
 ghost use Rattle.pcc_bytes.specs.Fields.{line_text};
 ghost use Rattle.pcct_table.specs.Rows.{fields_of, width};
 ghost use Rattle.pcct_table.specs.Values.{value_at, values_in};
-ghost use Rattle.pcct_table.specs.Subspaces.{IsSubspace};
-ghost use Rattle.pcct_table.specs.ShowText.{HasText, address_text, header_line, show_line, show_text, value_text, words};
+ghost use Rattle.pcct_table.specs.Subspaces.{IsSubspace, subspace_bytes, values_of};
+ghost use Rattle.pcct_table.specs.ShowText.{HasText, address_text, fields_shown, header_line, show_line, show_text, value_text, words};
 ghost use Rattle.pcct_table.specs.ShowReading.{shown_bytes};
 
 use crate::header::{head_bytes, later_rows};
 use crate::pieces::{put_all, u32_bytes};
 use crate::places::{gas_at, u8_at, u16_at, u32_at, u64_at};
-use crate::rows::{Kind, Row, rows_of_kind};
+use crate::rows::{Kind, Row, bytes_row, rows_of_kind};
 use crate::subspace::{Subspace, put_subspace};
 use crate::table::Table;
 use pcc_gas::Gas;
@@ -106,33 +106,44 @@ fn put_header_line(alloc: Global, out: &mut Vec<u8>, table: &Table) -> Result<()
     put(out, b"\n")
 }
 
+/// Puts a space and `name=value` for each field of a structure, from its bytes.
+fn put_fields(out: &mut Vec<u8>, subspace: &Subspace, bytes: &[u8]) -> Result<(), NoMemory>
+    requires right { IsSubspace subspace.now }
+    requires spelled { bytes.now ≡ subspace_bytes subspace.now }
+    ensures { OnOk result (out.new.items ≡ out.old.items ++ flat_map (λ w. 32 ∷ w) (words (fields_shown subspace.now) (values_of subspace.now))) }
+{
+    match subspace {
+        Subspace::Other(other) => put_words(out, &bytes_row(other.bytes.len()), bytes),
+        _ => put_words(out, rows_of_kind(subspace.kind()), bytes),
+    }
+}
+
 fn put_show_line(
     alloc: Global,
     out: &mut Vec<u8>,
     place: u32,
-    subspace: Subspace,
+    subspace: &Subspace,
 ) -> Result<(), NoMemory>
-    requires { IsSubspace subspace }
-    ensures { OnOk result (out.new.items ≡ out.old.items ++ line_text (show_line place subspace)) }
+    requires { IsSubspace subspace.now }
+    ensures { OnOk result (out.new.items ≡ out.old.items ++ line_text (show_line place subspace.now)) }
 {
     let mut bytes = Vec::new(alloc);
     put_subspace(&mut bytes, subspace)?;
-    let kind = subspace.kind();
     put_pieces(
         out,
         &[
             Piece::Text(b"subspace "),
             Piece::Number(place as u64),
             Piece::Text(b" type "),
-            Piece::Number(kind as u64),
+            Piece::Number(subspace.kind() as u64),
         ],
     )?;
-    put_words(out, rows_of_kind(kind), &bytes)?;
+    put_fields(out, subspace, &bytes)?;
     put(out, b"\n")
 }
 
 /// The text of a table: the line `pcct revision=R oem_id=HEX oem_table=HEX oem_revision=N creator=HEX creator_revision=N flags=N reserved=HEX`,
-/// and for each structure the line `subspace PLACE type KIND` with ` name=value` for each of its fields. Numbers are decimal, bytes
+/// and for each structure the line `subspace PLACE type KIND` with ` name=value` for each of its fields, ` bytes=HEX` of an unknown type. Numbers are decimal, bytes
 /// hexadecimal, an address is `space:width:offset:access:address` in decimal.
 #[tactic(auto, using(crate::proofs::Shown::shown_start, crate::proofs::Shown::shown_more, crate::proofs::Shown::shown_end))]
 pub fn show_lines(alloc: Global, table: &Table) -> Result<Vec<u8>, NoMemory>
@@ -143,7 +154,7 @@ pub fn show_lines(alloc: Global, table: &Table) -> Result<Vec<u8>, NoMemory>
     put_header_line(alloc, &mut out, table)?;
     let subspaces = table.subspaces.as_slice();
     for place in 0..subspaces.len() {
-        put_show_line(alloc, &mut out, place as u32, subspaces[place])?;
+        put_show_line(alloc, &mut out, place as u32, &subspaces[place])?;
     }
     Ok(out)
 }

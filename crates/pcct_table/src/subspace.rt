@@ -1,9 +1,10 @@
 //! A structure of any type.
-ghost use Rattle.std.specs.Prelude.{◌≡◌, ◌++◌, ℕ, List, Some, length, slice_index, OnOk};
+ghost use Rattle.std.specs.Prelude.{◌≡◌, ◌++◌, ℕ, List, Some, length, slice_index, IfOk, OnOk};
 ghost use Rattle.pcc_bytes.specs.Bytes.{IsBytes};
 ghost use Rattle.pcct_table.specs.declared.subspace.Subspace.{Subspace};
 ghost use Rattle.pcct_table.specs.Rows.{size_of_kind};
 ghost use Rattle.pcct_table.specs.Subspaces.{
+  IsSubspace,
   SubspaceBytes,
   base_of,
   doorbell_of,
@@ -18,10 +19,19 @@ use crate::extended::Type34;
 use crate::generic::Type0;
 use crate::hw_reduced::{Type1, Type2};
 use crate::hw_register::Type5;
+use crate::pieces::put_all;
 use pcc_gas::Gas;
-use pcc_io::NoMemory;
+use pcc_io::{Bytes, NoMemory};
+use std::alloc::Global;
 
-#[derive(Clone, Copy, Debug, PartialEq, Eq)]
+/// A structure of a type that this release of the standard doesn't have, 6 to 255: all its bytes after the type and the size, at most 253.
+#[derive(Debug, Drop)]
+pub struct Other {
+    pub kind: u8,
+    pub bytes: Bytes,
+}
+
+#[derive(Debug, Drop)]
 pub enum Subspace {
     /// Type 0.
     Generic(Type0),
@@ -35,7 +45,18 @@ pub enum Subspace {
     Responder(Type34),
     /// Type 5.
     HwRegister(Type5),
+    /// A type of a later release.
+    Other(Other),
 }
+
+/// An address of twelve zero bytes.
+const NO_REGISTER: Gas = Gas {
+    space: 0,
+    width: 0,
+    offset: 0,
+    access: 0,
+    address: 0,
+};
 
 impl Subspace {
     /// The type's number.
@@ -49,10 +70,11 @@ impl Subspace {
             Subspace::Initiator(_) => 3,
             Subspace::Responder(_) => 4,
             Subspace::HwRegister(_) => 5,
+            Subspace::Other(other) => other.kind,
         }
     }
 
-    /// The address of the shared memory.
+    /// The address of the shared memory. Of an unknown type it is 0, as what the next four tell.
     pub fn base(&self) -> u64
         ensures { result ≡ base_of self.now }
     {
@@ -62,6 +84,7 @@ impl Subspace {
             Subspace::HwReduced2(t) => t.base,
             Subspace::Initiator(t) | Subspace::Responder(t) => t.base,
             Subspace::HwRegister(t) => t.base,
+            Subspace::Other(_) => 0,
         }
     }
 
@@ -75,6 +98,7 @@ impl Subspace {
             Subspace::HwReduced2(t) => t.length,
             Subspace::Initiator(t) | Subspace::Responder(t) => u64::from(t.length),
             Subspace::HwRegister(t) => t.length,
+            Subspace::Other(_) => 0,
         }
     }
 
@@ -87,7 +111,7 @@ impl Subspace {
             Subspace::HwReduced1(t) => t.rate,
             Subspace::HwReduced2(t) => t.rate,
             Subspace::Initiator(t) | Subspace::Responder(t) => t.rate,
-            Subspace::HwRegister(_) => 0,
+            Subspace::HwRegister(_) | Subspace::Other(_) => 0,
         }
     }
 
@@ -101,6 +125,7 @@ impl Subspace {
             Subspace::HwReduced2(t) => u32::from(t.turnaround),
             Subspace::Initiator(t) | Subspace::Responder(t) => t.turnaround,
             Subspace::HwRegister(t) => t.turnaround,
+            Subspace::Other(_) => 0,
         }
     }
 
@@ -114,42 +139,55 @@ impl Subspace {
             Subspace::HwReduced2(t) => t.doorbell,
             Subspace::Initiator(t) | Subspace::Responder(t) => t.doorbell,
             Subspace::HwRegister(t) => t.doorbell,
+            Subspace::Other(_) => NO_REGISTER,
         }
     }
 }
 
-/// The bytes of a type's structures, if the type is known.
-pub fn size_of_kind(kind: u8) -> Option<u8>
-    ensures { result ≡ size_of_kind kind }
+/// The number of bytes of a structure of this type whose second byte is `found`: on a known type that of all its structures, on an unknown
+/// one `found`, if it is 2 or more.
+pub fn size_of_kind(kind: u8, found: u8) -> Option<u8>
+    ensures { result ≡ size_of_kind kind found }
 {
     match kind {
         0 | 1 => Some(62),
         2 => Some(90),
         3 | 4 => Some(164),
         5 => Some(96),
-        _ => None,
+        _ => {
+            if found < 2 {
+                None
+            } else {
+                Some(found)
+            }
+        }
     }
 }
 
 /// The structure that the bytes spell.
-pub fn subspace_from(bytes: &[u8]) -> Subspace
-    requires size { size_of_kind (slice_index bytes.now 0) ≡ Some (length bytes.now) }
+pub fn subspace_from(alloc: Global, bytes: &[u8]) -> Result<Subspace, NoMemory>
+    requires size { size_of_kind (slice_index bytes.now 0) (length bytes.now) ≡ Some (length bytes.now) }
     requires told { slice_index bytes.now 1 ≡ length bytes.now }
-    ensures { SubspaceBytes bytes.now result }
+    ensures { IfOk result (SubspaceBytes bytes.now) }
 {
-    match bytes[0] {
+    Ok(match bytes[0] {
         0 => Subspace::Generic(Type0::from_bytes(bytes)),
         1 => Subspace::HwReduced1(Type1::from_bytes(bytes)),
         2 => Subspace::HwReduced2(Type2::from_bytes(bytes)),
         3 => Subspace::Initiator(Type34::from_bytes(bytes)),
         4 => Subspace::Responder(Type34::from_bytes(bytes)),
-        _ => Subspace::HwRegister(Type5::from_bytes(bytes)),
-    }
+        5 => Subspace::HwRegister(Type5::from_bytes(bytes)),
+        kind => Subspace::Other(Other {
+            kind,
+            bytes: Bytes::from_vec(Vec::from_slice(alloc, &bytes[2..])?),
+        }),
+    })
 }
 
 /// Puts the bytes that spell the structure at the end. If memory runs out some of them may have been put.
-pub fn put_subspace(out: &mut Vec<u8>, subspace: Subspace) -> Result<(), NoMemory>
-    ensures { OnOk result (out.new.items ≡ out.old.items ++ subspace_bytes subspace) }
+pub fn put_subspace(out: &mut Vec<u8>, subspace: &Subspace) -> Result<(), NoMemory>
+    requires { IsSubspace subspace.now }
+    ensures { OnOk result (out.new.items ≡ out.old.items ++ subspace_bytes subspace.now) }
 {
     match subspace {
         Subspace::Generic(t) => t.put(out),
@@ -158,6 +196,11 @@ pub fn put_subspace(out: &mut Vec<u8>, subspace: Subspace) -> Result<(), NoMemor
         Subspace::Initiator(t) => t.put(3, out),
         Subspace::Responder(t) => t.put(4, out),
         Subspace::HwRegister(t) => t.put(out),
+        Subspace::Other(other) => {
+            let bytes = other.bytes.as_slice();
+            let size = 2 + bytes.len() as u8;
+            put_all(out, &[&[other.kind, size], bytes])
+        }
     }
 }
 

@@ -9,9 +9,9 @@ use pcc_io::NoMemory;
 use pcc_text::{bytes_of, number, part, put, split};
 use std::alloc::Global;
 
-// What follows `name=`.
+/// What follows `name=`.
 #[tactic(auto, unfolding(crate::specs::ShowReading::behind_name))]
-fn behind_name<'a>(name: &[u8], word: &'a [u8]) -> Option<&'a [u8]>
+pub fn behind_name<'a>(name: &[u8], word: &'a [u8]) -> Option<&'a [u8]>
     ensures { option_map (λ x. x.now) result ≡ behind_name name.now word.now }
 {
     match word.strip_prefix(name)? {
