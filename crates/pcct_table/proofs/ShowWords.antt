@@ -92,7 +92,7 @@ name_found name w text h =
     let p = guard (bytes_eq (take (length name) w) name) (behind_equals (drop (length name) w)) text h in
     sym (take-append-drop (length name) w) ∙ ap (λ (v : List ℕ). v ++ drop (length name) w) (same_text (take (length name) w) name p.0) ∙ ap (λ (v : List ℕ). name ++ v) (equals_found (drop (length name) w) text p.1)
 
-name_again : (name text : List ℕ) → behind_name name (name ++ 61 ∷ text) ≡ Some text
+pub name_again : (name text : List ℕ) → behind_name name (name ++ 61 ∷ text) ≡ Some text
 unfolding behind_name
 name_again name text =
     rw (take_at name (61 ∷ text) (length name) refl, drop_at name (61 ∷ text) (length name) refl, text_same name name refl) refl

@@ -8,14 +8,16 @@ use Rattle.pcc_bytes.specs.Fields.{joined, line_text}
 use Rattle.pcc_gas.specs.declared.address.Gas.{Gas}
 use Rattle.pcc_text.specs.Pieces.{Decimal, Words, spelled}
 use Rattle.pcct_table.specs.declared.rows.Row.{Row}
+use Rattle.pcct_table.specs.declared.other.Other.{Other}
 use Rattle.pcct_table.specs.declared.subspace.Subspace.{Subspace}
+use Rattle.pcct_table.specs.declared.subspace.Subspace.TheVariants as Sub
 use Rattle.pcct_table.specs.declared.table.Table.{Table}
-use Rattle.pcct_table.specs.Rows.{Field, field, fields_of, fields_of_kind, width}
+use Rattle.pcct_table.specs.Rows.{Field, field, fields_of, fields_of_kind, known_fields, width}
 use Rattle.pcct_table.specs.Values.{value_at, values_in}
 use Rattle.pcct_table.specs.Subspaces.{IsSubspace, kind_of, subspace_bytes, values_of}
-use Rattle.pcct_table.specs.ShowText.{HasText, address_text, header_line, later_fields, later_values, show_line, show_text, structure_lines, word, words}
+use Rattle.pcct_table.specs.ShowText.{HasText, address_text, fields_shown, header_line, later_fields, later_values, show_line, show_text, structure_lines, word, words}
 use Rattle.pcct_table.specs.ShowReading.{shown_bytes}
-use Rattle.pcct_table.proofs.Laws.{begins, is_contiguous, spelling}
+use Rattle.pcct_table.proofs.Laws.{begins, is_contiguous, shown_by, spelling}
 use Rattle.pcct_table.proofs.ShowLine.{contiguous_size}
 use Rattle.pcct_table.proofs.ShowHeader.{shown_is, shown_len}
 
@@ -68,23 +70,43 @@ line_put (Err x) old a b c start more line e f g h = tt
 
 -- ---- a structure
 
-pub structure_rows : (s : Subspace) (rows : List Row) (kind : ℕ) (bytes : List ℕ) → IsSubspace s → kind ≡ kind_of s
-    → fields_of rows ≡ fields_of_kind kind → bytes ≡ subspace_bytes s → All (λ r. r.1 + width r.2 ≤ length bytes) rows
-structure_rows s rows kind bytes h k e b =
-    let own = h.bytes in
-    let same : bytes ≡ own = b ∙ sym (spelling own s h.fit h.spell) in
-    let fields : fields_of rows ≡ fields_of_kind (kind_of s) = e ∙ ap fields_of_kind k in
-    let len : length own ≡ length bytes = ap length (sym same) in
-    let P : List Field → Type 0 = λ fs. is_contiguous 2 fs (length own) ≡ true in
-    rows_within rows 2 (length own) bytes (subst P (sym fields) (contiguous_size (kind_of s) (length own) h.spell.size)) (omega arith)
+rows_fields : (s : Subspace) (rows : List Row) (bytes : List ℕ) → (h : IsSubspace s) → fields_of rows ≡ fields_shown s → bytes ≡ subspace_bytes s
+    → (fields_of rows ≡ fields_of_kind (kind_of s) (length h.bytes)) × (bytes ≡ h.bytes)
+rows_fields s rows bytes h e b = (e ∙ sym (shown_by h.bytes s h.spell), b ∙ sym (spelling h.bytes s h.fit h.spell))
 
-structure_words : (s : Subspace) (rows : List Row) (kind : ℕ) (bytes : List ℕ) → IsSubspace s → kind ≡ kind_of s
-    → fields_of rows ≡ fields_of_kind kind → bytes ≡ subspace_bytes s
-    → words (fields_of rows) (values_in bytes (fields_of rows)) ≡ words (fields_of_kind (kind_of s)) (values_of s)
-structure_words s rows kind bytes h k e b =
-    let same : bytes ≡ h.bytes = b ∙ sym (spelling h.bytes s h.fit h.spell) in
-    let fields : fields_of rows ≡ fields_of_kind (kind_of s) = e ∙ ap fields_of_kind k in
-    ap (λ (fs : List Field). words fs (values_in bytes fs)) fields ∙ ap (λ (v : List ℕ). words (fields_of_kind (kind_of s)) (values_in v (fields_of_kind (kind_of s)))) same ∙ ap (words (fields_of_kind (kind_of s))) h.spell.values
+pub structure_rows : (s : Subspace) (rows : List Row) (bytes : List ℕ) → IsSubspace s → fields_of rows ≡ fields_shown s → bytes ≡ subspace_bytes s
+    → All (λ r. r.1 + width r.2 ≤ length bytes) rows
+structure_rows s rows bytes h e b =
+    let own = h.bytes in
+    let same = rows_fields s rows bytes h e b in
+    let len : length own ≡ length bytes = ap length (sym same.1) in
+    let P : List Field → Type 0 = λ fs. is_contiguous 2 fs (length own) ≡ true in
+    rows_within rows 2 (length own) bytes (subst P (sym same.0) (contiguous_size (kind_of s) (length own) h.spell.size)) (omega arith)
+
+structure_words : (s : Subspace) (rows : List Row) (bytes : List ℕ) → IsSubspace s → fields_of rows ≡ fields_shown s → bytes ≡ subspace_bytes s
+    → words (fields_of rows) (values_in bytes (fields_of rows)) ≡ words (fields_shown s) (values_of s)
+structure_words s rows bytes h e b =
+    let same = rows_fields s rows bytes h e b in
+    let values : values_in bytes (fields_of rows) ≡ values_of s =
+    ap (values_in bytes) same.0 ∙ ap (λ (v : List ℕ). values_in v (fields_of_kind (kind_of s) (length h.bytes))) same.1 ∙ h.spell.values in
+    ap (λ (fs : List Field). words fs (values_in bytes (fields_of rows))) e ∙ ap (words (fields_shown s)) values
+
+pub fields_put : {E : Type 0} {T : Type 0} (r : Result T E) (s : Subspace) (rows : List Row) (bytes old out : List ℕ) → IsSubspace s → fields_of rows ≡ fields_shown s
+    → bytes ≡ subspace_bytes s → OnOk r (out ≡ old ++ spaced (words (fields_of rows) (values_in bytes (fields_of rows))))
+    → OnOk r (out ≡ old ++ spaced (words (fields_shown s) (values_of s)))
+fields_put (Ok x) s rows bytes old out h e b p = p ∙ ap (λ (ws : List (List ℕ)). old ++ spaced ws) (structure_words s rows bytes h e b)
+fields_put (Err x) s rows bytes old out h e b p = tt
+
+-- the rows of a known type
+pub known_shown : (s : Subspace) (rows : List Row) (kind : ℕ) → ((o : Other) → s ≡ Sub.Other o → ⊥) → kind ≡ kind_of s → fields_of rows ≡ known_fields kind
+    → fields_of rows ≡ fields_shown s
+known_shown (Sub.Generic t) rows kind other k e = e ∙ ap known_fields k
+known_shown (Sub.HwReduced1 t) rows kind other k e = e ∙ ap known_fields k
+known_shown (Sub.HwReduced2 t) rows kind other k e = e ∙ ap known_fields k
+known_shown (Sub.Initiator t) rows kind other k e = e ∙ ap known_fields k
+known_shown (Sub.Responder t) rows kind other k e = e ∙ ap known_fields k
+known_shown (Sub.HwRegister t) rows kind other k e = e ∙ ap known_fields k
+known_shown (Sub.Other o) rows kind other k e = absurd (other o refl)
 
 structure_joins : (place kind : ℕ) (ws : List (List ℕ))
     → spelled (Words (codes "subspace ") ∷ Decimal place ∷ Words (codes " type ") ∷ Decimal kind ∷ []) ++ spaced ws
@@ -95,19 +117,16 @@ structure_joins place kind ws =
     let middle : List ℕ → List ℕ = λ v. codes " type " ++ v in
     ap start (append_assoc (decimal place) (middle (decimal kind ++ [])) (spaced ws) ∙ ap (λ (v : List ℕ). decimal place ++ middle v) (ap (λ (v : List ℕ). v ++ spaced ws) (append-nil (decimal kind)) ∙ sym (join_first (decimal kind) ws)))
 
-pub structure_put : {E : Type 0} {T : Type 0} (r : Result T E) (place : ℕ) (s : Subspace) (rows : List Row) (kind : ℕ) (bytes old a b c : List ℕ)
-    → IsSubspace s → kind ≡ kind_of s → fields_of rows ≡ fields_of_kind kind → bytes ≡ subspace_bytes s
+pub structure_put : {E : Type 0} {T : Type 0} (r : Result T E) (place : ℕ) (s : Subspace) (kind : ℕ) (old a b c : List ℕ) → kind ≡ kind_of s
     → a ≡ old ++ spelled (Words (codes "subspace ") ∷ Decimal place ∷ Words (codes " type ") ∷ Decimal kind ∷ [])
-    → b ≡ a ++ spaced (words (fields_of rows) (values_in bytes (fields_of rows)))
-    → OnOk r (c ≡ b ++ 10 ∷ []) → OnOk r (c ≡ old ++ line_text (show_line place s))
+    → b ≡ a ++ spaced (words (fields_shown s) (values_of s)) → OnOk r (c ≡ b ++ 10 ∷ []) → OnOk r (c ≡ old ++ line_text (show_line place s))
 unfolding show_line
-structure_put r place s rows kind bytes old a b c h k e is f g p =
+structure_put r place s kind old a b c k f g p =
     let start = spelled (Words (codes "subspace ") ∷ Decimal place ∷ Words (codes " type ") ∷ Decimal kind ∷ []) in
-    let ws = words (fields_of rows) (values_in bytes (fields_of rows)) in
-    let fs = fields_of_kind (kind_of s) in
-    let line : start ++ spaced ws ≡ joined (codes "subspace" ∷ decimal place ∷ codes "type" ∷ decimal (kind_of s) ∷ words fs (values_of s)) =
-    structure_joins place kind ws ∙ ap (λ (n : ℕ). joined (codes "subspace" ∷ decimal place ∷ codes "type" ∷ decimal n ∷ ws)) k ∙ ap (λ (v : List (List ℕ)). joined (codes "subspace" ∷ decimal place ∷ codes "type" ∷ decimal (kind_of s) ∷ v)) (structure_words s rows kind bytes h k e is) in
-    line_put r old a b c start (spaced ws) (joined (codes "subspace" ∷ decimal place ∷ codes "type" ∷ decimal (kind_of s) ∷ words fs (values_of s))) f g line p
+    let ws = words (fields_shown s) (values_of s) in
+    let line : start ++ spaced ws ≡ joined (codes "subspace" ∷ decimal place ∷ codes "type" ∷ decimal (kind_of s) ∷ ws) =
+    structure_joins place kind ws ∙ ap (λ (n : ℕ). joined (codes "subspace" ∷ decimal place ∷ codes "type" ∷ decimal n ∷ ws)) k in
+    line_put r old a b c start (spaced ws) (joined (codes "subspace" ∷ decimal place ∷ codes "type" ∷ decimal (kind_of s) ∷ ws)) f g line p
 
 -- ---- a header
 

@@ -1,5 +1,5 @@
 -- A text is that of a table or has a fault.
-use Rattle.std.proofs.Common.{◌≡◌, ◌≢◌, ◌⊎◌, inl, inr, ℕ, zero, suc, ◌+◌, ◌<◌, ◌≤◌, eqb, Bool, true, false, List, [], ◌∷◌, ◌++◌, length, get_or, slice_index, refl, sym, ap, ◌∙◌, subst, arith}
+use Rattle.std.proofs.Common.{◌≡◌, ◌≢◌, ◌⊎◌, inl, inr, ℕ, zero, suc, ◌+◌, ◌<◌, ◌≤◌, eqb, Bool, true, false, List, [], ◌∷◌, ◌++◌, length, get_or, slice_index, drop, refl, sym, ap, ◌∙◌, subst, arith}
 use Rattle.std.specs.Prelude.{Option, Some, None, Result, Ok, Err}
 use Rattle.std.proofs.lemmas.Bool.Decides.{nat_tests}
 use Rattle.pcc_bytes.specs.Bytes.{number_at}
@@ -10,6 +10,8 @@ use Rattle.pcct_table.specs.declared.build.BuildKind.{BuildKind}
 use Rattle.pcct_table.specs.declared.build.BuildKind.TheVariants as kind
 use Rattle.pcct_table.specs.declared.extended.Type34.{Type34}
 use Rattle.pcct_table.specs.declared.subspace.Subspace.{Subspace}
+use Rattle.pcct_table.specs.declared.other.Other.{Other}
+use Rattle.pcct_table.specs.declared.subspace.Subspace.TheVariants as Sub
 use Rattle.pcct_table.specs.declared.subspace.Subspace.TheVariants.{Generic, HwReduced1, HwReduced2, Initiator, Responder, HwRegister}
 use Rattle.pcct_table.specs.declared.table.Table.{Table}
 use Rattle.pcct_table.specs.Rows.{size_of_kind}
@@ -21,6 +23,7 @@ use Rattle.pcct_table.specs.ShowReading.{Nothing, ReadsStructure, TellsStructure
 use Rattle.pcct_table.proofs.Building.{all_read, Building, building_many, building_more, building_start, building_unended, building_wrong}
 use Rattle.pcct_table.proofs.Built.{behind_header, header_at, header_right, is_first, is_found, is_only, is_wrong, table_cut, text_stops}
 use Rattle.pcct_table.proofs.ShowHeader.{header_is, header_read}
+use Rattle.pcct_table.proofs.Laws.{kept_is}
 use Rattle.pcct_table.proofs.ShowLine.{line_size, line_told}
 
 -- ---- structures
@@ -52,11 +55,8 @@ extended_at b = record {
   error_mask = number_at 8 156 b;
 }
 
-no_kind : (k size : ℕ) → size_of_kind (suc (suc (suc (suc (suc (suc k)))))) ≡ Some size → ⊥
-no_kind k size h = grind (arith, nat_tests)
-
 -- by the type
-of_kind : (b : List ℕ) (k : ℕ) → slice_index b 0 ≡ k → size_of_kind k ≡ Some (length b) → slice_index b 1 ≡ length b → (s : Subspace) × SubspaceBytes b s
+of_kind : (b : List ℕ) (k : ℕ) → slice_index b 0 ≡ k → size_of_kind k (length b) ≡ Some (length b) → slice_index b 1 ≡ length b → (s : Subspace) × SubspaceBytes b s
 of_kind b zero e h t = (
   Generic (record {
     reserved = bytes_at 6 2 b;
@@ -69,7 +69,7 @@ of_kind b zero e h t = (
     rate = number_at 4 56 b;
     turnaround = number_at 2 60 b;
   }),
-  record { size = h; kind = e; told = t; values = refl },
+  record { unknown = tt; size = h; kind = e; told = t; values = refl },
 )
 of_kind b (suc zero) e h t = (
   HwReduced1 (record {
@@ -85,7 +85,7 @@ of_kind b (suc zero) e h t = (
     rate = number_at 4 56 b;
     turnaround = number_at 2 60 b;
   }),
-  record { size = h; kind = e; told = t; values = refl },
+  record { unknown = tt; size = h; kind = e; told = t; values = refl },
 )
 of_kind b (suc (suc zero)) e h t = (
   HwReduced2 (record {
@@ -104,10 +104,10 @@ of_kind b (suc (suc zero)) e h t = (
     ack_preserve = number_at 8 74 b;
     ack_write = number_at 8 82 b;
   }),
-  record { size = h; kind = e; told = t; values = refl },
+  record { unknown = tt; size = h; kind = e; told = t; values = refl },
 )
-of_kind b (suc (suc (suc zero))) e h t = (Initiator (extended_at b), record { size = h; kind = e; told = t; values = refl })
-of_kind b (suc (suc (suc (suc zero)))) e h t = (Responder (extended_at b), record { size = h; kind = e; told = t; values = refl })
+of_kind b (suc (suc (suc zero))) e h t = (Initiator (extended_at b), record { unknown = tt; size = h; kind = e; told = t; values = refl })
+of_kind b (suc (suc (suc (suc zero)))) e h t = (Responder (extended_at b), record { unknown = tt; size = h; kind = e; told = t; values = refl })
 of_kind b (suc (suc (suc (suc (suc zero))))) e h t = (
   HwRegister (record {
     version = number_at 2 2 b;
@@ -123,12 +123,14 @@ of_kind b (suc (suc (suc (suc (suc zero))))) e h t = (
     latency = number_at 4 88 b;
     turnaround = number_at 4 92 b;
   }),
-  record { size = h; kind = e; told = t; values = refl },
+  record { unknown = tt; size = h; kind = e; told = t; values = refl },
 )
-of_kind b (suc (suc (suc (suc (suc (suc k)))))) e h t = absurd (no_kind k (length b) h)
+of_kind b (suc (suc (suc (suc (suc (suc k)))))) e h t =
+    let o : Other = record { kind = suc (suc (suc (suc (suc (suc k))))); bytes = drop 2 b } in
+    (Sub.Other o, kept_is b o (omega arith) h e t refl)
 
--- bytes of a known type, as many as it has, spell a structure
-pub some_structure : (b : List ℕ) → size_of_kind (slice_index b 0) ≡ Some (length b) → slice_index b 1 ≡ length b → (s : Subspace) × SubspaceBytes b s
+-- bytes of a type, as many as it has, spell a structure
+pub some_structure : (b : List ℕ) → size_of_kind (slice_index b 0) (length b) ≡ Some (length b) → slice_index b 1 ≡ length b → (s : Subspace) × SubspaceBytes b s
 some_structure b h t = of_kind b (slice_index b 0) refl h t
 
 -- ---- the lines behind a header's

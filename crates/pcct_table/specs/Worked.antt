@@ -3,7 +3,7 @@
 use Rattle.std.specs.Prelude.{[], ◌∷◌}
 use Rattle.pcct_table.specs.declared.extended.Type34.{Type34}
 use Rattle.pcct_table.specs.declared.subspace.Subspace.{Subspace}
-use Rattle.pcct_table.specs.declared.subspace.Subspace.TheVariants.{Generic, HwReduced1, HwReduced2, Initiator, Responder, HwRegister}
+use Rattle.pcct_table.specs.declared.subspace.Subspace.TheVariants.{Generic, HwReduced1, HwReduced2, Initiator, Responder, HwRegister, Other}
 
 abbrev pub generic : Subspace
 generic =
@@ -102,3 +102,9 @@ hw_register =
       latency = 0x5c5b5a59;
       turnaround = 0x605f5e5d;
     })
+
+abbrev pub later : Subspace
+later = Other (record { kind = 6; bytes = 3 ∷ 4 ∷ 5 ∷ [] })
+
+abbrev pub last : Subspace
+last = Other (record { kind = 255; bytes = [] })

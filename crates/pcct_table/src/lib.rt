@@ -9,6 +9,7 @@ mod header;
 mod hw_reduced;
 mod hw_register;
 mod line;
+mod other;
 pub mod pieces;
 pub mod places;
 mod rows;
@@ -24,10 +25,11 @@ pub use extended::Type34;
 pub use generic::Type0;
 pub use hw_reduced::{Type1, Type2};
 pub use hw_register::Type5;
+pub use other::Other;
 pub use rows::{Kind, Row, bytes_row, rows_of_kind};
 pub use show::show_lines;
 pub use subspace::{
-    Other, Subspace, one_spelling, one_subspace, put_subspace, size_of_kind, subspace_from,
+    Subspace, one_spelling, one_subspace, put_subspace, size_of_kind, subspace_from,
 };
 pub use subspaces::{MAX_SUBSPACES, Subspaces, limits_are};
 pub use table::Table;

@@ -19,17 +19,10 @@ use crate::extended::Type34;
 use crate::generic::Type0;
 use crate::hw_reduced::{Type1, Type2};
 use crate::hw_register::Type5;
-use crate::pieces::put_all;
+use crate::other::Other;
 use pcc_gas::Gas;
-use pcc_io::{Bytes, NoMemory};
+use pcc_io::NoMemory;
 use std::alloc::Global;
-
-/// A structure of a type that this release of the standard doesn't have, 6 to 255: all its bytes after the type and the size, at most 253.
-#[derive(Debug, Drop)]
-pub struct Other {
-    pub kind: u8,
-    pub bytes: Bytes,
-}
 
 #[derive(Debug, Drop)]
 pub enum Subspace {
@@ -165,26 +158,25 @@ pub fn size_of_kind(kind: u8, found: u8) -> Option<u8>
 }
 
 /// The structure that the bytes spell.
+#[tactic(auto, using(crate::proofs::Laws::kept_is))]
 pub fn subspace_from(alloc: Global, bytes: &[u8]) -> Result<Subspace, NoMemory>
     requires size { size_of_kind (slice_index bytes.now 0) (length bytes.now) ≡ Some (length bytes.now) }
     requires told { slice_index bytes.now 1 ≡ length bytes.now }
     ensures { IfOk result (SubspaceBytes bytes.now) }
 {
-    Ok(match bytes[0] {
-        0 => Subspace::Generic(Type0::from_bytes(bytes)),
-        1 => Subspace::HwReduced1(Type1::from_bytes(bytes)),
-        2 => Subspace::HwReduced2(Type2::from_bytes(bytes)),
-        3 => Subspace::Initiator(Type34::from_bytes(bytes)),
-        4 => Subspace::Responder(Type34::from_bytes(bytes)),
-        5 => Subspace::HwRegister(Type5::from_bytes(bytes)),
-        kind => Subspace::Other(Other {
-            kind,
-            bytes: Bytes::from_vec(Vec::from_slice(alloc, &bytes[2..])?),
-        }),
-    })
+    match bytes[0] {
+        0 => Ok(Subspace::Generic(Type0::from_bytes(bytes))),
+        1 => Ok(Subspace::HwReduced1(Type1::from_bytes(bytes))),
+        2 => Ok(Subspace::HwReduced2(Type2::from_bytes(bytes))),
+        3 => Ok(Subspace::Initiator(Type34::from_bytes(bytes))),
+        4 => Ok(Subspace::Responder(Type34::from_bytes(bytes))),
+        5 => Ok(Subspace::HwRegister(Type5::from_bytes(bytes))),
+        _ => Ok(Subspace::Other(Other::from_bytes(alloc, bytes)?)),
+    }
 }
 
 /// Puts the bytes that spell the structure at the end. If memory runs out some of them may have been put.
+#[tactic(auto, using(crate::proofs::Laws::kept_few))]
 pub fn put_subspace(out: &mut Vec<u8>, subspace: &Subspace) -> Result<(), NoMemory>
     requires { IsSubspace subspace.now }
     ensures { OnOk result (out.new.items ≡ out.old.items ++ subspace_bytes subspace.now) }
@@ -196,11 +188,7 @@ pub fn put_subspace(out: &mut Vec<u8>, subspace: &Subspace) -> Result<(), NoMemo
         Subspace::Initiator(t) => t.put(3, out),
         Subspace::Responder(t) => t.put(4, out),
         Subspace::HwRegister(t) => t.put(out),
-        Subspace::Other(other) => {
-            let bytes = other.bytes.as_slice();
-            let size = 2 + bytes.len() as u8;
-            put_all(out, &[&[other.kind, size], bytes])
-        }
+        Subspace::Other(other) => other.put(out),
     }
 }
 

@@ -2,7 +2,7 @@
 //! one.
 ghost use Rattle.std.specs.Prelude.{◌≡◌};
 ghost use Rattle.pcct_table.specs.Subspaces.{SubspaceBytes};
-ghost use Rattle.pcct_table.specs.Worked.{generic, hw_reduced1, hw_reduced2, hw_register, initiator, responder};
+ghost use Rattle.pcct_table.specs.Worked.{generic, hw_reduced1, hw_reduced2, hw_register, initiator, last, later, responder};
 
 /// The bytes of a structure of type 0.
 const TYPE_0: [u8; 62] = [
@@ -58,6 +58,12 @@ const TYPE_5: [u8; 96] = [
     75, 76, 77, 78, 79, 80, 81, 82, 83, 84, 85, 86, 87, 88, 89, 90, 91, 92, 93, 94, 95, 96,
 ];
 
+/// The bytes of a structure of type 6.
+const TYPE_6: [u8; 5] = [6, 5, 3, 4, 5];
+
+/// The bytes of a structure of type 255 that has none after the first two.
+const TYPE_255: [u8; 2] = [255, 2];
+
 /// What they say. It does nothing.
 pub fn worked_structures()
     ensures generic { SubspaceBytes TYPE_0 generic }
@@ -66,4 +72,6 @@ pub fn worked_structures()
     ensures initiator { SubspaceBytes TYPE_3 initiator }
     ensures responder { SubspaceBytes TYPE_4 responder }
     ensures hw_register { SubspaceBytes TYPE_5 hw_register }
+    ensures later { SubspaceBytes TYPE_6 later }
+    ensures last { SubspaceBytes TYPE_255 last }
 {}
