@@ -7,7 +7,7 @@ use Rattle.std.proofs.lemmas.List.{take_at, length-append}
 use Rattle.pcct_table.specs.declared.table.Table.{Table}
 use Rattle.pcct_table.specs.Rows.{size_of_kind}
 use Rattle.pcct_codec.specs.declared.fault.TableFault.{TableFault}
-use Rattle.pcct_codec.specs.declared.fault.TableFault.TheVariants.{Short, Signature, LengthOutside, Revision, TooMany, Overrun, SubspaceType, SubspaceLength, Checksum, ReadFault, NoMemory}
+use Rattle.pcct_codec.specs.declared.fault.TableFault.TheVariants.{Short, Signature, LengthOutside, Revision, TooMany, Overrun, SubspaceLength, Checksum, ReadFault, NoMemory}
 use Rattle.pcct_codec.specs.Tables.{TableBytes}
 use Rattle.pcct_codec.specs.Faults.{Decision, Undecided, Right, Faulty, FaultIs, ReaderFaultIs, IsExcused, IsGone, and_then, behind_header, behind_size, decision, sized, structure_size, structures_decision, sum_decision, table_decision, told_length}
 use Rattle.pcct_codec.proofs.Spelled.{structures_right}
@@ -66,7 +66,6 @@ faulty_first d next (LengthOutside a) h = ap (λ (e : Decision). and_then e next
 faulty_first d next (Revision a) h = ap (λ (e : Decision). and_then e next) h
 faulty_first d next (TooMany a) h = ap (λ (e : Decision). and_then e next) h
 faulty_first d next (Overrun a) h = ap (λ (e : Decision). and_then e next) h
-faulty_first d next (SubspaceType a k) h = ap (λ (e : Decision). and_then e next) h
 faulty_first d next (SubspaceLength a k s) h = ap (λ (e : Decision). and_then e next) h
 faulty_first d next (Checksum a) h = ap (λ (e : Decision). and_then e next) h
 faulty_first d next ReadFault h = ap (λ (e : Decision). and_then e next) h
@@ -82,7 +81,6 @@ decided_fault b f h = faulty_first (structures_decision 256 48 (drop 48 b)) (sum
 abbrev pub IsLate : TableFault → Type 0
 IsLate (TooMany at) = Unit {0}
 IsLate (Overrun at) = Unit {0}
-IsLate (SubspaceType at kind) = Unit {0}
 IsLate (SubspaceLength at kind found) = Unit {0}
 IsLate (Checksum sum) = Unit {0}
 IsLate fault = ⊥
@@ -94,7 +92,7 @@ faulty : (f g : TableFault) → Faulty f ≡ Faulty g → f ≡ g
 faulty f g e = cc
 
 late_sized : (at kind found len : ℕ) (o : Option ℕ) (f : TableFault) → sized at kind found len o ≡ Err f → IsLate f
-late_sized at kind found len None f h = late (SubspaceType at kind) f tt cc
+late_sized at kind found len None f h = late (SubspaceLength at kind found) f tt cc
 late_sized at kind found len (Some n) f h = late_tests (eqb found n) (ltb len n) h
   where
     late_tests : (p q : Bool) → cond p (cond q (Err (Overrun at)) (Ok n)) (Err (SubspaceLength at kind found)) ≡ Err f → IsLate f
@@ -106,9 +104,9 @@ late_size : (at : ℕ) (rest : List ℕ) (f : TableFault) → structure_size at 
 unfolding structure_size
 late_size at rest f h = late_test (eqb (length rest) 1) h
   where
-    late_test : (p : Bool) → cond p (Err (Overrun at)) (sized at (slice_index rest 0) (slice_index rest 1) (length rest) (size_of_kind (slice_index rest 0))) ≡ Err f → IsLate f
+    late_test : (p : Bool) → cond p (Err (Overrun at)) (sized at (slice_index rest 0) (slice_index rest 1) (length rest) (size_of_kind (slice_index rest 0) (slice_index rest 1))) ≡ Err f → IsLate f
     late_test true h = late (Overrun at) f tt cc
-    late_test false h = late_sized at (slice_index rest 0) (slice_index rest 1) (length rest) (size_of_kind (slice_index rest 0)) f h
+    late_test false h = late_sized at (slice_index rest 0) (slice_index rest 1) (length rest) (size_of_kind (slice_index rest 0) (slice_index rest 1)) f h
 
 late_behind : (r : Result ℕ TableFault) (next : ℕ → Decision) (f : TableFault) → ((g : TableFault) → r ≡ Err g → IsLate g)
     → ((size : ℕ) → next size ≡ Faulty f → IsLate f) → behind_size r next ≡ Faulty f → IsLate f
@@ -151,7 +149,6 @@ table_gone b (LengthOutside a) left e h = absurd (late_table b (LengthOutside a)
 table_gone b (Revision a) left e h = absurd (late_table b (Revision a) h)
 table_gone b (TooMany a) left e h = e
 table_gone b (Overrun a) left e h = e
-table_gone b (SubspaceType a k) left e h = e
 table_gone b (SubspaceLength a k s) left e h = e
 table_gone b (Checksum a) left e h = e
 table_gone b ReadFault left e h = absurd (late_table b ReadFault h)
@@ -168,7 +165,6 @@ excused_is (LengthOutside a) d h = absurd h
 excused_is (Revision a) d h = absurd h
 excused_is (TooMany a) d h = absurd h
 excused_is (Overrun a) d h = absurd h
-excused_is (SubspaceType a k) d h = absurd h
 excused_is (SubspaceLength a k s) d h = absurd h
 excused_is (Checksum a) d h = absurd h
 
@@ -181,7 +177,6 @@ excused_gone (LengthOutside a) b left h = absurd h
 excused_gone (Revision a) b left h = absurd h
 excused_gone (TooMany a) b left h = absurd h
 excused_gone (Overrun a) b left h = absurd h
-excused_gone (SubspaceType a k) b left h = absurd h
 excused_gone (SubspaceLength a k s) b left h = absurd h
 excused_gone (Checksum a) b left h = absurd h
 
@@ -194,7 +189,6 @@ reader_fault (LengthOutside a) d h = h
 reader_fault (Revision a) d h = h
 reader_fault (TooMany a) d h = h
 reader_fault (Overrun a) d h = h
-reader_fault (SubspaceType a k) d h = h
 reader_fault (SubspaceLength a k s) d h = h
 reader_fault (Checksum a) d h = h
 
@@ -208,6 +202,5 @@ right_excused (LengthOutside a) h = absurd cc
 right_excused (Revision a) h = absurd cc
 right_excused (TooMany a) h = absurd cc
 right_excused (Overrun a) h = absurd cc
-right_excused (SubspaceType a k) h = absurd cc
 right_excused (SubspaceLength a k s) h = absurd cc
 right_excused (Checksum a) h = absurd cc

@@ -4,7 +4,7 @@ use Rattle.std.proofs.lemmas.Bool.{le-ltb, ltb-false}
 use Rattle.std.proofs.lemmas.List.{length-append, length-take-le, take-append-drop, take-append-le, take_at}
 use Rattle.pcct_table.specs.declared.table.Table.{Table}
 use Rattle.pcct_codec.specs.declared.fault.TableFault.{TableFault}
-use Rattle.pcct_codec.specs.declared.fault.TableFault.TheVariants.{Short, Signature, LengthOutside, Revision, TooMany, Overrun, SubspaceType, SubspaceLength, Checksum, ReadFault, NoMemory}
+use Rattle.pcct_codec.specs.declared.fault.TableFault.TheVariants.{Short, Signature, LengthOutside, Revision, TooMany, Overrun, SubspaceLength, Checksum, ReadFault, NoMemory}
 use Rattle.pcct_codec.specs.Tables.{TableBytes}
 use Rattle.pcct_codec.specs.Faults.{Decision, Undecided, Right, Faulty, FaultIs, behind_header, decision, table_decision, told_length, wanting}
 use Rattle.pcct_codec.proofs.Walking.{fault_is}
@@ -53,7 +53,6 @@ right_only (LengthOutside a) h = absurd cc
 right_only (Revision a) h = absurd cc
 right_only (TooMany a) h = absurd cc
 right_only (Overrun a) h = absurd cc
-right_only (SubspaceType a k) h = absurd cc
 right_only (SubspaceLength a k s) h = absurd cc
 right_only (Checksum a) h = absurd cc
 

@@ -26,7 +26,7 @@ pub record Told (b : List ℕ) (n : ℕ) : Type 0 where
   pub signature : bytes_in header_fields (codes "signature") b ≡ codes "PCCT"
   pub len : length_in b ≡ n
   pub least : 48 ≤ n
-  pub most : n ≤ 42032
+  pub most : n ≤ 65328
   pub revision : (number_in header_fields (codes "revision") b ≡ 1) ⊎ (number_in header_fields (codes "revision") b ≡ 2)
 
 -- the checks by what their tests say
@@ -54,9 +54,9 @@ unfolding told_length
 told_ok b n h =
     let len = length_in b in
     let revision = revision_in b in
-    let p = passed (bytes_eq (codes "PCCT") (signature_in b)) (ltb len 48) (ltb 42032 len) (eqb revision 1) (eqb revision 2) len revision n h in
+    let p = passed (bytes_eq (codes "PCCT") (signature_in b)) (ltb len 48) (ltb 65328 len) (eqb revision 1) (eqb revision 2) len revision n h in
     let least : 48 ≤ len = ltb-false _ _ p.not_low in
-    let most : len ≤ 42032 = ltb-false _ _ p.not_high in
+    let most : len ≤ 65328 = ltb-false _ _ p.not_high in
     let same : len ≡ n = p.same in
     record {
       signature = sym ((bytes_eq-Decides (codes "PCCT") (signature_in b)).0 p.is_signed);
@@ -72,10 +72,10 @@ ok_told b n t =
     let len = length_in b in
     let same : len ≡ n = t.len in
     let least : 48 ≤ n = t.least in
-    let most : n ≤ 42032 = t.most in
+    let most : n ≤ 65328 = t.most in
     let signed : bytes_eq (codes "PCCT") (signature_in b) ≡ true = (bytes_eq-Decides (codes "PCCT") (signature_in b)).1 (sym t.signature) in
     let low : ltb len 48 ≡ false = le-ltb _ _ (omega arith) in
-    let high : ltb 42032 len ≡ false = le-ltb _ _ (omega arith) in
+    let high : ltb 65328 len ≡ false = le-ltb _ _ (omega arith) in
     elim t.revision [
       | inl e ↦ rw (signed, low, high, e) (ap Ok same)
       | inr e ↦ rw (signed, low, high, e) (ap Ok same)
@@ -106,7 +106,7 @@ module _ (P : TableFault → Type 0) (signature : P Signature) (len : (n : ℕ) 
   pub header_faults : (b : List ℕ) (f : TableFault) → told_length b ≡ Err f → P f
   unfolding told_length
   header_faults b f h =
-      by_cases (bytes_eq (codes "PCCT") (signature_in b)) (ltb (length_in b) 48) (ltb 42032 (length_in b)) (eqb (revision_in b) 1) (eqb (revision_in b) 2) (length_in b) (revision_in b) f h
+      by_cases (bytes_eq (codes "PCCT") (signature_in b)) (ltb (length_in b) 48) (ltb 65328 (length_in b)) (eqb (revision_in b) 1) (eqb (revision_in b) 2) (length_in b) (revision_in b) f h
 
 pub header_gone : (b : List ℕ) (f : TableFault) (left : Option (List ℕ)) → told_length b ≡ Err f → length b ≡ 48 → IsGone f b left
 header_gone b f left h len = header_faults (λ g. IsGone g b left) len (λ n. len) (λ n. len) b f h

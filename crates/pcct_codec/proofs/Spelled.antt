@@ -18,16 +18,16 @@ use Rattle.pcct_codec.proofs.Walking.{right_next, right_none, size_least}
 front : (b rest : List ℕ) (i : ℕ) → i < length b → slice_index (b ++ rest) i ≡ slice_index b i
 front b rest i lt = get_or_append_left b rest 0 i lt
 
-least : (b : List ℕ) (s : Subspace) → SubspaceBytes b s → 62 ≤ length b
+least : (b : List ℕ) (s : Subspace) → SubspaceBytes b s → 2 ≤ length b
 least b s h = size_least (kind_of s) (length b) h.size
 
-not_one : (n : ℕ) → 62 ≤ n → eqb n 1 ≡ false
+not_one : (n : ℕ) → 2 ≤ n → eqb n 1 ≡ false
 not_one n h = grind (arith, nat_tests)
 
 size_again : (at : ℕ) (b rest : List ℕ) (s : Subspace) → SubspaceBytes b s → structure_size at (b ++ rest) ≡ Ok (length b)
 unfolding structure_size
 size_again at b rest s h =
-    let long : 62 ≤ length b = least b s h in
+    let long : 2 ≤ length b = least b s h in
     let len : length (b ++ rest) ≡ length b + length rest = length-append b rest in
     let n : eqb (length (b ++ rest)) 1 ≡ false = not_one (length (b ++ rest)) (omega arith) in
     let b0 : slice_index (b ++ rest) 0 ≡ kind_of s = front b rest 0 (omega arith) ∙ h.kind in
@@ -41,7 +41,7 @@ structures_right zero at bytes (s ∷ ss) h le = absurd (omega arith)
 structures_right (suc n) at bytes (s ∷ ss) h le =
     let b = h.0 in
     let rest = h.1 in
-    let long : 62 ≤ length b = least b s h.3 in
+    let long : 2 ≤ length b = least b s h.3 in
     let len : 0 < length (b ++ rest) = omega (arith, length-append b rest) in
     ap (structures_decision (suc n) at) h.2 ∙ right_next n at (b ++ rest) (length b) len (size_again at b rest s h.3)
     ∙ ap (structures_decision n (at + length b)) (drop_at b rest (length b) refl) ∙ structures_right n (at + length b) rest ss h.4 (omega arith)
@@ -49,11 +49,9 @@ structures_right (suc n) at bytes (s ∷ ss) h le =
 -- the first structures of the same bytes
 one_first : (a b : List ℕ) (s t : Subspace) (r q : List ℕ) → a ++ r ≡ b ++ q → SubspaceBytes a s → SubspaceBytes b t → length a ≡ length b
 one_first a b s t r q whole h k =
-    let la : 62 ≤ length a = least a s h in
-    let lb : 62 ≤ length b = least b t k in
-    let kinds : kind_of s ≡ kind_of t = sym h.kind ∙ sym (front a r 0 (omega arith)) ∙ ap (λ (v : List ℕ). slice_index v 0) whole ∙ front b q 0 (omega arith) ∙ k.kind in
-    let sizes : Some (length a) ≡ Some (length b) = sym h.size ∙ ap size_of_kind kinds ∙ k.size in
-    cc
+    let la : 2 ≤ length a = least a s h in
+    let lb : 2 ≤ length b = least b t k in
+    sym h.told ∙ sym (front a r 1 (omega arith)) ∙ ap (λ (v : List ℕ). slice_index v 1) whole ∙ front b q 1 (omega arith) ∙ k.told
 
 pub structures_one : (xs : List ℕ) (ss ts : List Subspace) → Structures xs ss → Structures xs ts → ss ≡ ts
 structures_one xs [] [] h k = refl

@@ -1,9 +1,10 @@
 -- The tables that have a text are those that some bytes spell.
-use Rattle.std.proofs.Common.{◌≡◌, ◌⊎◌, ℕ, ◌+◌, ◌*◌, ◌<◌, ◌≤◌, List, [], ◌∷◌, ◌++◌, length, take, drop, refl, sym, ap, ◌∙◌, subst, arith, lit<}
+use Rattle.std.proofs.Common.{◌≡◌, ◌⊎◌, ℕ, ◌+◌, ◌*◌, ◌<◌, ◌≤◌, All, List, [], ◌∷◌, ◌++◌, length, take, drop, refl, sym, ap, ◌∙◌, subst, arith, lit<}
 use Rattle.std.specs.Prelude.{◌%◌, codes, sum, Some}
 use Rattle.std.specs.List.{AllByRecursion, flat_map}
 use Rattle.std.proofs.lemmas.Bool.Decides.{nat_tests}
 use Rattle.std.proofs.lemmas.List.{length-append, take_at, drop_at}
+use Rattle.std.proofs.lemmas.List.Elements.{All-from_recursion}
 use Rattle.pcc_bytes.specs.Bytes.{IsBytes}
 use Rattle.pcc_bytes.proofs.Bytes.{IsBytes-append, IsBytes-cons, IsBytes-drop, IsBytes-nil, IsBytes-take}
 use Rattle.pcct_table.specs.declared.subspace.Subspace.{Subspace}
@@ -14,14 +15,15 @@ use Rattle.pcct_table.specs.Subspaces.{IsSubspace, kind_of, subspace_bytes}
 use Rattle.pcct_table.specs.ShowText.{HasText}
 use Rattle.pcct_table.proofs.Laws.{own_bytes, own_fit}
 use Rattle.pcct_table.proofs.ShowHeader.{later_fit, revision_small}
+use Rattle.pcct_table.proofs.ShowLine.{size_long}
 use Rattle.pcct_table.proofs.ShowWords.{AllFit, fields_fit, fields_len, values_back}
 use Rattle.pcct_codec.specs.Tables.{IsTableValue, Structures, TableBytes, check_in, header_values}
 use Rattle.pcct_codec.proofs.Writing.{header_bytes, some_check}
 
 -- ---- structures
 
-size_most : (kind size : ℕ) → size_of_kind kind ≡ Some size → size ≤ 164
-size_most kind size h = grind (arith, nat_tests)
+size_most : (kind size : ℕ) → size_of_kind kind size ≡ Some size → size ≤ 255
+size_most kind size h = let most : size < 256 = (size_long kind size h).most in omega arith
 
 -- structures that some bytes spell, one behind the other
 structures_own : (ss : List Subspace) → AllByRecursion IsSubspace ss → Structures (flat_map subspace_bytes ss) ss
@@ -32,10 +34,10 @@ structures_fit : (ss : List Subspace) → AllByRecursion IsSubspace ss → IsByt
 structures_fit [] h = IsBytes-nil
 structures_fit (s ∷ ss) h = IsBytes-append (subspace_bytes s) (flat_map subspace_bytes ss) (own_fit s h.0) (structures_fit ss h.1)
 
-structures_most : (ss : List Subspace) → AllByRecursion IsSubspace ss → length (flat_map subspace_bytes ss) ≤ 164 * length ss
+structures_most : (ss : List Subspace) → AllByRecursion IsSubspace ss → length (flat_map subspace_bytes ss) ≤ 255 * length ss
 structures_most [] h = omega arith
 structures_most (s ∷ ss) h =
-    let one : length (subspace_bytes s) ≤ 164 = size_most (kind_of s) _ ((own_bytes s h.0).size) in
+    let one : length (subspace_bytes s) ≤ 255 = size_most (kind_of s) _ ((own_bytes s h.0).size) in
     let more = structures_most ss h.1 in
     let both = length-append (subspace_bytes s) (flat_map subspace_bytes ss) in
     omega arith
@@ -63,7 +65,7 @@ header_fit t len check h short small =
 
 -- a header and structures spell a table, where they fit
 spelled : (t : Table) (len check : ℕ) (body : List ℕ) → AllFit header_fields (header_values (codes "PCCT") len check t) → len ≡ 48 + length body
-    → len ≤ 42032 → (t.revision ≡ 1) ⊎ (t.revision ≡ 2) → Structures body t.subspaces → length t.subspaces ≤ 256
+    → len ≤ 65328 → (t.revision ≡ 1) ⊎ (t.revision ≡ 2) → Structures body t.subspaces → length t.subspaces ≤ 256
     → sum (header_bytes len check t ++ body) % 256 ≡ 0 → TableBytes (header_bytes len check t ++ body) t
 spelled t len check body fit told most known structures few right =
     let vs = header_values (codes "PCCT") len check t in
@@ -90,7 +92,7 @@ has_spelling t h =
     let body = flat_map subspace_bytes t.subspaces in
     let len = 48 + length body in
     let few : length t.subspaces ≤ 256 = h.few in
-    let most : len ≤ 42032 = let m = structures_most t.subspaces h.spelled in omega arith in
+    let most : len ≤ 65328 = let m = structures_most t.subspaces h.spelled in omega arith in
     let check = some_check len t body in
     let fit = header_fit t len check.0 h (omega arith) check.1 in
     record {
@@ -109,3 +111,7 @@ has_text t h = record {
   spelled = structures_parts (drop 48 h.bytes) t.subspaces (IsBytes-drop 48 h.bytes h.fit) h.spell.structures;
   few = h.spell.few;
 }
+
+-- each structure of a table is spelled by some bytes
+pub each_spelled : (t : Table) → IsTableValue t → All IsSubspace t.subspaces
+each_spelled t h = All-from_recursion IsSubspace t.subspaces (has_text t h).spelled

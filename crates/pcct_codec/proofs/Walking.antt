@@ -7,8 +7,9 @@ use Rattle.std.proofs.lemmas.List.{append-nil, take-append-drop, drop-drop, drop
 use Rattle.pcct_table.specs.declared.subspace.Subspace.{Subspace}
 use Rattle.pcct_table.specs.Subspaces.{SubspaceBytes}
 use Rattle.pcct_table.specs.Rows.{size_of_kind}
+use Rattle.pcct_table.proofs.ShowLine.{size_long}
 use Rattle.pcct_codec.specs.declared.fault.TableFault.{TableFault}
-use Rattle.pcct_codec.specs.declared.fault.TableFault.TheVariants.{Short, Signature, LengthOutside, Revision, TooMany, Overrun, SubspaceType, SubspaceLength, Checksum, ReadFault, NoMemory}
+use Rattle.pcct_codec.specs.declared.fault.TableFault.TheVariants.{Short, Signature, LengthOutside, Revision, TooMany, Overrun, SubspaceLength, Checksum, ReadFault, NoMemory}
 use Rattle.pcct_codec.specs.Tables.{Structures}
 use Rattle.pcct_codec.specs.Faults.{Decision, Right, Faulty, FaultIs, behind_size, sized, structure_size, structures_decision}
 
@@ -20,7 +21,7 @@ structures_push xs b (t ∷ ts) s h k =
 
 -- what the checks say of the structure that stands first
 pub record Stands (rest : List ℕ) (size : ℕ) : Type 0 where
-  pub kind : size_of_kind (slice_index rest 0) ≡ Some size
+  pub kind : size_of_kind (slice_index rest 0) size ≡ Some size
   pub len : slice_index rest 1 ≡ size
   pub within : size ≤ length rest
 
@@ -37,26 +38,26 @@ guard : (b : Bool) (f : TableFault) (r : Result ℕ TableFault) (size : ℕ) →
 guard true f r size h = absurd cc
 guard false f r size h = h
 
-pub size_least : (kind size : ℕ) → size_of_kind kind ≡ Some size → 62 ≤ size
-size_least kind size h = grind (arith, nat_tests)
+pub size_least : (kind size : ℕ) → size_of_kind kind size ≡ Some size → 2 ≤ size
+size_least kind size h = (size_long kind size h).least
 
 pub stands : (at : ℕ) (rest : List ℕ) (size : ℕ) → structure_size at rest ≡ Ok size → Stands rest size
 unfolding structure_size
 stands at rest size h =
-    let p = guard (eqb (length rest) 1) (Overrun at) (sized at (slice_index rest 0) (slice_index rest 1) (length rest) (size_of_kind (slice_index rest 0))) size h in
-    let q = stands_sized at (slice_index rest 0) (slice_index rest 1) (length rest) (size_of_kind (slice_index rest 0)) size p in
-    record { kind = q.0; len = q.1; within = q.2 }
+    let p = guard (eqb (length rest) 1) (Overrun at) (sized at (slice_index rest 0) (slice_index rest 1) (length rest) (size_of_kind (slice_index rest 0) (slice_index rest 1))) size h in
+    let q = stands_sized at (slice_index rest 0) (slice_index rest 1) (length rest) (size_of_kind (slice_index rest 0) (slice_index rest 1)) size p in
+    record { kind = ap (size_of_kind (slice_index rest 0)) (sym q.1) ∙ q.0; len = q.1; within = q.2 }
 
 -- the structure's own bytes are shaped as its reader wants
 pub record Shaped (b : List ℕ) : Type 0 where
-  pub size : size_of_kind (slice_index b 0) ≡ Some (length b)
+  pub size : size_of_kind (slice_index b 0) (length b) ≡ Some (length b)
   pub told : slice_index b 1 ≡ length b
 
 pub shaped : (at : ℕ) (rest : List ℕ) (size : ℕ) → structure_size at rest ≡ Ok size → Shaped (take size rest)
 shaped at rest size h =
     let st = stands at rest size h in
     let within : size ≤ length rest = st.within in
-    let least : 62 ≤ size = size_least (slice_index rest 0) size st.kind in
+    let least : 2 ≤ size = size_least (slice_index rest 0) size st.kind in
     let n : length (take size rest) ≡ size = omega (arith, length-take size rest) in
     let b0 : slice_index (take size rest) 0 ≡ slice_index rest 0 = get_or-take size rest 0 0 (omega arith) in
     let b1 : slice_index (take size rest) 1 ≡ slice_index rest 1 = get_or-take size rest 1 0 (omega arith) in
@@ -125,7 +126,6 @@ fault_is (LengthOutside a) o h = h
 fault_is (Revision a) o h = h
 fault_is (TooMany a) o h = h
 fault_is (Overrun a) o h = h
-fault_is (SubspaceType a k) o h = h
 fault_is (SubspaceLength a k b) o h = h
 fault_is (Checksum a) o h = h
 fault_is ReadFault o h = h

@@ -132,10 +132,10 @@ right_again b t written h u =
     omega arith
 
 -- a table's bytes are few
-pub body_few : (b : List ℕ) (t : Table) (body : List ℕ) → IsBytes b → TableBytes b t → body ≡ flat_map subspace_bytes t.subspaces → 48 + length body ≤ 42032
+pub body_few : (b : List ℕ) (t : Table) (body : List ℕ) → IsBytes b → TableBytes b t → body ≡ flat_map subspace_bytes t.subspaces → 48 + length body ≤ 65328
 body_few b t body fits h spelled =
     let least : 48 ≤ length b = h.least in
-    let most : length b ≤ 42032 = h.most in
+    let most : length b ≤ 65328 = h.most in
     let e = ap length (body_spelled b t fits h ∙ sym spelled) in
     omega (arith, e, length-drop 48 b)
 

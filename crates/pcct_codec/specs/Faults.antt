@@ -7,7 +7,7 @@ use Rattle.pcct_table.specs.declared.table.Table.{Table}
 use Rattle.pcct_table.specs.Rows.{header_fields, header_size, number_in, bytes_in, size_of_kind}
 use Rattle.pcct_codec.specs.Tables.{length_in, most_bytes, most_structures}
 use Rattle.pcct_codec.specs.declared.fault.TableFault.{TableFault}
-use Rattle.pcct_codec.specs.declared.fault.TableFault.TheVariants.{Short, Signature, LengthOutside, Revision, TooMany, Overrun, SubspaceType}
+use Rattle.pcct_codec.specs.declared.fault.TableFault.TheVariants.{Short, Signature, LengthOutside, Revision, TooMany, Overrun}
 use Rattle.pcct_codec.specs.declared.fault.TableFault.TheVariants.{SubspaceLength, Checksum, ReadFault, NoMemory}
 
 pub data Decision : Type 0 where
@@ -28,17 +28,17 @@ told_length header =
 
 -- ---- the structures
 
--- the checks after that of the type
+-- the checks of the size that the type has, if it has one
 abbrev pub sized : ℕ → ℕ → ℕ → ℕ → Option ℕ → Result ℕ TableFault
-sized at kind found len None = Err (SubspaceType at kind)
+sized at kind found len None = Err (SubspaceLength at kind found)
 sized at kind found len (Some size) = if found == size then (if nat_lt len size then Err (Overrun at) else Ok size) else Err (SubspaceLength at kind found)
 
 -- The number of bytes of the structure at the front in what is left of a table at a place, or the first check that fails on it:
--- one byte alone is left, the type isn't known, the second byte isn't the type's size, it passes the table's end.
+-- one byte alone is left; the second byte isn't the type's size, or on an unknown type is below 2; it passes the table's end.
 unfoldable pub structure_size : ℕ → List ℕ → Result ℕ TableFault
 structure_size at rest =
     if length rest == 1 then Err (Overrun at)
-    else sized at (slice_index rest 0) (slice_index rest 1) (length rest) (size_of_kind (slice_index rest 0))
+    else sized at (slice_index rest 0) (slice_index rest 1) (length rest) (size_of_kind (slice_index rest 0) (slice_index rest 1))
 
 abbrev pub behind_size : Result ℕ TableFault → (ℕ → Decision) → Decision
 behind_size (Ok size) next = next size

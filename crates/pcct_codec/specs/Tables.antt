@@ -7,12 +7,12 @@ use Rattle.pcct_table.specs.Rows.{header_fields, header_size, number_in}
 use Rattle.pcct_table.specs.Values.{Value, Number, Bytes, values_in}
 use Rattle.pcct_table.specs.Subspaces.{SubspaceBytes}
 
--- a table has at most 256 structures (14.1), of 164 bytes at most
+-- a table has at most 256 structures (14.1), of 255 bytes at most
 abbrev pub most_structures : ℕ
 most_structures = 256
 
 abbrev pub most_bytes : ℕ
-most_bytes = 42032
+most_bytes = 65328
 
 -- the values of a header's fields, in their order: the signature, the number of all bytes, the checksum's byte, and what the table says
 abbrev pub header_values : List ℕ → ℕ → ℕ → Table → List Value

@@ -16,7 +16,7 @@ pub enum TableFault {
     Short { at: u32 },
     /// The first four bytes aren't `PCCT`.
     Signature,
-    /// The header states a length below 48 or above 42,032.
+    /// The header states a length below 48 or above 65,328.
     LengthOutside { len: u32 },
     /// The revision is neither 1 nor 2.
     Revision { found: u8 },
@@ -24,9 +24,7 @@ pub enum TableFault {
     TooMany { at: u32 },
     /// Of the structure that begins here one byte is left, or it passes the table's end.
     Overrun { at: u32 },
-    /// The structure that begins here is of an unknown type.
-    SubspaceType { at: u32, kind: u8 },
-    /// The structure that begins here states another size than its type's.
+    /// The structure that begins here states another size than its type's, or one below 2 where the type is unknown.
     SubspaceLength { at: u32, kind: u8, found: u8 },
     /// All bytes have this sum modulo 256, and it isn't 0.
     Checksum { sum: u8 },

@@ -16,8 +16,8 @@ use pcct_table::{Subspaces, Table};
 /// The bytes of a table's header (ACPI 6.5, 5.2.6 and 14.1).
 pub const HEADER_BYTES: usize = 48;
 
-/// The most bytes of a table: its header, and `MAX_SUBSPACES` structures of 164 bytes.
-pub const MAX_TABLE_BYTES: u32 = 42_032;
+/// The most bytes of a table: its header, and `MAX_SUBSPACES` structures of 255 bytes.
+pub const MAX_TABLE_BYTES: u32 = 65_328;
 
 /// The number of bytes that the header states, or the first of its checks that fails.
 #[tactic(auto, unfolding(crate::specs::Faults::told_length))]
@@ -89,7 +89,7 @@ pub(crate) fn put_header(
 /// The limits as numbers, so that none changes unseen. It does nothing.
 pub fn limits_are()
     ensures header { HEADER_BYTES ≡ 48 }
-    ensures table { MAX_TABLE_BYTES ≡ 42032 }
+    ensures table { MAX_TABLE_BYTES ≡ 65328 }
     ensures structures { most_structures ≡ 256 }
-    ensures all { most_bytes ≡ header_size + most_structures * 164 }
+    ensures all { most_bytes ≡ header_size + most_structures * 255 }
 {}

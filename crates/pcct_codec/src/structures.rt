@@ -1,7 +1,7 @@
 //! The structures after a table's header.
-ghost use Rattle.std.specs.Prelude.{◌≡◌, ◌++◌, ◌≤◌, ◌<◌, ◌^◌, length, drop, take, MatchResult, OnOk, Ok, Err};
+ghost use Rattle.std.specs.Prelude.{◌≡◌, ◌++◌, ◌≤◌, ◌<◌, ◌^◌, All, length, drop, MatchResult, OnOk};
 ghost use Rattle.std.specs.List.{flat_map};
-ghost use Rattle.pcct_table.specs.Subspaces.{SubspaceBytes, subspace_bytes};
+ghost use Rattle.pcct_table.specs.Subspaces.{IsSubspace, subspace_bytes};
 ghost use Rattle.pcct_codec.specs.Tables.{Structures};
 ghost use Rattle.pcct_codec.specs.Faults.{FaultIs, Right, structure_size, structures_decision};
 
@@ -22,8 +22,8 @@ fn structure_size(at: u32, rest: &[u8]) -> Result<usize, TableFault>
         return Err(TableFault::Overrun { at });
     }
     let found = rest[1];
-    let Some(size) = size_of_kind(kind) else {
-        return Err(TableFault::SubspaceType { at, kind });
+    let Some(size) = size_of_kind(kind, found) else {
+        return Err(TableFault::SubspaceLength { at, kind, found });
     };
     if found != size {
         return Err(TableFault::SubspaceLength { at, kind, found });
@@ -32,20 +32,6 @@ fn structure_size(at: u32, rest: &[u8]) -> Result<usize, TableFault>
         return Err(TableFault::Overrun { at });
     }
     Ok(usize::from(size))
-}
-
-/// The structure at the front, and its size.
-#[tactic(auto, using(crate::proofs::Walking::shaped, crate::proofs::Walking::stands))]
-fn structure_at(at: u32, rest: &[u8]) -> Result<(Subspace, usize), TableFault>
-    requires { 0 < length rest.now }
-    ensures { MatchResult result
-        (λ x. (structure_size at rest.now ≡ Ok x.1) × SubspaceBytes (take x.1 rest.now) x.0)
-        (λ f. structure_size at rest.now ≡ Err f) }
-{
-    match structure_size(at, rest) {
-        Err(fault) => Err(fault),
-        Ok(size) => Ok((subspace_from(&rest[..size]), size)),
-    }
 }
 
 #[tactic(auto, using(std::proofs::lemmas::List::take_rest))]
@@ -70,8 +56,9 @@ pub(crate) fn structures_from(alloc: Global, bytes: &[u8]) -> Result<Subspaces, 
         if subspaces.len() >= MAX_SUBSPACES {
             return Err(TableFault::TooMany { at: at as u32 });
         }
-        let (subspace, size) = structure_at(at as u32, behind(bytes, at))?;
-        subspaces.push(subspace)?;
+        let rest = behind(bytes, at);
+        let size = structure_size(at as u32, rest)?;
+        subspaces.push(subspace_from(alloc, &rest[..size])?)?;
         at += size;
     }
     Ok(subspaces)
@@ -79,10 +66,11 @@ pub(crate) fn structures_from(alloc: Global, bytes: &[u8]) -> Result<Subspaces, 
 
 /// Puts the structures' bytes at the end. If memory runs out some of them may have been put.
 pub(crate) fn put_structures(out: &mut Vec<u8>, subspaces: &[Subspace]) -> Result<(), NoMemory>
+    requires { All IsSubspace subspaces.now }
     ensures { OnOk result (out.new.items ≡ out.old.items ++ flat_map subspace_bytes subspaces.now) }
 {
     for subspace in subspaces {
-        put_subspace(out, *subspace)?;
+        put_subspace(out, subspace)?;
     }
     Ok(())
 }

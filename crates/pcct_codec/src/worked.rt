@@ -11,7 +11,6 @@ ghost use Rattle.pcct_codec.specs.declared.fault.TableFault.TheVariants.{
   Short,
   Signature,
   SubspaceLength,
-  SubspaceType,
   TooMany,
 };
 
@@ -32,6 +31,7 @@ pub fn worked_tables()
     ensures none { TableBytes NO_SUBSPACES no_subspaces }
     ensures one { TableBytes ONE_GENERIC_SUBSPACE one_generic }
     ensures right { decision false ONE_GENERIC_SUBSPACE ≡ Right }
+    ensures unknown { decision false (take 9 ONE_GENERIC_SUBSPACE ++ 0x68 ∷ take 38 (drop 10 ONE_GENERIC_SUBSPACE) ++ 6 ∷ drop 49 ONE_GENERIC_SUBSPACE) ≡ Right }
     ensures wanting { decision false (take 100 ONE_GENERIC_SUBSPACE) ≡ Undecided }
 {}
 
@@ -40,12 +40,13 @@ pub fn worked_faults()
     ensures short { decision true (take 100 ONE_GENERIC_SUBSPACE) ≡ Faulty (Short 100) }
     ensures signature { decision true (take 3 NO_SUBSPACES ++ 0x55 ∷ drop 4 NO_SUBSPACES) ≡ Faulty Signature }
     ensures length_below { decision true (take 4 NO_SUBSPACES ++ 47 ∷ drop 5 NO_SUBSPACES) ≡ Faulty (LengthOutside 47) }
-    ensures length_above { decision true (take 4 NO_SUBSPACES ++ 0x31 ∷ 0xa4 ∷ drop 6 NO_SUBSPACES) ≡ Faulty (LengthOutside 42033) }
-    ensures length_most { decision true (take 4 NO_SUBSPACES ++ 0x30 ∷ 0xa4 ∷ drop 6 NO_SUBSPACES) ≡ Faulty (Short 48) }
+    ensures length_above { decision true (take 4 NO_SUBSPACES ++ 0x31 ∷ 0xff ∷ drop 6 NO_SUBSPACES) ≡ Faulty (LengthOutside 65329) }
+    ensures length_most { decision true (take 4 NO_SUBSPACES ++ 0x30 ∷ 0xff ∷ drop 6 NO_SUBSPACES) ≡ Faulty (Short 48) }
     ensures revision { decision true (take 8 NO_SUBSPACES ++ 3 ∷ drop 9 NO_SUBSPACES) ≡ Faulty (Revision 3) }
     ensures overrun { decision true (take 4 ONE_GENERIC_SUBSPACE ++ 109 ∷ drop 5 ONE_GENERIC_SUBSPACE) ≡ Faulty (Overrun 48) }
     ensures one_byte { decision true (take 4 NO_SUBSPACES ++ 49 ∷ drop 5 NO_SUBSPACES ++ 0 ∷ []) ≡ Faulty (Overrun 48) }
-    ensures kind { decision true (take 48 ONE_GENERIC_SUBSPACE ++ 6 ∷ drop 49 ONE_GENERIC_SUBSPACE) ≡ Faulty (SubspaceType 48 6) }
+    ensures unknown_size { decision true (take 48 ONE_GENERIC_SUBSPACE ++ 6 ∷ 1 ∷ drop 50 ONE_GENERIC_SUBSPACE) ≡ Faulty (SubspaceLength 48 6 1) }
+    ensures unknown_least { structure_size 48 (255 ∷ 2 ∷ []) ≡ Ok 2 }
     ensures size { decision true (take 49 ONE_GENERIC_SUBSPACE ++ 61 ∷ drop 50 ONE_GENERIC_SUBSPACE) ≡ Faulty (SubspaceLength 48 0 61) }
     ensures size_by_type { structure_size 48 (2 ∷ 62 ∷ []) ≡ Err (SubspaceLength 48 2 62) }
     ensures checksum { decision true (take 9 NO_SUBSPACES ++ 0x5b ∷ drop 10 NO_SUBSPACES) ≡ Faulty (Checksum 1) }

@@ -21,6 +21,7 @@ use std::alloc::Global;
 const CHECKSUM: usize = 9;
 
 /// The bytes that spell the table.
+#[tactic(auto, using(crate::proofs::Texts::each_spelled))]
 pub fn table_bytes(alloc: Global, table: &Table) -> Result<Vec<u8>, NoMemory>
     requires { IsTableValue table.now }
     ensures { IfOk result (λ v. IsBytes v.items × TableBytes v.items table.now) }

@@ -66,7 +66,7 @@ long_from : (known : Bool) (kind size : ℕ) → cond known (known_size kind) (u
 long_from true kind size h = known_long kind size h
 long_from false kind size h = (unknown_long size size h).0
 
-size_long : (kind size : ℕ) → size_of_kind kind size ≡ Some size → IsLong size
+pub size_long : (kind size : ℕ) → size_of_kind kind size ≡ Some size → IsLong size
 size_long kind size h = long_from (ltb kind 6) kind size h
 
 kind_small : (s : Subspace) → IsSubspace s → kind_of s ≤ 255

@@ -147,13 +147,7 @@ pub fn size_of_kind(kind: u8, found: u8) -> Option<u8>
         2 => Some(90),
         3 | 4 => Some(164),
         5 => Some(96),
-        _ => {
-            if found < 2 {
-                None
-            } else {
-                Some(found)
-            }
-        }
+        _ => { if found < 2 { None } else { Some(found) } }
     }
 }
 

@@ -35,9 +35,13 @@ pub returns-clause-one_byte : goal.returns-clause-one_byte
 unfolding decision number_at structure_size structures_decision table_decision told_length
 returns-clause-one_byte c = refl
 
-pub returns-clause-kind : goal.returns-clause-kind
+pub returns-clause-unknown_size : goal.returns-clause-unknown_size
 unfolding decision number_at structure_size structures_decision table_decision told_length
-returns-clause-kind c = refl
+returns-clause-unknown_size c = refl
+
+pub returns-clause-unknown_least : goal.returns-clause-unknown_least
+unfolding structure_size structures_decision
+returns-clause-unknown_least c = refl
 
 pub returns-clause-size : goal.returns-clause-size
 unfolding decision number_at structure_size structures_decision table_decision told_length

@@ -18,7 +18,7 @@ returns-clause-one c = record {
   most = lit≤ tt;
   header = refl;
   revision = inr refl;
-  structures = (drop 48 ONE_GENERIC_SUBSPACE, [], refl, record { size = refl; kind = refl; told = refl; values = refl }, refl);
+  structures = (drop 48 ONE_GENERIC_SUBSPACE, [], refl, record { unknown = tt; size = refl; kind = refl; told = refl; values = refl }, refl);
   few = lit≤ tt;
   checksum = refl;
 }
@@ -30,3 +30,7 @@ returns-clause-right c = refl
 pub returns-clause-wanting : goal.returns-clause-wanting
 unfolding decision number_at told_length
 returns-clause-wanting c = refl
+
+pub returns-clause-unknown : goal.returns-clause-unknown
+unfolding decision number_at structure_size structures_decision table_decision told_length
+returns-clause-unknown c = refl
