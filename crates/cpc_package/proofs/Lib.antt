@@ -6,3 +6,4 @@ pub mod Lines
 pub mod First
 pub mod Meeting
 pub mod Bound
+pub mod Raised
