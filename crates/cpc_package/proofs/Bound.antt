@@ -158,10 +158,10 @@ by_number entries k lt =
 length_by : (entries : List Entry) → length (map (source_by entries) (range_with_len 0 23)) ≡ 23
 length_by entries = length-map (range_with_len 0 23) (source_by entries) ∙ length-range_with_len 0 23
 
-first_two : (entries : List Entry) (k : ℕ) → k < 2 → source_by entries k ≡ Missing
+pub first_two : (entries : List Entry) (k : ℕ) → k < 2 → source_by entries k ≡ Missing
 first_two entries k lt = rw (lt-ltb k 2 lt) refl
 
-from_two : (entries : List Entry) (k : ℕ) → 2 ≤ k → source_by entries k ≡ source_of (entry_at entries k)
+pub from_two : (entries : List Entry) (k : ℕ) → 2 ≤ k → source_by entries k ≡ source_of (entry_at entries k)
 from_two entries k le = rw (le-ltb k 2 le) refl
 
 pub sources_end : (entries : List Entry) (count n : ℕ) (xs : List Source1) → count ≡ length entries → count ≤ n → Sources entries n xs → xs ≡ (binding_of entries).sources

@@ -7,3 +7,4 @@ pub mod First
 pub mod Meeting
 pub mod Bound
 pub mod Raised
+pub mod RaisedBindings

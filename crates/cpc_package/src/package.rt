@@ -98,7 +98,7 @@ pub fn cpc_to(alloc: Global, cpc: &Cpc) -> Result<Vec<u8>, NoMemory>
 
 /// The package as one of revision 3: itself where it has that revision, and else with entries 2 to 20 as they are spelled, the number of
 /// entries and the revision as bytes, the lowest and the nominal frequency as zeros, and its length with as many bytes that follow.
-#[tactic(auto, using(crate::proofs::Raised::raised_item, crate::proofs::Raised::raised_cpc))]
+#[tactic(auto, using(crate::proofs::Raised::raised_is, crate::proofs::Raised::raised_cpc))]
 pub fn cpc_raise(alloc: Global, cpc: &Cpc) -> Result<Cpc, NoMemory>
     ensures { IfOk result (λ c. c ≡ raised cpc.now) }
 {

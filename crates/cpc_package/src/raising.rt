@@ -63,6 +63,7 @@ fn raised_elements(alloc: Global, elements: &[Element]) -> Result<Items, NoMemor
 }
 
 /// The length of the raised package: entries 0 and 1 give way to integers of one byte, and two zeros are added.
+#[tactic(auto, using(crate::proofs::Raised::package_small, crate::proofs::Raised::len_parts, crate::proofs::Raised::len_counted))]
 fn raised_len(len: Len, elements: &[Element]) -> Len
     requires package { IsPackage len elements.now }
     requires two { 2 < length elements.now }
