@@ -1,5 +1,5 @@
 -- A raised package is one of revision 3 that says the same.
-use Rattle.std.proofs.Common.{◌≡◌, ◌⊎◌, inl, inr, ℕ, zero, suc, ◌+◌, ◌*◌, ◌^◌, ◌<◌, ◌≤◌, List, [], ◌∷◌, ◌++◌, length, drop, get_or, map, refl, sym, ap, ◌∙◌, subst, arith, lit<}
+use Rattle.std.proofs.Common.{◌≡◌, inl, inr, ℕ, zero, suc, ◌+◌, ◌*◌, ◌^◌, ◌<◌, ◌≤◌, List, [], ◌∷◌, ◌++◌, length, drop, get_or, map, refl, sym, ap, ◌∙◌, subst, arith, lit<}
 use Rattle.std.specs.Prelude.{slice_index_or}
 use Rattle.std.specs.List.{flat_map, AllByRecursion}
 use Rattle.std.proofs.lemmas.Bool.{eq-eqb, ne_eqb}
@@ -15,13 +15,13 @@ use Rattle.aml_pkg.specs.declared.item.Element.{Element}
 use Rattle.aml_pkg.specs.declared.item.Element.TheVariants as element
 use Rattle.aml_pkg.specs.declared.item.Item.{Item}
 use Rattle.aml_pkg.specs.declared.item.Item.TheVariants as item
-use Rattle.aml_pkg.specs.Spelling.{IsElement, IsItem, IsLen, IsPackage, IsBuffer, buffer_body, element_bytes, int_bytes, len_limit, package_body, size_of}
+use Rattle.aml_pkg.specs.Spelling.{IsElement, IsItem, IsPackage, IsBuffer, buffer_body, element_bytes, int_bytes, len_limit, package_body, size_of}
 use Rattle.aml_pkg.proofs.Written.{length_int, length_buffer, limit_small}
 use Rattle.cpc_package.specs.declared.rows.Role.{Role}
 use Rattle.cpc_package.specs.declared.rows.Role.TheVariants as role
 use Rattle.cpc_package.specs.Entries.{elements_of, entries_of, entry_of}
 use Rattle.cpc_package.specs.Rows.{EntryRow, entry_rows, role_of, row}
-use Rattle.cpc_package.specs.Packages.{AllFrom, IsCount, IsCpc, IsOfRole}
+use Rattle.cpc_package.specs.Packages.{AllFrom, IsCpc, IsOfRole}
 use Rattle.cpc_package.specs.Raising.{byte_of, counted_again, no_number, raised, raised_elements}
 
 -- ---- how many bytes the elements of a package have
@@ -159,7 +159,7 @@ raised_package len (a ∷ b ∷ rest) all h right =
     let from_two : AllFrom (length (a ∷ b ∷ rest)) 2 rest = right.1.1 in
     let most : length (flat_map element_bytes rest) ≤ 31 * length rest = elements_most (length (a ∷ b ∷ rest)) 2 rest from_two each in
     let some : 204 ≤ length (flat_map element_bytes rest) =
-        subst (λ (n : ℕ). n ≤ length (flat_map element_bytes rest)) (ap (least_of 2) count ∙ nineteen) (elements_least (length (a ∷ b ∷ rest)) 2 rest from_two each) in
+    subst (λ (n : ℕ). n ≤ length (flat_map element_bytes rest)) (ap (least_of 2) count ∙ nineteen) (elements_least (length (a ∷ b ∷ rest)) 2 rest from_two each) in
     let whole : len.value ≡ 1 + len.follow + suc (length (flat_map element_bytes (a ∷ b ∷ rest))) = h.counts.whole in
     let few : len.follow ≤ 3 = h.counts.is.few in
     let body = body_raised a b rest in

@@ -11,13 +11,12 @@ use Rattle.pcc_gas.specs.declared.address.Gas.{Gas}
 use Rattle.pcc_gas.specs.declared.field.Field.{Field}
 use Rattle.cpc_package.specs.declared.entry.Entry.{Entry}
 use Rattle.cpc_package.specs.declared.entry.Entry.TheVariants.{Absent}
-use Rattle.cpc_package.specs.declared.binding.BindFault.{BindFault}
 use Rattle.cpc_package.specs.declared.rows.Role.TheVariants as role
 use Rattle.cpc_package.specs.Rows.{role_of}
 use Rattle.cpc_package.specs.Entries.{elements_of, entries_of, entry_at, entry_of}
-use Rattle.cpc_package.specs.Packages.{AllFrom, IsCount, IsCpc, IsOfRole}
-use Rattle.cpc_package.specs.Raising.{byte_of, no_number, raised, raised_elements}
-use Rattle.cpc_package.specs.Bindings.{access_test, bind_fault, binding_of, bounds_fault, field_of, first_from, first_sharing, first_subspace, gas_of, is_subspace, or_else, overlap, register_test, registers_fault, share_test, source_at, source_by, source_of}
+use Rattle.cpc_package.specs.Packages.{AllFrom, IsCpc, IsOfRole}
+use Rattle.cpc_package.specs.Raising.{no_number, raised, raised_elements}
+use Rattle.cpc_package.specs.Bindings.{access_test, bind_fault, binding_of, field_of, first_from, first_sharing, first_subspace, gas_of, or_else, register_test, registers_fault, share_test, source_at, source_of}
 use Rattle.cpc_package.proofs.Bound.{by_entry, first_two, from_two}
 use Rattle.cpc_package.proofs.Raised.{raised_two, raised_three}
 
@@ -110,7 +109,7 @@ unfolding first_sharing
 same_sharing field longer entries n le h =
     by_gas (share_test field) 0 (take n longer)
     ∙ ap (first_from (share_test field) 0) (sym (take-map gas_of n longer) ∙ ap (take n) h.gases
-      ∙ take-append-le n (map gas_of entries) no_gas (omega (arith, le, length-map entries gas_of)) ∙ take-map gas_of n entries)
+    ∙ take-append-le n (map gas_of entries) no_gas (omega (arith, le, length-map entries gas_of)) ∙ take-map gas_of n entries)
     ∙ sym (by_gas (share_test field) 0 (take n entries))
 
 same_test : (longer entries : List Entry) (len n : ℕ) (gas : Option Gas) → n ≤ length entries → Longer longer entries
@@ -124,7 +123,7 @@ same_registers longer entries len h =
     first_longer (register_test longer len) longer entries (λ n. refl) h
     ∙ by_gas (register_test longer len) 0 entries
     ∙ same_first (register_test longer len) (register_test entries len) 0 (length entries) (map gas_of entries) (omega (arith, length-map entries gas_of))
-      (λ n g lt. same_test longer entries len n g (omega arith) h)
+    (λ n g lt. same_test longer entries len n g (omega arith) h)
     ∙ sym (by_gas (register_test entries len) 0 entries)
 
 -- ---- a package and the one that it is raised to
@@ -174,5 +173,5 @@ pub raised_fault : (c : Item) (len : ℕ) → IsCpc c → bind_fault (entries_of
 unfolding bind_fault
 raised_fault c len h =
     let entry : (n : ℕ) → 2 ≤ n → n < 21 → entry_at (entries_of (raised c)) n ≡ entry_at (entries_of c) n =
-        λ n from below. same_entries (raised c) c n (raised_alike c h) from below in
+    λ n from below. same_entries (raised c) c n (raised_alike c h) from below in
     rw (raised_registers c len h, entry 7 (omega arith) (omega arith), entry 5 (omega arith) (omega arith), entry 3 (omega arith) (omega arith), entry 2 (omega arith) (omega arith)) refl

@@ -22,4 +22,6 @@ pub use package::{Cpc, cpc_from, cpc_raise, cpc_to, package_laws};
 pub use raising::raise_laws;
 pub use rows::{ENTRIES, REVISION_2_ENTRIES, Role, limits_are};
 pub use text::cpc_lines;
-pub use worked::{SIX_FIELDS_PACKAGE, worked_bindings, worked_packages};
+pub use worked::{
+    SIX_FIELDS_PACKAGE, SIX_FIELDS_REVISION_2_PACKAGE, worked_bindings, worked_packages,
+};
