@@ -28,6 +28,7 @@ use Rattle.cpc_package.specs.declared.rows.Role.TheVariants as role
 use Rattle.cpc_package.specs.Bindings.{HasWidth, IsBinding, IsRight, LiesIn, access_test, bind_fault, binding_of, bounds_fault, end_of, field_of, first_sharing, first_subspace, gas_of, is_absent, is_subspace, overlap, register_test, registers_fault, share_test, source_at, source_by, source_of}
 use Rattle.cpc_package.proofs.First.{first_none, front_none, or_none}
 use Rattle.cpc_package.proofs.Meeting.{apart_by, missing_field}
+use Rattle.cpc_package.proofs.Sizes.{count_least, count_most, entries_count}
 
 -- ---- what a register that is present has passed
 
@@ -157,10 +158,10 @@ by_number entries k lt =
 length_by : (entries : List Entry) → length (map (source_by entries) (range_with_len 0 23)) ≡ 23
 length_by entries = length-map (range_with_len 0 23) (source_by entries) ∙ length-range_with_len 0 23
 
-first_two : (entries : List Entry) (k : ℕ) → k < 2 → source_by entries k ≡ Missing
+pub first_two : (entries : List Entry) (k : ℕ) → k < 2 → source_by entries k ≡ Missing
 first_two entries k lt = rw (lt-ltb k 2 lt) refl
 
-from_two : (entries : List Entry) (k : ℕ) → 2 ≤ k → source_by entries k ≡ source_of (entry_at entries k)
+pub from_two : (entries : List Entry) (k : ℕ) → 2 ≤ k → source_by entries k ≡ source_of (entry_at entries k)
 from_two entries k le = rw (le-ltb k 2 le) refl
 
 pub sources_end : (entries : List Entry) (count n : ℕ) (xs : List Source1) → count ≡ length entries → count ≤ n → Sources entries n xs → xs ≡ (binding_of entries).sources
@@ -245,7 +246,7 @@ unfolding entries_of role_of
 desired_register (item.Element e) h present = absurd h
 desired_register (item.Package l es) h present =
     let d : Element = element.Int (record { value = 0; form = Zero }) in
-    let count : length es ≡ 23 = h.0 in
+    let count : 21 ≤ length es = count_least (length es) h.0 in
     let seven : 7 < length es = omega (arith, count) in
     let register : IsOfRole (length es) role.Register (get_or es 7 d) = role_from (length es) 0 es 7 d 7 h.1 seven refl in
     let same : get_or (map entry_of es) 7 (Absent 0) ≡ entry_of (get_or es 7 d) = get_or-map entry_of es 7 d (Absent 0) seven in
@@ -300,13 +301,8 @@ subspace_by : (o : Option ℕ) (gas : Gas) → (o ≡ None → ⊥) → is_subsp
 subspace_by None gas some h = absurd (some refl)
 subspace_by (Some first) gas some h = eqb-true first gas.access h
 
-entries_whole : (c : Item) → IsCpc c → length (entries_of c) ≡ 23
-unfolding entries_of
-entries_whole (item.Element e) h = absurd h
-entries_whole (item.Package l es) h = length-map es entry_of ∙ h.0
-
-past_all : (entries : List Entry) (n : ℕ) → length entries ≡ 23 → 23 ≤ n → source_of (entry_at entries n) ≡ Missing
-past_all entries n all past = ap source_of (get_or_past entries n (Absent 0) (omega (arith, all)))
+past_all : (entries : List Entry) (n : ℕ) → length entries ≤ 23 → 23 ≤ n → source_of (entry_at entries n) ≡ Missing
+past_all entries n most past = ap source_of (get_or_past entries n (Absent 0) (omega (arith, most)))
 
 pub is_binding : (c : Item) (len : ℕ) → IsCpc c → bind_fault (entries_of c) len ≡ None → IsBinding (entries_of c) (binding_of (entries_of c))
 unfolding binding_of
@@ -318,6 +314,6 @@ is_binding c len h none =
       each = λ n le. elim (cases_lt n 23) [
         | inl lt ↦ by_entry entries n lt ∙ from_two entries n le
         | inr past ↦
-            get_or_past (binding_of entries).sources n Missing (omega (arith, whole entries)) ∙ sym (past_all entries n (entries_whole c h) past)
+            get_or_past (binding_of entries).sources n Missing (omega (arith, whole entries)) ∙ sym (past_all entries n (count_most (length entries) (entries_count c h)) past)
       ];
     }

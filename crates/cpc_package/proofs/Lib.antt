@@ -6,3 +6,5 @@ pub mod Lines
 pub mod First
 pub mod Meeting
 pub mod Bound
+pub mod Raised
+pub mod RaisedBindings

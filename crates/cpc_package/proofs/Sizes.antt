@@ -1,5 +1,5 @@
 -- The buffers of a package have the bytes of a register.
-use Rattle.std.proofs.Common.{◌≡◌, ℕ, ◌+◌, ◌<◌, List, [], ◌∷◌, length, get_or, map, All, sym, ap, ◌∙◌, subst}
+use Rattle.std.proofs.Common.{◌≡◌, inl, inr, ℕ, ◌+◌, ◌<◌, ◌≤◌, List, [], ◌∷◌, length, get_or, map, All, sym, ap, ◌∙◌, subst, arith}
 use Rattle.std.specs.List.{AllByRecursion}
 use Rattle.std.proofs.lemmas.List.{get_or-map, length-map}
 use Rattle.std.proofs.lemmas.List.Elements.{All-from_recursion}
@@ -13,7 +13,7 @@ use Rattle.cpc_package.specs.declared.rows.Role.TheVariants as role
 use Rattle.cpc_package.specs.declared.entry.Entry.TheVariants.{Absent}
 use Rattle.cpc_package.specs.Rows.{role_of}
 use Rattle.cpc_package.specs.Entries.{elements_of, entries_of, entry_at, entry_of}
-use Rattle.cpc_package.specs.Packages.{AllFrom, HasSeventeen, IsCpc, IsOfRole}
+use Rattle.cpc_package.specs.Packages.{AllFrom, HasSeventeen, IsCount, IsCpc, IsOfRole}
 
 sized : (count : ℕ) (r : Role) (e : Element) → IsOfRole count r e → HasSeventeen e
 sized count r (element.Int int) h = tt
@@ -31,10 +31,27 @@ item_sized c l es xs e same h =
     let right : IsCpc (item.Package l es) = subst IsCpc e h in
     subst (All HasSeventeen) (sym same) (All-from_recursion HasSeventeen es (each_sized (length es) 0 es right.1))
 
-pub item_all : (c : Item) (l : Len) (es xs : List Element) → c ≡ item.Package l es → xs ≡ es → IsCpc c → length xs ≡ 23
-item_all c l es xs e same h =
+pub item_count : (c : Item) (l : Len) (es xs : List Element) → c ≡ item.Package l es → xs ≡ es → IsCpc c → IsCount (length xs)
+item_count c l es xs e same h =
     let right : IsCpc (item.Package l es) = subst IsCpc e h in
-    subst (λ (ys : List Element). length ys ≡ 23) (sym same) right.0
+    subst (λ (ys : List Element). IsCount (length ys)) (sym same) right.0
+
+-- a package has 21 to 23 entries
+pub count_most : (n : ℕ) → IsCount n → n ≤ 23
+count_most n (inl e) = omega (arith, e)
+count_most n (inr e) = omega (arith, e)
+
+pub count_least : (n : ℕ) → IsCount n → 21 ≤ n
+count_least n (inl e) = omega (arith, e)
+count_least n (inr e) = omega (arith, e)
+
+pub entries_count : (c : Item) → IsCpc c → IsCount (length (entries_of c))
+unfolding entries_of
+entries_count (item.Element e) h = absurd h
+entries_count (item.Package l es) h = subst IsCount (sym (length-map es entry_of)) h.0
+
+pub entries_least : (c : Item) → IsCpc c → 21 ≤ length (entries_of c)
+entries_least c h = count_least (length (entries_of c)) (entries_count c h)
 
 pub entries_length : (c : Item) (es : List Element) → es ≡ elements_of c → length (entries_of c) ≡ length es
 unfolding entries_of

@@ -23,7 +23,8 @@ use Rattle.cpc_package.specs.declared.fault.CpcFault.{CpcFault}
 use Rattle.cpc_package.specs.Rows.{role_of}
 use Rattle.cpc_package.specs.Entries.{register_in}
 use Rattle.cpc_package.specs.Packages.{Agrees, AllFrom, EntryWrong, CountBuffer, RevisionBuffer, OtherCount, OtherRevision, NoRegister, InRegister, InEither, IsCount, IsCpc, IsOfRole, IsRegister, IsSized, PackageWrong, NoPackage, OtherEntries, InEntry, RegisterWrong, InSize, InDescriptor, InEndTag, InChecksum, descriptor, revision_of}
-use Rattle.cpc_package.specs.Testing.{entries_fault, entry_kind, found_at, item_fault, register_kind}
+use Rattle.cpc_package.specs.Testing.{entries_fault, entry_kind, found_at, is_count, item_fault, register_kind}
+use Rattle.cpc_package.proofs.Sizes.{count_most}
 
 -- ---- steps of the loop
 
@@ -291,19 +292,38 @@ entries_at count n at (x ∷ front) e rest k h w =
 
 -- ---- an item
 
+count_test : (n : ℕ) (s t : Bool) → s ≡ eqb n 21 → t ≡ eqb n 23 → Decided (IsCount n) (s || t)
+count_test n true t e d = Holds (inl (eqb-true n 21 (sym e)))
+count_test n false true e d = Holds (inr (eqb-true n 23 (sym d)))
+count_test n false false e d = Breaks (λ h. elim h [
+  | inl is ↦ eqb-false n 21 (sym e) is
+  | inr is ↦ eqb-false n 23 (sym d) is
+])
+
+count_decides : (n : ℕ) → Decided (IsCount n) (is_count n)
+count_decides n = count_test n _ _ refl refl
+
+count_by : (n : ℕ) (b : Bool) → Decided (IsCount n) b → b ≡ true → n ≤ 23
+count_by n _ (Holds h) e = count_most n h
+count_by n _ (Breaks h) e = absurd cc
+
+-- a number of entries is one that a byte holds
+pub tested_count : (n : ℕ) → is_count n ≡ true → n ≤ 23
+tested_count n e = count_by n _ (count_decides n) e
+
 zero_plus : (n : ℕ) → 0 + n ≡ n
 zero_plus n = omega arith
 
 pub item_right : (c : Item) → IsCpc c → item_fault c ≡ None
 item_right (item.Element e) h = absurd h
-item_right (item.Package l es) h = rw (eq-eqb (length es) 23 h.0) (entries_right (length es) 0 (3 + l.follow) es h.1)
+item_right (item.Package l es) h = rw (holds _ (count_decides (length es)) h.0) (entries_right (length es) 0 (3 + l.follow) es h.1)
 
 pub item_wrong : (c : Item) (f : CpcFault) → PackageWrong c f → item_fault c ≡ Some f
 item_wrong c f (NoPackage e) = refl
-item_wrong c f (OtherEntries l es h) = rw (ne_eqb (length es) 23 h) refl
+item_wrong c f (OtherEntries l es h) = rw (breaks _ (count_decides (length es)) h) refl
 item_wrong c f (InEntry l es front rest e k count parts right wrong) =
     let moved : EntryWrong (length es) (role_of (0 + length front)) e k = subst (λ (m : ℕ). EntryWrong (length es) (role_of m) e k) (sym (zero_plus (length front))) wrong in
-    rw (eq-eqb (length es) 23 count) (ap (entries_fault (length es) 0 (3 + l.follow)) parts ∙ entries_at (length es) 0 (3 + l.follow) front e rest k right moved
+    rw (holds _ (count_decides (length es)) count) (ap (entries_fault (length es) 0 (3 + l.follow)) parts ∙ entries_at (length es) 0 (3 + l.follow) front e rest k right moved
     ∙ ap (λ (m : ℕ). Some (record { entry = m; at = 3 + l.follow + length (flat_map element_bytes front); kind = k })) (zero_plus (length front)))
 
 -- what the tests of an item say
@@ -327,4 +347,4 @@ by_number l es _ (Breaks h) = IsWrong _ (OtherEntries l es h)
 
 pub item_outcome : (c : Item) → ItemOutcome c (item_fault c)
 item_outcome (item.Element e) = IsWrong _ (NoPackage e)
-item_outcome (item.Package l es) = by_number l es _ (number_decides (length es) 23)
+item_outcome (item.Package l es) = by_number l es _ (count_decides (length es))

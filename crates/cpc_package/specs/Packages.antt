@@ -1,5 +1,5 @@
 -- Which items are `_CPC` packages, which bytes spell one, and the first thing that is wrong in bytes that don't (ACPI 6.5, 8.4.6.1).
-use Rattle.std.specs.Prelude.{◌≡◌, ◌⊎◌, ◌+◌, ◌%◌, ℕ, List, [], ◌∷◌, ◌++◌, length, take, slice_index, sum}
+use Rattle.std.specs.Prelude.{◌≡◌, ◌⊎◌, ◌+◌, ◌==◌, ◌%◌, if◌then◌else◌, ℕ, List, [], ◌∷◌, ◌++◌, length, take, slice_index, sum}
 use Rattle.std.specs.List.{flat_map}
 use Rattle.aml_pkg.specs.declared.item.Int.{Int}
 use Rattle.aml_pkg.specs.declared.item.Len.{Len}
@@ -17,7 +17,7 @@ use Rattle.aml_pkg.specs.Spelling.{element_bytes, AmlBytes}
 use Rattle.aml_pkg.specs.Faults.{ItemWrong}
 use Rattle.pcc_gas.specs.Addresses.{RegisterBytes}
 use Rattle.cpc_package.specs.declared.rows.Role.{Role}
-use Rattle.cpc_package.specs.declared.rows.TheConstants.{ENTRIES}
+use Rattle.cpc_package.specs.declared.rows.TheConstants.{ENTRIES, REVISION_2_ENTRIES}
 use Rattle.cpc_package.specs.declared.rows.Role.TheVariants as role
 use Rattle.cpc_package.specs.declared.fault.CpcKind.{CpcKind}
 use Rattle.cpc_package.specs.declared.fault.CpcKind.TheVariants.{Short, BadLead, BadLength, UnknownOp, TooDeep, NotPackage, EntryCount, NotInteger, WrongCount, WrongRevision, NotRegister, BadDescriptor, BadEndTag, BadChecksum}
@@ -27,13 +27,13 @@ use Rattle.cpc_package.specs.declared.fault.CpcError.TheVariants as errors
 use Rattle.cpc_package.specs.Rows.{role_of}
 use Rattle.cpc_package.specs.Entries.{register_in}
 
--- how many entries a package may have
+-- how many entries a package may have: those of revision 2, or of revision 3
 abbrev pub IsCount : ℕ → Type 0
-IsCount n = n ≡ ENTRIES
+IsCount n = (n ≡ REVISION_2_ENTRIES) ⊎ (n ≡ ENTRIES)
 
 -- the revision of a package of count entries
 abbrev pub revision_of : ℕ → ℕ
-revision_of count = 3
+revision_of count = if count == REVISION_2_ENTRIES then 2 else 3
 
 -- ---- what is right
 

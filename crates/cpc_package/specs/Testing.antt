@@ -1,6 +1,6 @@
 -- The tests of an item in their order, as the code goes. Contracts inside the crate cite it; what its public calls promise is said by
 -- what is right and what is wrong.
-use Rattle.std.specs.Prelude.{◌+◌, ◌==◌, ◌&&◌, ◌||◌, ◌%◌, if◌then◌else◌, ℕ, List, [], ◌∷◌, length, take, slice_index, sum, bytes_eq, Option, Some, None}
+use Rattle.std.specs.Prelude.{◌+◌, ◌==◌, ◌&&◌, ◌||◌, ◌%◌, if◌then◌else◌, Bool, ℕ, List, [], ◌∷◌, length, take, slice_index, sum, bytes_eq, Option, Some, None}
 use Rattle.aml_pkg.specs.declared.item.Buffer.{Buffer}
 use Rattle.aml_pkg.specs.declared.item.Element.{Element}
 use Rattle.aml_pkg.specs.declared.item.Element.TheVariants as element
@@ -8,7 +8,7 @@ use Rattle.aml_pkg.specs.declared.item.Item.{Item}
 use Rattle.aml_pkg.specs.declared.item.Item.TheVariants as item
 use Rattle.aml_pkg.specs.Spelling.{element_bytes}
 use Rattle.cpc_package.specs.declared.rows.Role.{Role}
-use Rattle.cpc_package.specs.declared.rows.TheConstants.{ENTRIES}
+use Rattle.cpc_package.specs.declared.rows.TheConstants.{ENTRIES, REVISION_2_ENTRIES}
 use Rattle.cpc_package.specs.declared.rows.Role.TheVariants as role
 use Rattle.cpc_package.specs.declared.fault.CpcKind.{CpcKind}
 use Rattle.cpc_package.specs.declared.fault.CpcKind.TheVariants.{NotPackage, EntryCount, NotInteger, WrongCount, WrongRevision, NotRegister, BadDescriptor, BadEndTag, BadChecksum}
@@ -47,8 +47,12 @@ abbrev pub entries_fault : ℕ → ℕ → ℕ → List Element → Option CpcFa
 entries_fault count n at [] = None
 entries_fault count n at (e ∷ es) = found_at (entry_kind count (role_of n) e) n at (entries_fault count (n + 1) (at + length (element_bytes e)) es)
 
+-- whether a package may have n entries
+abbrev pub is_count : ℕ → Bool
+is_count n = n == REVISION_2_ENTRIES || n == ENTRIES
+
 -- the first fault of an item
 abbrev pub item_fault : Item → Option CpcFault
 item_fault (item.Element e) = Some (record { entry = 0; at = 0; kind = NotPackage })
-item_fault (item.Package len elements) = if length elements == ENTRIES then entries_fault (length elements) 0 (3 + len.follow) elements
+item_fault (item.Package len elements) = if is_count (length elements) then entries_fault (length elements) 0 (3 + len.follow) elements
     else Some (record { entry = 0; at = 2 + len.follow; kind = EntryCount })

@@ -152,8 +152,7 @@ fn first_subspace(cpc: &Cpc) -> Option<u8>
 /// The first of the entries before number n whose register shares a bit with another.
 #[tactic(auto, unfolding(crate::specs::Bindings::first_sharing), using(crate::proofs::First::front_more, crate::proofs::First::front_hit, crate::proofs::First::front_end))]
 fn first_sharing(cpc: &Cpc, n: u8, gas: Gas) -> Option<u8>
-    requires few { n < ENTRIES }
-    requires within { n < length (entries_of cpc.now) }
+    requires { n < length (entries_of cpc.now) }
     ensures { result ≡ first_sharing (field_of gas) (take n (entries_of cpc.now)) }
 {
     for a in 0..n {
@@ -175,7 +174,6 @@ fn register_fault(
     gas: Gas,
 ) -> Option<BindFault>
     requires first { subspace ≡ first_subspace (entries_of cpc.now) }
-    requires few { entry < ENTRIES }
     requires within { entry < length (entries_of cpc.now) }
     ensures { result ≡ register_test (entries_of cpc.now) space_len entry (Some gas) }
 {
@@ -261,7 +259,7 @@ fn bounds_fault(desired: Entry, lowest: Entry, nominal: Entry, highest: Entry) -
     scale_fault(number_of(lowest), number_of(nominal), number_of(highest))
 }
 
-#[tactic(auto, unfolding(crate::specs::Bindings::bind_fault))]
+#[tactic(auto, unfolding(crate::specs::Bindings::bind_fault), using(crate::proofs::Sizes::entries_least))]
 fn bind_fault(cpc: &Cpc, space_len: u32) -> Option<BindFault>
     ensures right { IsCpc cpc.now }
     ensures fault { result ≡ bind_fault (entries_of cpc.now) space_len }
@@ -289,7 +287,7 @@ fn source_of(entry: Entry, space_len: u32) -> Source1
 }
 
 /// What the entries of a package give that can be bound.
-#[tactic(auto, using(crate::proofs::Bound::sources_start, crate::proofs::Bound::sources_more, crate::proofs::Bound::inside))]
+#[tactic(auto, using(crate::proofs::Bound::sources_start, crate::proofs::Bound::sources_more, crate::proofs::Bound::inside, crate::proofs::Sizes::count_most))]
 fn sources_of(cpc: &Cpc, space_len: u32) -> [Source1; ENTRIES]
     requires small { space_len < 2 ^ 29 }
     requires right { bind_fault (entries_of cpc.now) space_len ≡ None }

@@ -3,13 +3,14 @@ ghost use Rattle.std.specs.Prelude.{◌≡◌, ◌⊎◌, ◌<◌, ◌≤◌, �
 ghost use Rattle.pcc_bytes.specs.Bytes.{IsBytes};
 ghost use Rattle.aml_pkg.specs.declared.item.Item.{Item};
 ghost use Rattle.cpc_package.specs.Entries.{elements_of, entries_of, entry_at};
-ghost use Rattle.cpc_package.specs.Packages.{CpcBytes, CpcWrong, HasFault, HasPackage, HasSeventeen, IsCpc, IsTold, Tells};
+ghost use Rattle.cpc_package.specs.Packages.{CpcBytes, CpcWrong, HasFault, HasPackage, HasSeventeen, IsCount, IsCpc, IsTold, Tells};
+ghost use Rattle.cpc_package.specs.Raising.{raised};
 ghost use Rattle.cpc_package.specs.declared.fault.CpcFault.{CpcFault};
 ghost use Rattle.cpc_package.specs.declared.fault.CpcError.TheVariants.{NoMemory as OutOfMemory};
-ghost use Rattle.cpc_package.specs.declared.rows.TheConstants.{ENTRIES};
 
 use crate::entry::Entry;
 use crate::fault::CpcError;
+use crate::raising::raised_item;
 use crate::register::entry_of;
 use crate::testing::item_fault;
 use aml_pkg::{Element, Item, item_laws, item_to, read_item};
@@ -40,7 +41,7 @@ impl Cpc {
     pub(crate) fn elements(&self) -> &[Element]
         ensures value { result.now ≡ elements_of self.now }
         ensures sized { All HasSeventeen result.now }
-        ensures all { length result.now ≡ ENTRIES }
+        ensures count { IsCount (length result.now) }
         ensures right { IsCpc self.now }
     {
         match &self.item {
@@ -49,20 +50,20 @@ impl Cpc {
         }
     }
 
-    /// How many entries the package has.
-    #[tactic(auto, using(crate::proofs::Sizes::entries_length))]
+    /// How many entries the package has: 21 of revision 2, or 23 of revision 3.
+    #[tactic(auto, using(crate::proofs::Sizes::entries_length, crate::proofs::Sizes::count_most))]
     pub fn entries(&self) -> u8
         ensures count { result ≡ length (entries_of self.now) }
-        ensures all { result ≡ ENTRIES }
+        ensures all { IsCount result }
         ensures right { IsCpc self.now }
     {
         self.elements().len() as u8
     }
 
     /// What an entry says, by its number.
-    #[tactic(auto, using(crate::proofs::Sizes::entry_read))]
+    #[tactic(auto, using(crate::proofs::Sizes::entries_length, crate::proofs::Sizes::entry_read))]
     pub fn entry(&self, n: u8) -> Entry
-        requires { n < ENTRIES }
+        requires { n < length (entries_of self.now) }
         ensures { result ≡ entry_at (entries_of self.now) n }
     {
         entry_of(&self.elements()[usize::from(n)])
@@ -93,6 +94,16 @@ pub fn cpc_to(alloc: Global, cpc: &Cpc) -> Result<Vec<u8>, NoMemory>
     ensures { IfOk result (λ v. CpcBytes v.items cpc.now) }
 {
     item_to(alloc, &cpc.item)
+}
+
+/// The package as one of revision 3: itself where it has that revision, and else with entries 2 to 20 as they are spelled, the number of
+/// entries and the revision as bytes, the lowest and the nominal frequency as zeros, and its length with as many bytes that follow.
+#[tactic(auto, using(crate::proofs::Raised::raised_is, crate::proofs::Raised::raised_cpc))]
+pub fn cpc_raise(alloc: Global, cpc: &Cpc) -> Result<Cpc, NoMemory>
+    ensures { IfOk result (λ c. c ≡ raised cpc.now) }
+{
+    let item = raised_item(alloc, &cpc.item)?;
+    Ok(Cpc { item })
 }
 
 /// Bytes begin with one package, or one thing is wrong first. A package has one spelling. It does nothing.

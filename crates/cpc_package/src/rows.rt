@@ -1,7 +1,7 @@
 //! The entries of a package: the name of each, and what it holds.
 ghost use Rattle.std.specs.Prelude.{◌≡◌, ◌<◌, length};
 ghost use Rattle.cpc_package.specs.Rows.{entry_rows, name_of, role_of, rows_of};
-ghost use Rattle.cpc_package.specs.declared.rows.TheConstants.{ENTRIES};
+ghost use Rattle.cpc_package.specs.declared.rows.TheConstants.{ENTRIES, REVISION_2_ENTRIES};
 
 /// What an entry holds.
 #[derive(Clone, Copy, Debug, PartialEq, Eq)]
@@ -20,8 +20,11 @@ pub enum Role {
 #[derive(Clone, Copy, Debug)]
 pub struct Row(pub &'static [u8], pub Role);
 
-/// How many entries a package of revision 3 has (ACPI 6.5, 8.4.6.1).
+/// How many entries a package of revision 3 has, which is the most (ACPI 6.5, 8.4.6.1).
 pub const ENTRIES: usize = 23;
+
+/// How many entries a package of revision 2 has: the same without the last two, the lowest and the nominal frequency.
+pub const REVISION_2_ENTRIES: usize = 21;
 
 /// The entries in their order (ACPI 6.5, 8.4.6.1).
 const ROWS: [Row; ENTRIES] = [
@@ -67,7 +70,8 @@ pub fn row_of(n: usize) -> Row
     rows()[n]
 }
 
-/// The number of entries, so that it doesn't change unseen. It does nothing.
+/// The numbers of entries, so that they don't change unseen. It does nothing.
 pub fn limits_are()
     ensures entries { ENTRIES ≡ 23 }
+    ensures revision_2_entries { REVISION_2_ENTRIES ≡ 21 }
 {}

@@ -3,16 +3,28 @@ ghost use Rattle.std.specs.Prelude.{◌≡◌, ◌<◌, ◌≤◌, ◌+◌, ◌%
 ghost use Rattle.aml_pkg.specs.declared.item.Element.TheVariants as element;
 ghost use Rattle.std.specs.List.{AllByRecursion, flat_map};
 ghost use Rattle.aml_pkg.specs.Spelling.{IsElement, IsItem, element_bytes};
-ghost use Rattle.cpc_package.specs.Testing.{entries_fault, entry_kind, item_fault, register_kind};
+ghost use Rattle.cpc_package.specs.Packages.{revision_of};
+ghost use Rattle.cpc_package.specs.Testing.{entries_fault, entry_kind, is_count, item_fault, register_kind};
 ghost use Rattle.cpc_package.specs.declared.rows.TheConstants.{ENTRIES};
 
 use crate::fault::{CpcFault, CpcKind};
 use crate::register::REGISTER_LEN;
-use crate::rows::{ENTRIES, Role, row_of};
+use crate::rows::{ENTRIES, REVISION_2_ENTRIES, Role, row_of};
 use aml_pkg::{Buffer, Element, Int, Item};
 
-/// The revision of a package.
-const REVISION: u64 = 3;
+/// Whether a package may have so many entries.
+fn is_count(count: usize) -> bool
+    ensures { result ≡ is_count count }
+{
+    count == REVISION_2_ENTRIES || count == ENTRIES
+}
+
+/// The revision of a package of count entries.
+fn revision_of(count: usize) -> u64
+    ensures { result ≡ revision_of count }
+{
+    if count == REVISION_2_ENTRIES { 2 } else { 3 }
+}
 
 fn byte_sum(bytes: &[u8]) -> u32
     requires { length bytes.now ≤ 65536 }
@@ -47,7 +59,7 @@ fn integer_kind(count: usize, role: Role, int: Int) -> Option<CpcKind>
 {
     match role {
         Role::Count => wrong_unless(int.value == count as u64, CpcKind::WrongCount),
-        Role::Revision => wrong_unless(int.value == REVISION, CpcKind::WrongRevision),
+        Role::Revision => wrong_unless(int.value == revision_of(count), CpcKind::WrongRevision),
         Role::Either => None,
         Role::Register => Some(CpcKind::NotRegister),
     }
@@ -76,7 +88,7 @@ fn entry_kind(count: usize, role: Role, element: &Element) -> Option<CpcKind>
 #[tactic(auto, using(crate::proofs::Tested::entries_hit, crate::proofs::Tested::entries_more, crate::proofs::Tested::entries_end, crate::proofs::Tested::room_more))]
 fn entries_fault(elements: &[Element], at: u32) -> Option<CpcFault>
     requires each { AllByRecursion IsElement elements.now }
-    requires all { length elements.now ≡ ENTRIES }
+    requires few { length elements.now ≤ ENTRIES }
     requires room { at + length (flat_map element_bytes elements.now) < 2 ^ 32 }
     ensures { result ≡ entries_fault (length elements.now) 0 at elements.now }
 {
@@ -93,7 +105,7 @@ fn entries_fault(elements: &[Element], at: u32) -> Option<CpcFault>
 }
 
 /// The first fault of an item that was read.
-#[tactic(auto, using(crate::proofs::Tested::package_room))]
+#[tactic(auto, using(crate::proofs::Tested::package_room, crate::proofs::Tested::tested_count))]
 pub fn item_fault(item: &Item) -> Option<CpcFault>
     requires { IsItem item.now }
     ensures { result ≡ item_fault item.now }
@@ -106,7 +118,7 @@ pub fn item_fault(item: &Item) -> Option<CpcFault>
         }),
         Item::Package { len, items } => {
             let follow = u32::from(len.follow);
-            if items.len() != ENTRIES {
+            if !is_count(items.len()) {
                 return Some(CpcFault {
                     entry: 0,
                     at: 2 + follow,

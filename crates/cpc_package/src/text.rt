@@ -113,7 +113,7 @@ fn put_entry(out: &mut Vec<u8>, n: usize, element: &Element) -> Result<(), NoMem
 /// The text of the package, a line for each entry in their order: its number and its name, and then an integer with its form
 /// (`zero`, `one`, `ones`, `byte`, `word`, `dword` or `qword`), a register's space, width, offset, access and address in decimal with
 /// its checksum, or the checksum of an absent register.
-#[tactic(auto, unfolding(crate::specs::PackageText::package_text), using(crate::proofs::Lines::lines_start, crate::proofs::Lines::lines_more, crate::proofs::Lines::lines_end))]
+#[tactic(auto, unfolding(crate::specs::PackageText::package_text), using(crate::proofs::Lines::lines_start, crate::proofs::Lines::lines_more, crate::proofs::Lines::lines_end, crate::proofs::Sizes::count_most))]
 pub fn cpc_lines(alloc: Global, cpc: &Cpc) -> Result<Vec<u8>, NoMemory>
     ensures { IfOk result (λ text. text.items ≡ package_text cpc.now) }
 {

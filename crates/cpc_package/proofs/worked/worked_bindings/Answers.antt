@@ -1,7 +1,7 @@
 use Rattle.std.proofs.Common.{refl}
 use Rattle.pcc_bytes.specs.Bytes.{number_at}
 use Rattle.pcc_gas.specs.Addresses.{address_in}
-use Rattle.cpc_package.specs.Bindings.{bind_fault, registers_fault, first_subspace, first_sharing}
+use Rattle.cpc_package.specs.Bindings.{bind_fault, binding_of, registers_fault, first_subspace, first_sharing}
 use Rattle.cpc_package.specs.Entries.{entries_of, register_in, is_absent_in}
 use Rattle.cpc_package.proofs.worked.worked_bindings.Goals as goal
 
@@ -56,3 +56,15 @@ returns-clause-scale_low c = refl
 pub returns-clause-scale_high : goal.returns-clause-scale_high
 unfolding bind_fault registers_fault first_subspace first_sharing entries_of register_in is_absent_in address_in number_at
 returns-clause-scale_high c = refl
+
+pub returns-clause-revision_2_bound : goal.returns-clause-revision_2_bound
+unfolding bind_fault registers_fault first_subspace first_sharing entries_of register_in is_absent_in address_in number_at
+returns-clause-revision_2_bound c = refl
+
+pub returns-clause-reference : goal.returns-clause-reference
+unfolding bind_fault binding_of registers_fault first_subspace first_sharing entries_of register_in is_absent_in address_in number_at
+returns-clause-reference c = refl
+
+pub returns-clause-lowest_frequency : goal.returns-clause-lowest_frequency
+unfolding bind_fault binding_of registers_fault first_subspace first_sharing entries_of register_in is_absent_in address_in number_at
+returns-clause-lowest_frequency c = refl
