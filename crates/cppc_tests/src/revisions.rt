@@ -1,7 +1,7 @@
 //! Processors of both revisions of a package on one subspace, and a package of revision 2 as one of revision 3.
 use cpc_package::{
-    Binding, Cpc, SIX_FIELDS_PACKAGE, SIX_FIELDS_REVISION_2_PACKAGE, Source1, bind, cpc_from, cpc_raise,
-    cpc_to, cpus_apart,
+    Binding, Cpc, SIX_FIELDS_PACKAGE, SIX_FIELDS_REVISION_2_PACKAGE, Source1, bind, cpc_from,
+    cpc_raise, cpc_to, cpus_apart,
 };
 use cppc_device::CppcDevice;
 use pcc_exec::{ExecStatus, Executor};
@@ -25,8 +25,12 @@ fn later_package() -> [u8; 273] {
 fn controller(alloc: Global, image: &[u8]) -> Option<CppcDevice> {
     let (cpc, _) = cpc_from(alloc, &SIX_FIELDS_PACKAGE).ok()?;
     let (later, _) = cpc_from(alloc, &later_package()).ok()?;
-    let a = bind(&cpc, 64).ok()?;
-    let b = bind(&later, 64).ok()?;
+    let Ok(a) = bind(&cpc, 64) else {
+        return None;
+    };
+    let Ok(b) = bind(&later, 64) else {
+        return None;
+    };
     if a.subspace != b.subspace {
         return None;
     }
@@ -62,7 +66,9 @@ fn sources(cpc: &Cpc) -> Option<Binding> {
 #[test]
 fn a_package_of_revision_2_is_raised(rt: HostRuntime) -> Result<(), Fail> {
     let alloc = rt.alloc();
-    let (cpc, _) = cpc_from(alloc, &SIX_FIELDS_REVISION_2_PACKAGE).ok().ok_or("refused")?;
+    let (cpc, _) = cpc_from(alloc, &SIX_FIELDS_REVISION_2_PACKAGE)
+        .ok()
+        .ok_or("refused")?;
     assert_eq!(rt; cpc.entries(), 21);
     let raised = cpc_raise(alloc, &cpc).ok().ok_or("no memory")?;
     assert_eq!(rt; raised.entries(), 23);
