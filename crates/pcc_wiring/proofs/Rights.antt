@@ -154,7 +154,6 @@ is_right id flags asks (HwRegister t) none =
       sets = λ x. absurd (omega arith);
       quiet = λ x. refl;
     }
-
 is_right id flags asks (Sub.Other o) none = absurd cc
 
 -- a structure of a known type has the faults of its wiring
