@@ -1,5 +1,5 @@
 -- Changes of the fields of processors are apart.
-use Rattle.std.proofs.Common.{◌≡◌, ℕ, ◌+◌, ◌<◌, ◌≤◌, List, [], ◌∷◌, ◌++◌, refl, sym, ap, ◌∙◌, arith}
+use Rattle.std.proofs.Common.{◌≡◌, ℕ, ◌+◌, ◌<◌, ◌≤◌, List, [], ◌∷◌, ◌++◌, arith}
 use Rattle.std.specs.List.{AllByRecursion}
 use Rattle.pcc_gas.specs.Changes.{AreApartFrom, IsApartFrom}
 use Rattle.pcc_gas.specs.Fields.{AreApart}

@@ -1,5 +1,5 @@
 -- What a command leaves, and what a controller begins with.
-use Rattle.std.proofs.Common.{◌≡◌, ℕ, zero, suc, ◌+◌, ◌-◌, ◌^◌, ◌<◌, ◌≤◌, min, Bool, true, false, cond, eqb, ltb, replicate, take, List, [], ◌∷◌, ◌++◌, All, length, get_or, Option, Some, None, inl, inr, refl, sym, ap, ◌∙◌, subst, add-sub_of_le, arith}
+use Rattle.std.proofs.Common.{◌≡◌, ℕ, zero, suc, ◌+◌, ◌-◌, ◌^◌, ◌<◌, ◌≤◌, min, Bool, true, false, cond, eqb, ltb, replicate, take, List, [], ◌∷◌, ◌++◌, length, get_or, Option, Some, None, refl, sym, ap, ◌∙◌, subst, add-sub_of_le, arith}
 use Rattle.std.specs.Prelude.{AllPairs, flat_map}
 use Rattle.std.proofs.lemmas.Bool.{ltb-true, ne_eqb}
 use Rattle.std.proofs.lemmas.List.{length-append, length-replicate, take_all}
@@ -14,7 +14,7 @@ use Rattle.cppc_device.specs.declared.cap.Cap.{Cap}
 use Rattle.cppc_device.specs.Devices.{Cppc, IsDevice, after_changes, in_force, sampled, sampled_of, written, written_of}
 use Rattle.cppc_device.specs.Keeps.{exec_is, room_is}
 use Rattle.cppc_device.specs.Openings.{cap_order, order_after}
-use Rattle.cppc_device.specs.States.{cppc_exec, cppc_room, cppc_state, executed}
+use Rattle.cppc_device.specs.States.{cppc_exec, cppc_room, cppc_state}
 
 -- ---- a good command
 

@@ -1,14 +1,14 @@
 -- Loops over entries.
-use Rattle.std.proofs.Common.{◌≡◌, ℕ, zero, suc, ◌+◌, ◌<◌, ◌≤◌, List, [], ◌∷◌, length, get_or, map, set, replicate, Option, Some, None, inl, inr, refl, sym, ap, ◌∙◌, subst, zero-add, arith}
+use Rattle.std.proofs.Common.{◌≡◌, ℕ, ◌+◌, ◌<◌, ◌≤◌, List, length, get_or, map, set, replicate, Option, None, inl, inr, refl, sym, ap, ◌∙◌, subst, zero-add, arith}
 use Rattle.std.proofs.lemmas.Bool.{cases_lt}
 use Rattle.std.proofs.lemmas.List.{ext_get_or, get_or-map, get_or-set_other, get_or-set_same, length-map, length-replicate, length-set}
 use Rattle.std.specs.List.{range_with_len}
 use Rattle.std.proofs.lemmas.List.FromFn.{length-range_with_len, get_or-range_with_len}
-use Rattle.cpc_package.specs.Bindings.{CanRead, HasWidth, IsRight, LiesIn, number_in, source_at}
+use Rattle.cpc_package.specs.Bindings.{CanRead, IsRight, LiesIn, number_in, source_at}
 use Rattle.cpc_package.specs.declared.binding.Binding.{Binding}
 use Rattle.cpc_package.specs.declared.binding.Source1.{Source1}
 use Rattle.cpc_package.specs.declared.binding.Source1.TheVariants.{Missing, Number, At}
-use Rattle.cppc_device.specs.Ranges.{Fits, values_in}
+use Rattle.cppc_device.specs.Ranges.{values_in}
 
 -- the numbers of the first n sources
 pub record Numbered (sources : List Source1) (space : List ℕ) (n : ℕ) (entries : List (Option ℕ)) : Type 0 where

@@ -1,15 +1,14 @@
 -- The commands over all entries and all processors.
-use Rattle.std.proofs.Common.{◌≡◌, ℕ, zero, suc, ◌+◌, ◌<◌, ◌≤◌, List, [], ◌∷◌, ◌++◌, All, length, get_or, take, Option, Some, None, inl, inr, refl, sym, ap, ◌∙◌, subst, arith}
-use Rattle.std.specs.Prelude.{AllPairs, bit_or, flat_map}
-use Rattle.std.proofs.lemmas.List.{append_assoc, append-nil, length-take, take_all, take_more}
+use Rattle.std.proofs.Common.{◌≡◌, ℕ, zero, suc, ◌+◌, ◌<◌, ◌≤◌, List, [], ◌∷◌, ◌++◌, length, get_or, take, Option, Some, refl, sym, ap, ◌∙◌, subst, arith}
+use Rattle.std.specs.Prelude.{bit_or, flat_map}
+use Rattle.std.proofs.lemmas.List.{append_assoc, append-nil, take_all, take_more}
 use Rattle.std.proofs.lemmas.List.Concat.{flat_map-append}
 use Rattle.pcc_bytes.specs.Bytes.{IsBytes}
 use Rattle.pcc_gas.specs.Changes.{AreApartFrom, IsApartFrom, with_changes}
 use Rattle.pcc_gas.specs.declared.change.Change.{Change}
 use Rattle.pcc_gas.specs.declared.field.Field.{Field}
 use Rattle.pcc_gas.proofs.Changes.{changes-apart, changes-length, changes-more, changes-none}
-use Rattle.pcc_gas.specs.Fields.{field_value}
-use Rattle.cpc_package.specs.Bindings.{AreProcessors, CanRead, IsRight, LiesIn, ShareBit, number_in, source_at}
+use Rattle.cpc_package.specs.Bindings.{AreProcessors, IsRight, ShareBit, number_in, source_at}
 use Rattle.cpc_package.specs.declared.binding.Binding.{Binding}
 use Rattle.cpc_package.specs.declared.binding.Source1.{Source1}
 use Rattle.cpc_package.specs.declared.binding.Source1.TheVariants.{Missing, Number, At}

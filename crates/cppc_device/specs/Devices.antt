@@ -1,6 +1,6 @@
 -- A controller of performance (ACPI 6.5, 8.4.6): what its two commands make of its registers. Each new value is made of the old
 -- registers, for all processors at once.
-use Rattle.std.specs.Prelude.{◌≡◌, ◌<◌, ◌≤◌, ◌+◌, ◌-◌, ◌%◌, ◌^◌, ◌==◌, nat_le, nat_lt, min, bit_or, if◌then◌else◌, ℕ, List, [], ◌∷◌, ◌++◌, AllPairs, All, flat_map, fold, length, unwrap_or, Option, Some, None}
+use Rattle.std.specs.Prelude.{◌<◌, ◌+◌, ◌-◌, ◌%◌, ◌^◌, nat_le, nat_lt, min, bit_or, if◌then◌else◌, ℕ, List, [], ◌∷◌, ◌++◌, AllPairs, flat_map, fold, length, unwrap_or, Option, Some, None}
 use Rattle.pcc_bytes.specs.Bytes.{IsBytes}
 use Rattle.pcc_gas.specs.Changes.{change, with_changes}
 use Rattle.pcc_gas.specs.Fields.{field_value}

@@ -1,14 +1,11 @@
 -- A command leaves such a device, of the same room.
 use Rattle.std.proofs.Common.{◌≡◌, ℕ, Bool, true, false, List, length, cond, eqb, refl, sym, ap, ◌∙◌, subst}
-use Rattle.pcc_bytes.specs.Bytes.{IsBytes}
-use Rattle.pcc_gas.specs.Changes.{with_changes}
 use Rattle.pcc_gas.specs.declared.change.Change.{Change}
 use Rattle.pcc_gas.proofs.Changes.{changes-bytes, changes-length}
-use Rattle.pcc_history.specs.Devices.{Executed}
 use Rattle.pcc_exec.specs.Execution.{IsSpace, Leaves}
 use Rattle.cpc_package.specs.Bindings.{AreProcessors}
 use Rattle.cppc_device.specs.Devices.{Cppc, IsDevice, after_changes, sampled, written}
-use Rattle.cppc_device.specs.States.{IsCppc, cppc_exec, cppc_in, cppc_room, cppc_state, executed, good_of}
+use Rattle.cppc_device.specs.States.{IsCppc, cppc_exec, cppc_room, cppc_state, executed, good_of}
 use Rattle.cppc_device.specs.StateLaws.{state_back}
 
 pub room_is : (device : Cppc) → cppc_room (cppc_state device) ≡ length device.registers

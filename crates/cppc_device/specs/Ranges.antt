@@ -1,5 +1,5 @@
 -- Whether the performance that is asked of a processor lies in the range that it advertises (ACPI 6.5, 8.4.6.1.2).
-use Rattle.std.specs.Prelude.{◌≡◌, ◌<◌, ◌≤◌, ℕ, List, [], ◌∷◌, All, length, map, slice_index_or, Option, Some, None}
+use Rattle.std.specs.Prelude.{◌<◌, ◌≤◌, ℕ, List, [], ◌∷◌, length, map, slice_index_or, Option, Some, None}
 use Rattle.std.specs.List.{range_with_len}
 use Rattle.cpc_package.specs.Bindings.{CanRead, number_in, source_at}
 use Rattle.cpc_package.specs.declared.binding.Binding.{Binding}

@@ -43,3 +43,12 @@ half_bytes start = record {
       Missing ∷ Missing ∷ Number 300 ∷ Missing ∷ Missing ∷ Number 0 ∷ Missing ∷ field start 4 ∷ Missing ∷ Missing ∷ Missing ∷ Missing
       ∷ Missing ∷ Missing ∷ field (start + 4) 4 ∷ Missing ∷ Missing ∷ Missing ∷ Missing ∷ Missing ∷ Missing ∷ Missing ∷ Missing ∷ [];
 }
+
+-- a processor of revision 2 whose registers are bytes, each at the byte of its entry's number
+abbrev pub byte_fields : Binding
+byte_fields = record {
+  subspace = 0;
+  sources =
+      Missing ∷ Missing ∷ Number 300 ∷ Number 200 ∷ Number 80 ∷ Number 10 ∷ Missing ∷ field 56 8 ∷ field 64 8 ∷ field 72 8 ∷ field 80 8 ∷ field 88 8
+      ∷ Number 0 ∷ field 104 8 ∷ field 112 8 ∷ field 120 8 ∷ field 128 8 ∷ field 136 8 ∷ field 144 8 ∷ field 152 8 ∷ Number 100 ∷ Missing ∷ Missing ∷ [];
+}

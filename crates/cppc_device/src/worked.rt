@@ -1,12 +1,13 @@
 //! Worked cases, on which the definitions are evaluated.
-ghost use Rattle.std.specs.Prelude.{◌≡◌, [], ◌∷◌, true, false, Some, None};
+ghost use Rattle.std.specs.Prelude.{◌≡◌, [], ◌∷◌, ◌++◌, replicate, true, false, Some, None};
+ghost use Rattle.std.specs.List.{range_with_len};
 ghost use Rattle.pcc_gas.specs.Changes.{with_changes};
 ghost use Rattle.cpc_package.specs.declared.binding.Source1.TheVariants.{Missing, Number};
 ghost use Rattle.cppc_device.specs.Devices.{in_force, sampled, written};
 ghost use Rattle.cppc_device.specs.Openings.{device_fault};
 ghost use Rattle.cppc_device.specs.Ranges.{InRange, performances, values_in};
 ghost use Rattle.cppc_device.specs.States.{cppc_exec, cppc_room, cppc_state};
-ghost use Rattle.cppc_device.specs.Worked.{alone, cap, field, half_bytes, processor, registers, six_fields};
+ghost use Rattle.cppc_device.specs.Worked.{alone, byte_fields, cap, field, half_bytes, processor, registers, six_fields};
 ghost use Rattle.cppc_device.specs.declared.device.DeviceFault.TheVariants.{CapOrder, ImageTooLong};
 
 /// What both commands make of the registers. It does nothing.
@@ -32,9 +33,17 @@ pub fn worked_commands()
     ensures below_minimum { with_changes (sampled (alone six_fields (cap 0 9 ∷ []) 0 (registers 100 10 250 4 0 0))) (registers 100 10 250 4 0 0)
         ≡ registers 100 10 250 7 100 9 }
 
+    // A minimum performance that is no field isn't noted.
+    ensures number_minimum { with_changes (sampled (alone (processor (Number 50) (field 128 64) (field 192 64) (field 96 32) (Number 100)) (cap 0 9 ∷ []) 0
+        (registers 100 0 250 0 0 0))) (registers 100 0 250 0 0 0) ≡ registers 100 0 250 1 100 9 }
+
     // A write takes the desired, the minimum and the maximum performance and the note of a limit, and no counter.
     ensures write { with_changes (written (alone six_fields [] 0 (registers 100 10 250 3 1 2)) (registers 150 20 240 0 8 9)) (registers 100 10 250 3 1 2)
         ≡ registers 150 20 240 0 1 2 }
+
+    // It takes each field that an operating system writes.
+    ensures write_each { with_changes (written (alone byte_fields [] 0 (replicate 20 0)) (range_with_len 100 20)) (replicate 20 0)
+        ≡ replicate 7 0 ++ range_with_len 107 5 ++ replicate 3 0 ++ range_with_len 115 5 }
 
     // The last cap that has begun is in force.
     ensures no_cap { in_force (cap 1 90 ∷ cap 3 95 ∷ []) 0 ≡ None }
@@ -82,4 +91,7 @@ pub fn worked_ranges()
     ensures without_minimum { InRange (processor Missing Missing Missing Missing Missing) (registers 100 101 250 0 0 0) }
     ensures values { values_in six_fields (registers 100 10 250 1 2 3) ≡ None ∷ None ∷ Some 300 ∷ Some 200 ∷ Some 80 ∷ Some 10 ∷ None ∷ Some 100
         ∷ Some 10 ∷ Some 250 ∷ None ∷ None ∷ Some 0 ∷ Some 2 ∷ Some 3 ∷ Some 1 ∷ None ∷ Some 0 ∷ None ∷ None ∷ Some 100 ∷ Some 400 ∷ Some 2000 ∷ [] }
+    ensures values_of_2 { values_in byte_fields (range_with_len 0 20) ≡ None ∷ None ∷ Some 300 ∷ Some 200 ∷ Some 80 ∷ Some 10 ∷ None ∷ Some 7
+        ∷ Some 8 ∷ Some 9 ∷ Some 10 ∷ Some 11 ∷ Some 0 ∷ Some 13 ∷ Some 14 ∷ Some 15 ∷ Some 16 ∷ Some 17 ∷ Some 18 ∷ Some 19 ∷ Some 100
+        ∷ None ∷ None ∷ [] }
 {}

@@ -4,4 +4,6 @@
 #[cfg(test)]
 mod controllers;
 #[cfg(test)]
+mod revisions;
+#[cfg(test)]
 mod wishes;

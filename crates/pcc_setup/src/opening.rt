@@ -1,5 +1,5 @@
 //! The structure that an `open` line names is wired, or refused.
-ghost use Rattle.std.specs.Prelude.{◌≡◌, ◌<◌, ◌∷◌, ◌++◌, [], None, Some, IfOk, IfSome, MatchResult, length, nat_le, slice_get, take};
+ghost use Rattle.std.specs.Prelude.{◌≡◌, ◌<◌, ◌∷◌, ◌++◌, [], None, Some, IfOk, IfSome, MatchResult, length, nat_le, option_map, slice_get, take};
 ghost use Rattle.pcc_script.specs.declared.scenario.OpenLine.{OpenLine};
 ghost use Rattle.pcc_setup.specs.Openings.{
   AllOpen,
@@ -93,12 +93,12 @@ fn head_by(device: &Device, wiring: &Wiring, subspace: &Subspace) -> JournalHead
 }
 
 // The structure with this ID.
-fn structure_of(table: &Table, id: u8) -> Option<Subspace>
-    ensures { result ≡ slice_get table.now.subspaces id }
+fn structure_of(table: &Table, id: u8) -> Option<&Subspace>
+    ensures { option_map (λ s. s.now) result ≡ slice_get table.now.subspaces id }
 {
     let place = id as usize;
     if place < table.subspaces.len() {
-        Some(*table.subspaces.at(place))
+        Some(table.subspaces.at(place))
     } else {
         None
     }
@@ -120,17 +120,21 @@ fn asks_on(device: &Device, kind: u8) -> Asks
 
 /// A structure and its wiring.
 #[derive(Clone, Copy)]
-struct Wired {
-    subspace: Subspace,
+struct Wired<'a> {
+    subspace: &'a Subspace,
     wiring: Wiring,
 }
 
 // The structure that the line at a place opens, or why it opens nothing.
-fn wired_line(table: &Table, opens: &Opens, place: usize) -> Result<Wired, OpenFault>
+fn wired_line<'a>(
+    table: &'a Table,
+    opens: &Opens,
+    place: usize,
+) -> Result<Wired<'a>, OpenFault>
     requires { place < length opens.now }
     ensures { MatchResult result
         (λ w. (line : OpenLine) × (slice_get opens.now place ≡ Some line) × (line_fault table.now (take place opens.now) line ≡ None)
-        × (slice_get table.now.subspaces line.id ≡ Some w.subspace) × (w.wiring ≡ wiring_with line.id table.now.flags w.subspace))
+        × (slice_get table.now.subspaces line.id ≡ Some w.subspace.now) × (w.wiring ≡ wiring_with line.id table.now.flags w.subspace.now))
         (λ fault. (line : OpenLine) × (slice_get opens.now place ≡ Some line) × (line_fault table.now (take place opens.now) line ≡ Some fault)) }
 {
     let line = opens.at(place);
@@ -142,7 +146,7 @@ fn wired_line(table: &Table, opens: &Opens, place: usize) -> Result<Wired, OpenF
         return Err(OpenFault::OpenedTwice);
     }
     let asks = asks_on(&line.device, subspace.kind());
-    match wiring_of(&subspace, id, table.flags, asks) {
+    match wiring_of(subspace, id, table.flags, asks) {
         Ok(wiring) => {
             if image_of(&line.device).len() <= wiring.room as usize {
                 Ok(Wired { subspace, wiring })
@@ -157,7 +161,7 @@ fn wired_line(table: &Table, opens: &Opens, place: usize) -> Result<Wired, OpenF
 // A structure opened as a device, before it gets its processors and its caps.
 fn opened_as(alloc: Global, device: &Device, wired: &Wired) -> Result<Opened, NoMemory>
     ensures { IfOk result (λ o. o ≡ record {
-      head = head_by device.now wired.now.wiring wired.now.subspace;
+      head = head_by device.now wired.now.wiring wired.now.subspace.now;
       wiring = wired.now.wiring;
       image = image_of device.now;
       cpus = [];
@@ -165,7 +169,7 @@ fn opened_as(alloc: Global, device: &Device, wired: &Wired) -> Result<Opened, No
     }) }
 {
     Ok(Opened {
-        head: head_by(device, &wired.wiring, &wired.subspace),
+        head: head_by(device, &wired.wiring, wired.subspace),
         wiring: wired.wiring,
         image: Bytes::from_vec(Vec::from_slice(alloc, image_of(device))?),
         cpus: Cpus::new(alloc),

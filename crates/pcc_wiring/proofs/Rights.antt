@@ -1,5 +1,5 @@
 -- The wiring of a structure without a fault is right.
-use Rattle.std.proofs.Common.{◌≡◌, ◌≢◌, ℕ, suc, zero, ◌-◌, ◌*◌, ◌/◌, ◌%◌, ◌^◌, ◌<◌, ◌≤◌, ◌==◌, ◌&&◌, ◌||◌, not, min, Bool, true, false, [], ◌∷◌, Option, Some, None, Result, Ok, subst, bit_and, bit_or, refl, sym, arith}
+use Rattle.std.proofs.Common.{◌≡◌, ◌≢◌, ℕ, suc, zero, ◌-◌, ◌*◌, ◌/◌, ◌%◌, ◌^◌, ◌<◌, ◌≤◌, ◌==◌, ◌&&◌, ◌||◌, not, min, Bool, true, false, [], ◌∷◌, Option, Some, None, Result, Ok, subst, bit_and, bit_or, refl, sym, ◌∙◌, arith}
 use Rattle.std.proofs.lemmas.Bool.Decides.{nat_tests}
 use Rattle.std.proofs.Math.Nat.{mod-eq_of_lt, pow-le-pow_right}
 use Rattle.pcc_steps.specs.Kinds.{IsHeaded, is_headed, is_initiator, is_responder}
@@ -7,6 +7,8 @@ use Rattle.pcc_steps.specs.Wires.{IsRight}
 use Rattle.pcc_steps.specs.declared.wiring.Wiring.{Wiring}
 use Rattle.pcct_table.specs.declared.subspace.Subspace.{Subspace}
 use Rattle.pcct_table.specs.Subspaces.{kind_of, memory_len_of}
+use Rattle.pcct_table.specs.declared.other.Other.{Other}
+use Rattle.pcct_table.specs.declared.subspace.Subspace.TheVariants as Sub
 use Rattle.pcct_table.specs.declared.subspace.Subspace.TheVariants.{Generic, HwReduced1, HwReduced2, Initiator, Responder, HwRegister}
 use Rattle.pcc_wiring.specs.declared.fault.Asks.{Asks}
 use Rattle.pcc_wiring.specs.declared.fault.WiringFault.{WiringFault}
@@ -68,7 +70,7 @@ record IsSound (w : Wiring) : Type 0 where
   clears : (not (is_initiator w.kind && w.joined) || bit_and (bit_or w.update.preserve w.update.set) w.check_mask == 0) ≡ true
   sets : (not (is_responder w.kind && w.joined) || not (bit_and w.update.set w.check_mask == 0)) ≡ true
 
-is_sound : (id flags : ℕ) (asks : Asks) (s : Subspace) → fault_of asks s ≡ None → IsSound (wiring_with id flags s)
+is_sound : (id flags : ℕ) (asks : Asks) (s : Subspace) → fault_by asks (memory_len_of s) (roles_of s) (wiring_with 0 0 s) ≡ None → IsSound (wiring_with id flags s)
 is_sound id flags asks s none =
     let w = wiring_with id flags s in
     let h = none_holds (is_asked_by w.kind asks) (not (w.room == 0)) (registers_fault w.kind (roles_of s))
@@ -152,14 +154,25 @@ is_right id flags asks (HwRegister t) none =
       sets = λ x. absurd (omega arith);
       quiet = λ x. refl;
     }
+is_right id flags asks (Sub.Other o) none = absurd cc
+
+-- a structure of a known type has the faults of its wiring
+pub known_fault : (asks : Asks) (s : Subspace) → ((o : Other) → s ≡ Sub.Other o → ⊥) → fault_of asks s ≡ fault_by asks (memory_len_of s) (roles_of s) (wiring_with 0 0 s)
+known_fault asks (Generic t) known = refl
+known_fault asks (HwReduced1 t) known = refl
+known_fault asks (HwReduced2 t) known = refl
+known_fault asks (Initiator t) known = refl
+known_fault asks (Responder t) known = refl
+known_fault asks (HwRegister t) known = refl
+known_fault asks (Sub.Other o) known = absurd (known o refl)
 
 -- the same of a structure whose tests were all passed
 pub is_told_right : (asks : Asks) (id flags len : ℕ) (s : Subspace) (roles : Roles) (w : Wiring) (answer : Result (Unit {0}) WiringFault) (u : Unit {0})
-    → w ≡ wiring_with id flags s → roles ≡ roles_of s → len ≡ memory_len_of s
+    → ((o : Other) → s ≡ Sub.Other o → ⊥) → w ≡ wiring_with id flags s → roles ≡ roles_of s → len ≡ memory_len_of s
     → Tells answer (fault_by asks len roles w) → answer ≡ Ok u → IsRight w
-is_told_right asks id flags len s roles w answer u wired by_roles by_len tells ok =
+is_told_right asks id flags len s roles w answer u known wired by_roles by_len tells ok =
     let h : fault_by asks len roles w ≡ None = subst (λ (t : Result (Unit {0}) WiringFault). Tells t (fault_by asks len roles w)) ok tells in
     let a = subst (λ (x : Wiring). fault_by asks len roles x ≡ None) wired h in
     let b = subst (λ (x : Roles). fault_by asks len x (wiring_with id flags s) ≡ None) by_roles a in
     let c = subst (λ (x : ℕ). fault_by asks x (roles_of s) (wiring_with id flags s) ≡ None) by_len b in
-    rw wired (is_right id flags asks s c)
+    rw wired (is_right id flags asks s (known_fault asks s known ∙ c))

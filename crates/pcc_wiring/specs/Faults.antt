@@ -4,13 +4,14 @@ use Rattle.pcc_gas.specs.declared.address.Gas.{Gas}
 use Rattle.pcc_steps.specs.declared.wiring.Wiring.{Wiring}
 use Rattle.pcc_steps.specs.Kinds.{is_headed, is_initiator, is_responder}
 use Rattle.pcct_table.specs.declared.subspace.Subspace.{Subspace}
+use Rattle.pcct_table.specs.declared.subspace.Subspace.TheVariants.{Other}
 use Rattle.pcct_table.specs.Subspaces.{memory_len_of}
 use Rattle.pcc_wiring.specs.declared.fault.Asks.{Asks}
 use Rattle.pcc_wiring.specs.declared.fault.Asks.TheVariants.{System, Platform}
 use Rattle.pcc_wiring.specs.declared.fault.Role.{Role}
 use Rattle.pcc_wiring.specs.declared.fault.Role.TheVariants.{Doorbell, Acknowledge, Check, Update, Error}
 use Rattle.pcc_wiring.specs.declared.fault.WiringFault.{WiringFault}
-use Rattle.pcc_wiring.specs.declared.fault.WiringFault.TheVariants.{WrongRole, SpaceTooSmall, RegisterSpace, RegisterWidth, NoCheckMask, NeverClears, NeverSets}
+use Rattle.pcc_wiring.specs.declared.fault.WiringFault.TheVariants.{UnknownType, WrongRole, SpaceTooSmall, RegisterSpace, RegisterWidth, NoCheckMask, NeverClears, NeverSets}
 use Rattle.pcc_wiring.specs.declared.roles.Roles.{Roles}
 use Rattle.pcc_wiring.specs.declared.roles.Watched.{Watched}
 use Rattle.pcc_wiring.specs.declared.roles.Written.{Written}
@@ -85,8 +86,9 @@ fault_by asks len roles w = first_of (
     ∷ masks_fault w
     ∷ [])
 
--- the first fault of a structure, where this side is to ask
+-- the first fault of a structure, where this side is to ask: that its type is unknown, or one of a known type
 abbrev pub fault_of : Asks → Subspace → Option WiringFault
+fault_of asks (Other o) = Some (UnknownType o.kind)
 fault_of asks s = fault_by asks (memory_len_of s) (roles_of s) (wiring_with 0 0 s)
 
 -- its wiring where it has no fault, else the first

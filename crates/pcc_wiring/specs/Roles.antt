@@ -1,8 +1,9 @@
 -- The registers of a structure by what they are for (ACPI 6.5, 14.1.3 to 14.1.7).
 use Rattle.std.specs.Prelude.{ℕ, Some, None}
 use Rattle.pcct_table.specs.declared.subspace.Subspace.{Subspace}
-use Rattle.pcct_table.specs.declared.subspace.Subspace.TheVariants.{Generic, HwReduced1, HwReduced2, Initiator, Responder, HwRegister}
+use Rattle.pcct_table.specs.declared.subspace.Subspace.TheVariants.{Generic, HwReduced1, HwReduced2, Initiator, Responder, HwRegister, Other}
 use Rattle.pcct_table.specs.declared.extended.Type34.{Type34}
+use Rattle.pcct_table.specs.Subspaces.{doorbell_of}
 use Rattle.pcc_wiring.specs.declared.roles.Roles.{Roles}
 use Rattle.pcc_wiring.specs.declared.roles.Watched.{Watched}
 use Rattle.pcc_wiring.specs.declared.roles.Written.{Written}
@@ -28,7 +29,8 @@ extended_roles t = record {
   error = Some (watch_by t.error t.error_mask);
 }
 
--- types 0 and 1 have a doorbell; type 2 an acknowledge register besides; type 5 a check and an error register
+-- types 0 and 1 have a doorbell; type 2 an acknowledge register besides; type 5 a check and an error register; of an unknown type no register
+-- is known
 abbrev pub roles_of : Subspace → Roles
 roles_of (Generic t) = doorbell_alone (write_by t.doorbell t.preserve t.write)
 roles_of (HwReduced1 t) = doorbell_alone (write_by t.doorbell t.preserve t.write)
@@ -39,3 +41,4 @@ roles_of (HwRegister t) = record (doorbell_alone (write_by t.doorbell t.preserve
   check = Some (watch_by t.check t.check_mask);
   error = Some (watch_by t.error t.error_mask);
 }
+roles_of (Other o) = doorbell_alone (write_by (doorbell_of (Other o)) 0 0)

@@ -27,7 +27,9 @@ pub enum Role {
 /// Why a subspace can't be opened.
 #[derive(Clone, Copy, Debug, PartialEq, Eq)]
 pub enum WiringFault {
-    /// The platform asks on type 4, the operating system on the other types.
+    /// The structure is of a type of a later release.
+    UnknownType { kind: u8 },
+    /// The platform asks on type 4, the operating system on the types 0 to 3 and 5.
     WrongRole,
     /// The shared memory has no room for its header and 8 bytes; `len` is its length in bytes.
     SpaceTooSmall { len: u64 },

@@ -83,5 +83,6 @@ pub fn roles_of(subspace: &Subspace) -> Roles
             error: Some(watch_by(t.error, t.error_mask)),
             ..doorbell_alone(write_by(t.doorbell, t.preserve, t.write))
         },
+        Subspace::Other(_) => doorbell_alone(write_by(subspace.doorbell(), 0, 0)),
     }
 }

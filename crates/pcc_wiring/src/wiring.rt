@@ -221,14 +221,18 @@ fn test(asks: Asks, len: u64, roles: &Roles, wiring: &Wiring) -> Result<(), Wiri
     masks_test(wiring)
 }
 
-/// The wiring of a structure with this ID, in a table with these flags, where this side is to ask; or the first of its faults: the side, the
+/// The wiring of a structure with this ID, in a table with these flags, where this side is to ask; or the first of its faults: an unknown type, the side, the
 /// length of the shared memory, each register in the order of the roles (its space before its width), then completion that nobody could see,
 /// clear or set. An acknowledge or an error register may be absent, and so may the doorbell of type 4. Masks are cut to the width of their own register.
+#[tactic(auto, using(crate::proofs::Rights::known_fault))]
 pub fn wiring_of(subspace: &Subspace, id: u8, flags: u32, asks: Asks) -> Result<Wiring, WiringFault>
     ensures exact { result ≡ opened_as (wiring_with id flags subspace.now) (fault_of asks subspace.now) }
     // A wiring that both ends can work with.
     ensures right { IfOk result IsRight }
 {
+    if let Subspace::Other(other) = subspace {
+        return Err(WiringFault::UnknownType { kind: other.kind });
+    }
     let roles = roles_of(subspace);
     let wiring = wiring_with(subspace, &roles, id, flags);
     test(asks, subspace.memory_len(), &roles, &wiring)?;

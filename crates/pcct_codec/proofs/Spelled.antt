@@ -1,6 +1,5 @@
 -- The bytes of structures decide no fault, spell these structures alone, and are their one spelling.
 use Rattle.std.proofs.Common.{◌≡◌, ℕ, zero, suc, ◌+◌, ◌<◌, ◌≤◌, eqb, ltb, false, List, [], ◌∷◌, ◌++◌, length, take, drop, slice_index, refl, sym, ap, ◌∙◌, subst, arith, Ok}
-use Rattle.std.specs.Prelude.{Some}
 use Rattle.std.specs.List.{flat_map}
 use Rattle.std.proofs.lemmas.Bool.{eq-eqb, le-ltb}
 use Rattle.std.proofs.lemmas.Bool.Decides.{nat_tests}
@@ -8,7 +7,6 @@ use Rattle.std.proofs.lemmas.List.{take_at, drop_at, length-append, get_or_appen
 use Rattle.pcc_bytes.specs.Bytes.{IsBytes}
 use Rattle.pcc_bytes.proofs.Bytes.{IsBytes-drop, IsBytes-take}
 use Rattle.pcct_table.specs.declared.subspace.Subspace.{Subspace}
-use Rattle.pcct_table.specs.Rows.{size_of_kind}
 use Rattle.pcct_table.specs.Subspaces.{SubspaceBytes, kind_of, subspace_bytes}
 use Rattle.pcct_table.proofs.Laws.{one_structure, spelling}
 use Rattle.pcct_codec.specs.Tables.{Structures}

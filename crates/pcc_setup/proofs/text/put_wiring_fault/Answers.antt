@@ -11,3 +11,6 @@ returns-in-RegisterWidth c = rw (c.in-RegisterWidth.is, ← c.role_word-in-Regis
 
 pub returns-in-NeverSets : goal.returns-in-NeverSets
 returns-in-NeverSets c = rw c.in-NeverSets.is c.put_pieces-in-NeverSets.ensures
+
+pub returns-in-UnknownType : goal.returns-in-UnknownType
+returns-in-UnknownType c = rw c.in-UnknownType.is c.put_numbered.ensures
