@@ -16,8 +16,6 @@ mod scripts;
 #[cfg(test)]
 mod streams;
 #[cfg(test)]
-mod structures;
-#[cfg(test)]
 mod table_texts;
 #[cfg(test)]
 mod tables;

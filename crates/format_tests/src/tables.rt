@@ -95,20 +95,26 @@ fn the_first_check_that_fails_is_told(rt: HostRuntime) -> Result<(), Fail> {
         kind: 2,
         found: 62,
     };
+    let no_size = TableFault::SubspaceLength {
+        at: 48,
+        kind: 6,
+        found: 1,
+    };
     // The changes to a table with one generic subspace, what is reported, and how many of its 110 bytes are left.
-    let cases: [(&[(usize, u8)], TableFault, usize); 13] = [
+    let cases: [(&[(usize, u8)], TableFault, usize); 14] = [
         (&[(0, 0x51)], TableFault::Signature, 62),
         (&[(4, 47)], TableFault::LengthOutside { len: 47 }, 62),
         (
-            &[(4, 0x31), (5, 0xa4)],
-            TableFault::LengthOutside { len: 42_033 },
+            &[(4, 0x31), (5, 0xff)],
+            TableFault::LengthOutside { len: 65_329 },
             62,
         ),
         (&[(8, 3)], TableFault::Revision { found: 3 }, 62),
         (&[(4, 0x6f), (8, 0)], TableFault::Revision { found: 0 }, 62),
         (&[(4, 0x6f)], TableFault::Short { at: 110 }, 0),
         (&[(48, 2), (9, 0x6c)], size, 0),
-        (&[(48, 6)], TableFault::SubspaceType { at: 48, kind: 6 }, 0),
+        (&[(48, 6), (49, 1)], no_size, 0),
+        (&[(48, 6)], TableFault::Checksum { sum: 6 }, 0),
         (&[(4, 50), (48, 2)], size, 60),
         (&[(4, 109)], TableFault::Overrun { at: 48 }, 1),
         (&[(4, 49)], TableFault::Overrun { at: 48 }, 61),

@@ -143,7 +143,7 @@ fn lines_of_refusals(rt: HostRuntime) -> Result<(), Fail> {
     let register = WiringFault::RegisterWidth {
         role: Role::Acknowledge,
     };
-    let rows: [(Refusal, &[u8]); 11] = [
+    let rows: [(Refusal, &[u8]); 13] = [
         (Refusal::Long, b"refused long\n"),
         (
             Refusal::Script {
@@ -201,10 +201,18 @@ fn lines_of_refusals(rt: HostRuntime) -> Result<(), Fail> {
             b"refused open 0 space 15\n",
         ),
         (
+            Refusal::Open {
+                id: 255,
+                fault: OpenFault::Unwired(WiringFault::UnknownType { kind: 6 }),
+            },
+            b"refused open 255 unknown type 6\n",
+        ),
+        (
             Refusal::Meet(Overlap { a: 1, b: 0 }),
             b"refused overlap 1 0\n",
         ),
         (Refusal::Use(UseFault::Wait), b"refused use wait\n"),
+        (Refusal::Use(UseFault::Audit), b"refused use audit\n"),
     ];
     for (refusal, text) in rows {
         let line = refused_line(alloc, refusal)?;

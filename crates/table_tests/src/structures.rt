@@ -1,6 +1,9 @@
 //! Each type's structure of bytes that count their places, and the list.
-ghost use Rattle.std.specs.Prelude.{◌≡◌, ◌≤◌, length, slice_index};
+ghost use Rattle.std.specs.Prelude.{◌≡◌, ◌≤◌, IfOk, Some, length, slice_index};
+ghost use Rattle.pcct_table.specs.Rows.{size_of_kind};
+ghost use Rattle.pcct_table.specs.Subspaces.{IsSubspace};
 
+use pcc_bytes::are_bytes;
 use pcc_gas::Gas;
 use pcc_io::NoMemory;
 use pcct_table::{
@@ -57,10 +60,26 @@ fn told(subspace: &Subspace) -> (u8, u64, u64, u32, u32, Gas) {
     )
 }
 
-fn spelled_again(alloc: Global, subspace: Subspace, bytes: &[u8]) -> Result<bool, NoMemory> {
+// The structure that the bytes spell.
+#[tactic(auto, using(crate::proofs::Spelled::is_subspace))]
+fn read(alloc: Global, bytes: &[u8]) -> Result<Subspace, NoMemory>
+    requires size { size_of_kind (slice_index bytes.now 0) (length bytes.now) ≡ Some (length bytes.now) }
+    requires told { slice_index bytes.now 1 ≡ length bytes.now }
+    ensures { IfOk result IsSubspace }
+{
+    are_bytes(bytes);
+    subspace_from(alloc, bytes)
+}
+
+// Whether it is written as these bytes, and has as many as its type and its second byte say.
+fn spelled_again(alloc: Global, subspace: &Subspace, bytes: &[u8]) -> Result<bool, NoMemory>
+    requires right { IsSubspace subspace.now }
+    requires head { 2 ≤ length bytes.now }
+{
     let mut out = Vec::new(alloc);
     put_subspace(&mut out, subspace)?;
-    Ok(out.as_slice() == bytes && size_of_kind(subspace.kind()).map(usize::from) == Some(out.len()))
+    let size = size_of_kind(subspace.kind(), bytes[1]).map(usize::from);
+    Ok(out.as_slice() == bytes && size == Some(out.len()))
 }
 
 #[test]
@@ -69,19 +88,19 @@ fn types_0_to_2_are_read_and_written(rt: HostRuntime) -> Result<(), Fail> {
     let (base, len, rate, turnaround) = memory;
     let doorbell = gas_of(0x18, 0x232221201f1e1d1c);
     let bytes = counted::<62>(0);
-    let generic = subspace_from(&bytes);
+    let generic = read(rt.alloc(), &bytes)?;
     assert_eq!(rt; told(&generic), (0, base, len, rate, turnaround, doorbell));
-    assert!(rt; spelled_again(rt.alloc(), generic, &bytes)?);
+    assert!(rt; spelled_again(rt.alloc(), &generic, &bytes)?);
 
     let bytes = counted::<62>(1);
-    let reduced = subspace_from(&bytes);
+    let reduced = read(rt.alloc(), &bytes)?;
     assert_eq!(rt; told(&reduced), (1, base, len, rate, turnaround, doorbell));
-    assert!(rt; spelled_again(rt.alloc(), reduced, &bytes)?);
+    assert!(rt; spelled_again(rt.alloc(), &reduced, &bytes)?);
 
     let bytes = counted::<90>(2);
-    let reduced = subspace_from(&bytes);
+    let reduced = read(rt.alloc(), &bytes)?;
     assert_eq!(rt; told(&reduced), (2, base, len, rate, turnaround, doorbell));
-    assert!(rt; spelled_again(rt.alloc(), reduced, &bytes)?);
+    assert!(rt; spelled_again(rt.alloc(), &reduced, &bytes)?);
     Ok(())
 }
 
@@ -90,33 +109,62 @@ fn types_3_to_5_are_read_and_written(rt: HostRuntime) -> Result<(), Fail> {
     let doorbell = gas_of(0x14, 0x1f1e1d1c1b1a1918);
     let (base, len, rate, turnaround) = (0x0f0e0d0c0b0a0908, 0x13121110, 0x37363534, 0x3b3a3938);
     let bytes = counted::<164>(3);
-    let extended = subspace_from(&bytes);
+    let extended = read(rt.alloc(), &bytes)?;
     assert_eq!(rt; told(&extended), (3, base, len, rate, turnaround, doorbell));
-    assert!(rt; spelled_again(rt.alloc(), extended, &bytes)?);
+    assert!(rt; spelled_again(rt.alloc(), &extended, &bytes)?);
 
     let bytes = counted::<164>(4);
-    let extended = subspace_from(&bytes);
+    let extended = read(rt.alloc(), &bytes)?;
     assert_eq!(rt; told(&extended), (4, base, len, rate, turnaround, doorbell));
-    assert!(rt; spelled_again(rt.alloc(), extended, &bytes)?);
+    assert!(rt; spelled_again(rt.alloc(), &extended, &bytes)?);
 
     let bytes = counted::<96>(5);
-    let register = subspace_from(&bytes);
+    let register = read(rt.alloc(), &bytes)?;
     let (base, len) = (0x0b0a090807060504, 0x131211100f0e0d0c);
     assert_eq!(rt; told(&register), (5, base, len, 0, 0x5f5e5d5c, doorbell));
-    assert!(rt; spelled_again(rt.alloc(), register, &bytes)?);
+    assert!(rt; spelled_again(rt.alloc(), &register, &bytes)?);
+    Ok(())
+}
+
+#[test]
+fn types_of_later_releases_are_kept(rt: HostRuntime) -> Result<(), Fail> {
+    let no_register = Gas {
+        space: 0,
+        width: 0,
+        offset: 0,
+        access: 0,
+        address: 0,
+    };
+    let bytes = counted::<5>(6);
+    let later = read(rt.alloc(), &bytes)?;
+    assert_eq!(rt; told(&later), (6, 0, 0, 0, 0, no_register));
+    assert!(rt; spelled_again(rt.alloc(), &later, &bytes)?);
+    let Subspace::Other(other) = later else {
+        return Err("a known type")?;
+    };
+    assert_eq!(rt; other.bytes.as_slice(), [2, 3, 4].as_slice());
+
+    let bytes = counted::<2>(255);
+    let empty = read(rt.alloc(), &bytes)?;
+    assert_eq!(rt; empty.kind(), 255);
+    assert!(rt; spelled_again(rt.alloc(), &empty, &bytes)?);
+    assert_eq!(rt; size_of_kind(6, 1), None);
     Ok(())
 }
 
 #[test]
 fn a_list_of_structures_grows_at_the_end(rt: HostRuntime) -> Result<(), Fail> {
-    let first = subspace_from(&counted::<62>(0));
-    let second = subspace_from(&counted::<96>(5));
+    let first = read(rt.alloc(), &counted::<62>(0))?;
+    let second = read(rt.alloc(), &counted::<96>(5))?;
     let mut subspaces = Subspaces::new(rt.alloc());
     subspaces.push(first)?;
     subspaces.push(second)?;
     assert_eq!(rt; subspaces.len(), 2);
-    assert_eq!(rt; *subspaces.at(1), second);
-    assert_eq!(rt; subspaces.as_slice(), [first, second].as_slice());
+    assert_eq!(rt; subspaces.at(1).kind(), 5);
+    let [first, second] = subspaces.as_slice() else {
+        return Err("another number")?;
+    };
+    assert_eq!(rt; (first.kind(), second.kind()), (0, 5));
     Ok(())
 }
 
