@@ -110,8 +110,8 @@ pub bytes_same : (cpu : Binding) (before input : List ℕ) (n : ℕ) → slice_i
     → WishBitsDiffer cpu before input 0 (8 * n) → WishBitsDiffer cpu before input 0 (8 * (n + 1))
 bytes_same cpu before input n e w = bytes_more cpu before input n (record {
   same = λ bit from lt out.
-    let here : n ≡ bit / 8 = sym (byte_of bit n from lt) in
-    ap (λ (byte : ℕ). bit_at byte (bit % 8)) (subst (λ (i : ℕ). slice_index input i ≡ slice_index before i) here e);
+      let here : n ≡ bit / 8 = sym (byte_of bit n from lt) in
+      ap (λ (byte : ℕ). bit_at byte (bit % 8)) (subst (λ (i : ℕ). slice_index input i ≡ slice_index before i) here e);
 }) w
 
 pub bytes_out : (cpu : Binding) (before input : List ℕ) (n all : ℕ) → n < all

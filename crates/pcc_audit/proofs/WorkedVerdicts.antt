@@ -1,13 +1,12 @@
 -- The facts of the worked journals.
-use Rattle.std.proofs.Common.{◌≡◌, ◌≢◌, ℕ, zero, suc, ◌+◌, ◌<◌, ◌≤◌, true, false, Bool, List, [], ◌∷◌, length, slice_index, slice_index_or, refl, sym, ap, subst, arith}
+use Rattle.std.proofs.Common.{◌≡◌, ◌≢◌, ℕ, zero, suc, ◌+◌, ◌<◌, ◌≤◌, true, false, List, [], ◌∷◌, slice_index, slice_index_or, refl, sym, ap, subst, arith}
 use Rattle.std.specs.Prelude.{None}
 use Rattle.pcc_bytes.specs.Bytes.{IsBytes}
 use Rattle.pcc_gas.specs.Fields.{bit_of, field_value}
-use Rattle.pcc_journal.specs.declared.record.Record.{Record}
 use Rattle.cpc_package.specs.declared.binding.Binding.{Binding}
 use Rattle.cppc_device.specs.Ranges.{InRange}
 use Rattle.cppc_headline.specs.Journals.{AreInRange, DifferInWish, IsUntouched, IsWishBit}
-use Rattle.pcc_audit.specs.Verdicts.{AreFlawless, FlawAt, RecordFlaw}
+use Rattle.pcc_audit.specs.Verdicts.{FlawAt}
 use Rattle.pcc_audit.specs.WishBits.{WishBitsDiffer}
 use Rattle.pcc_audit.specs.Worked.{controller, first_read, processor}
 use Rattle.pcc_audit.proofs.Bits.{bits_same, bits_start, bits_wish, bytes_same, desired_bit, no_wish_bit, one_differs}
@@ -39,6 +38,7 @@ not_in_wish before input a b x = out x.one.0 x.one.1 x.one.2
   where
     out_of : (cpu : Binding) → Outside before input cpu → cpu ≡ x.cpu → ⊥
     out_of cpu o e = o.differs (x.others o.bit (λ is. o.out (subst (λ (c : Binding). IsWishBit c o.bit) (sym e) is)))
+
     out : (k : ℕ) → k < 2 → slice_index_or cpus k x.cpu ≡ x.cpu → ⊥
     out zero lt e = out_of (processor 0) a e
     out (suc zero) lt e = out_of (processor 8) b e

@@ -1,4 +1,4 @@
-use Rattle.std.proofs.Common.{◌≡◌, [], ◌∷◌, refl, ap, arith}
+use Rattle.std.proofs.Common.{[], ◌∷◌, refl, ap, arith}
 use Rattle.pcc_journal.specs.declared.text.JournalHead.{JournalHead}
 use Rattle.pcc_audit.specs.declared.verdict.Flaw.TheVariants as flaw
 use Rattle.pcc_audit.specs.Verdicts.{Flawless, WrongHead, WrongPending}
