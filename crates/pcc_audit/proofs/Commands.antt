@@ -93,6 +93,8 @@ pub sent_has : (head : JournalHead) (cpus : List Binding) (times : List Times) (
     → Judged head cpus times before exec state r (Some flaw)
 sent_has head cpus times before exec state r flaw i o h = first_of _ _ _ _ _ (Some flaw) (i, o) (λ e. cc) h
 
+pub ruleset of_record = (size_flaw, sent_has, reply_has, none_has)
+
 pub pending_size : (head : JournalHead) (cpus : List Binding) (times : List Times) (before : List ℕ) (p : Pending) → length p.input ≢ head.room
     → PendingJudged head cpus times before p (Some Size)
 pending_size head cpus times before p h = h

@@ -3,3 +3,4 @@ pub mod Commands
 pub mod LimitsExactly
 pub mod YesExactly
 pub mod OneVerdict
+mod WorkedVerdicts

@@ -1,5 +1,5 @@
 -- Which bits a command that writes may change, bit by bit.
-use Rattle.std.specs.Prelude.{◌≡◌, ◌<◌, ℕ, List}
+use Rattle.std.specs.Prelude.{◌≡◌, ◌<◌, ◌≤◌, ℕ, List}
 use Rattle.pcc_gas.specs.Fields.{InField, bit_of}
 use Rattle.cpc_package.specs.declared.binding.Binding.{Binding}
 use Rattle.cpc_package.specs.declared.binding.Source1.{Source1}
@@ -12,6 +12,6 @@ IsBitOf Missing bit = ⊥
 IsBitOf (Number value) bit = ⊥
 IsBitOf (At field) bit = InField field bit
 
--- of the first n bits those that differ belong to a wish of the processor
-pub record WishBitsDiffer (cpu : Binding) (before input : List ℕ) (n : ℕ) : Type 0 where
-  pub same : (bit : ℕ) → bit < n → (IsWishBit cpu bit → ⊥) → bit_of input bit ≡ bit_of before bit
+-- of the bits from one on and below another, those that differ belong to a wish of the processor
+pub record WishBitsDiffer (cpu : Binding) (before input : List ℕ) (first last : ℕ) : Type 0 where
+  pub same : (bit : ℕ) → first ≤ bit → bit < last → (IsWishBit cpu bit → ⊥) → bit_of input bit ≡ bit_of before bit

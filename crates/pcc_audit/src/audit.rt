@@ -67,26 +67,26 @@ fn executes_as<E: Executor>(
     device: &mut E,
     reports: bool,
     scratch: &mut [u8],
-    record: &Record,
+    told: &Record,
 ) -> bool
-    requires input { length record.now.input ≡ length scratch.old }
+    requires input { length told.now.input ≡ length scratch.old }
     requires room { E.room_of (E.state device.old) ≡ length scratch.old }
-    ensures legal { IsTrue result ↔ Legal E.exec_of reports (E.state device.old) (exchange_of_record record.now ∷ []) }
-    ensures state { E.state device.new ≡ (E.exec_of (E.state device.old) record.now.code record.now.input).state }
+    ensures legal { IsTrue result ↔ Legal E.exec_of reports (E.state device.old) (exchange_of_record told.now ∷ []) }
+    ensures state { E.state device.new ≡ (E.exec_of (E.state device.old) told.now.code told.now.input).state }
     ensures room { E.room_of (E.state device.new) ≡ E.room_of (E.state device.old) }
     ensures len { length scratch.new ≡ length scratch.old }
 {
-    scratch.copy_from_slice(record.input.as_slice());
-    let status = device.exec(record.code, scratch);
+    scratch.copy_from_slice(told.input.as_slice());
+    let status = device.exec(told.code, scratch);
     let bad = reports && status == ExecStatus::Bad;
-    if record.error != bad {
+    if told.error != bad {
         return false;
     }
-    record.output.as_slice() == scratch
+    told.output.as_slice() == scratch
 }
 
 /// The first flaw of a record, whose command is executed if it has no other flaw than that of its reply.
-#[tactic(auto, using(crate::proofs::Commands::size_flaw, crate::proofs::Commands::sent_has, crate::proofs::Commands::reply_has, crate::proofs::Commands::none_has))]
+#[tactic(auto, using(crate::proofs::Commands::of_record))]
 fn record_flaw<E: Executor>(
     head: &JournalHead,
     cpus: &[Binding],
@@ -94,21 +94,21 @@ fn record_flaw<E: Executor>(
     before: &[u8],
     device: &mut E,
     scratch: &mut [u8],
-    record: &Record,
+    told: &Record,
 ) -> Option<Flaw>
     requires room { E.room_of (E.state device.old) ≡ head.now.room }
     requires scratch { length scratch.old ≡ head.now.room }
     requires before { length before.now ≡ head.now.room }
     requires fit { All (Fits head.now.room) cpus.now }
-    ensures flaw { Judged head.now cpus.now times.now before.now E.exec_of (E.state device.old) record.now result }
-    ensures state { result ≡ None → E.state device.new ≡ (E.exec_of (E.state device.old) record.now.code record.now.input).state }
+    ensures flaw { Judged head.now cpus.now times.now before.now E.exec_of (E.state device.old) told.now result }
+    ensures state { result ≡ None → E.state device.new ≡ (E.exec_of (E.state device.old) told.now.code told.now.input).state }
     ensures room { E.room_of (E.state device.new) ≡ head.now.room }
     ensures len { length scratch.new ≡ head.now.room }
 {
-    if record.input.len() != head.room as usize {
+    if told.input.len() != head.room as usize {
         return Some(Flaw::Size);
     }
-    if record.output.len() != head.room as usize {
+    if told.output.len() != head.room as usize {
         return Some(Flaw::Size);
     }
     if let Some(flaw) = sent_flaw(
@@ -116,13 +116,13 @@ fn record_flaw<E: Executor>(
         cpus,
         times,
         before,
-        record.code,
-        record.input.as_slice(),
-        record.post,
+        told.code,
+        told.input.as_slice(),
+        told.post,
     ) {
         return Some(flaw);
     }
-    if !executes_as(device, head.reports, scratch, record) {
+    if !executes_as(device, head.reports, scratch, told) {
         return Some(Flaw::Legal);
     }
     None

@@ -1,5 +1,5 @@
 //! Whether the input of a controller's command changes only what its code may change, and keeps the ranges (ACPI 6.5, 8.4.6.1.2).
-ghost use Rattle.std.specs.Prelude.{◌≡◌, ◌<◌, ◌^◌, ◌*◌, ◌↔◌, All, IsTrue, length};
+ghost use Rattle.std.specs.Prelude.{◌≡◌, ◌<◌, ◌+◌, ◌^◌, ◌*◌, ◌↔◌, All, IsTrue, length};
 ghost use Rattle.pcc_gas.specs.Fields.{bit_of};
 ghost use Rattle.cppc_device.specs.Ranges.{Fits, InRange};
 ghost use Rattle.cppc_headline.specs.Journals.{AreInRange, DifferInWish, IsUntouched, IsWishBit};
@@ -23,7 +23,7 @@ fn is_bit_of(source: Source1, bit: usize) -> bool
 }
 
 /// Whether a bit belongs to the field of the desired, the minimum or the maximum performance of a processor.
-#[tactic(auto, using(crate::proofs::Bits::desired_bit, crate::proofs::Bits::minimum_bit, crate::proofs::Bits::maximum_bit, crate::proofs::Bits::no_wish_bit))]
+#[tactic(auto, using(crate::proofs::Bits::wish_bits))]
 fn is_wish_bit(cpu: &Binding, bit: usize) -> bool
     ensures { IsTrue result ↔ IsWishBit cpu.now bit }
 {
@@ -44,14 +44,15 @@ fn bit_of(space: &[u8], bit: usize) -> u8
     (space[bit / 8] >> (bit % 8)) & 1
 }
 
-/// Whether two spaces differ at most in these fields of the processor.
-#[tactic(auto, using(crate::proofs::Bits::bits_start, crate::proofs::Bits::bits_same, crate::proofs::Bits::bits_wish, crate::proofs::Bits::bits_out, crate::proofs::Bits::bits_end))]
-fn wish_bits_differ(cpu: &Binding, before: &[u8], input: &[u8]) -> bool
+/// Whether the bits of a byte that differ belong to these fields of the processor.
+#[tactic(auto, using(crate::proofs::Bits::of_bits))]
+fn wish_byte_differs(cpu: &Binding, before: &[u8], input: &[u8], place: usize) -> bool
     requires len { length before.now ≡ length input.now }
     requires small { length input.now < 2 ^ 32 }
-    ensures { IsTrue result ↔ WishBitsDiffer cpu.now before.now input.now (8 * length input.now) }
+    requires within { place < length input.now }
+    ensures { IsTrue result ↔ WishBitsDiffer cpu.now before.now input.now (8 * place) (8 * (place + 1)) }
 {
-    for bit in 0..8 * input.len() {
+    for bit in 8 * place..8 * (place + 1) {
         if bit_of(input, bit) == bit_of(before, bit) {
             continue;
         }
@@ -62,8 +63,26 @@ fn wish_bits_differ(cpu: &Binding, before: &[u8], input: &[u8]) -> bool
     true
 }
 
+/// Whether two spaces differ at most in these fields of the processor.
+#[tactic(auto, using(crate::proofs::Bits::of_bytes))]
+fn wish_bits_differ(cpu: &Binding, before: &[u8], input: &[u8]) -> bool
+    requires len { length before.now ≡ length input.now }
+    requires small { length input.now < 2 ^ 32 }
+    ensures { IsTrue result ↔ WishBitsDiffer cpu.now before.now input.now 0 (8 * length input.now) }
+{
+    for place in 0..input.len() {
+        if input[place] == before[place] {
+            continue;
+        }
+        if !wish_byte_differs(cpu, before, input, place) {
+            return false;
+        }
+    }
+    true
+}
+
 /// Whether two spaces differ at most in these fields of one of the processors.
-#[tactic(auto, using(crate::proofs::Bits::one_differs, crate::proofs::Bits::none_start, crate::proofs::Bits::none_more, crate::proofs::Bits::none_end))]
+#[tactic(auto, using(crate::proofs::Bits::of_processors))]
 fn differ_in_wish(cpus: &[Binding], before: &[u8], input: &[u8]) -> bool
     requires len { length before.now ≡ length input.now }
     requires small { length input.now < 2 ^ 32 }
@@ -92,7 +111,7 @@ pub(crate) fn is_untouched(cpus: &[Binding], before: &[u8], code: u32, input: &[
 }
 
 /// Whether a processor is in its range.
-#[tactic(auto, using(crate::proofs::Bits::one_inside, crate::proofs::Bits::one_outside))]
+#[tactic(auto, using(crate::proofs::Bits::of_range))]
 fn is_inside(cpu: Binding, space: &[u8]) -> bool
     requires { Fits (length space.now) cpu }
     ensures { IsTrue result ↔ InRange cpu space.now }
@@ -104,7 +123,7 @@ fn is_inside(cpu: Binding, space: &[u8]) -> bool
 }
 
 /// Whether all processors are in their ranges.
-#[tactic(auto, using(crate::proofs::Bits::inside_start, crate::proofs::Bits::inside_more, crate::proofs::Bits::inside_end, crate::proofs::Bits::inside_out))]
+#[tactic(auto, using(crate::proofs::Bits::of_ranges))]
 pub(crate) fn are_inside(cpus: &[Binding], space: &[u8]) -> bool
     requires { All (Fits (length space.now)) cpus.now }
     ensures { IsTrue result ↔ AreInRange cpus.now space.now }
