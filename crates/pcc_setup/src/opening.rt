@@ -126,11 +126,7 @@ struct Wired<'a> {
 }
 
 // The structure that the line at a place opens, or why it opens nothing.
-fn wired_line<'a>(
-    table: &'a Table,
-    opens: &Opens,
-    place: usize,
-) -> Result<Wired<'a>, OpenFault>
+fn wired_line<'a>(table: &'a Table, opens: &Opens, place: usize) -> Result<Wired<'a>, OpenFault>
     requires { place < length opens.now }
     ensures { MatchResult result
         (λ w. (line : OpenLine) × (slice_get opens.now place ≡ Some line) × (line_fault table.now (take place opens.now) line ≡ None)

@@ -2,7 +2,12 @@
 use Rattle.std.proofs.Common.{◌≡◌, ◌≢◌, ◌⊎◌, inl, inr, ℕ, ◌≤◌, List, [], length, map, refl, sym, ap, ◌∙◌, subst, arith}
 use Rattle.std.specs.Prelude.{Option, Some, None}
 use Rattle.std.proofs.lemmas.Bool.{cases_lt}
+use Rattle.aml_pkg.specs.declared.item.Item.{Item}
+use Rattle.aml_pkg.specs.Spelling.{item_bytes}
+use Rattle.cpc_package.specs.Packages.{CpcBytes}
 use Rattle.cpc_package.specs.PackageText.{package_text}
+use Rattle.cpc_package.specs.Raising.{raised}
+use Rattle.cpc_package.proofs.Raised.{raised_cpc, raised_is}
 use Rattle.pcc_bytes.specs.Bytes.{IsBytes}
 use Rattle.pcc_script.specs.Faults.{HasFault as ScriptFault}
 use Rattle.pcc_script.specs.declared.scenario.Scenario.{Scenario}
@@ -164,7 +169,12 @@ some_text command.Weave input other h = absurd (other refl)
 some_text command.Show input other h = (show_text h.0, (h.0, h.1, refl))
 some_text command.Build input other h = (h.1.value.bytes, (h.0, h.1.text_is, h.1.value.fit, h.1.value.spell))
 some_text command.Cpc input other h = (package_text h.0, (h.0, h.1, refl))
-some_text command.Raise input other h = (item_bytes (raised h.0), (h.0, h.1, right_raised h.0 h.1.item.is h.1.right))
+some_text command.Raise input other h =
+    let right : CpcBytes (item_bytes (raised h.0)) (raised h.0) = record {
+      item = record { is = raised_is h.0 h.1.item.is h.1.right; spelled = refl };
+      right = raised_cpc h.0 h.1.right;
+    } in
+    (item_bytes (raised h.0), (h.0, h.1, right))
 
 -- a command serves one script, which opens one list of subspaces and has one list of processors
 one_cpus : (s u : Scenario) (os other : List Opened) → s ≡ u → (h : Opens s os) → (k : Opens u other) → h.checked.cpus ≡ k.checked.cpus

@@ -45,12 +45,13 @@ const HEAD: &[u8] = b"journal 0 type 0 cppc room 32 turnaround 0 rate 0 errors y
 
 const READ_AND_SET: &[u8] = b"read 0 0 3 0\nset 0 0 10 150 300 3 0\nread 0 0 3 0\n";
 
-const FIRST_READ: &[u8] = b"5 values 2=300 3=200 4=80 5=10 7=100 8=10 9=300 12=0 13=100 14=100 15=0 17=0 20=100";
+const FIRST_READ: &[u8] =
+    b"5 values 2=300 3=200 4=80 5=10 7=100 8=10 9=300 12=0 13=100 14=100 15=0 17=0 20=100";
 
-const WISH_SET: &[u8] =
-    b"6 ok 960000000a0000002c0100000000000064000000000000006400000000000000\n";
+const WISH_SET: &[u8] = b"6 ok 960000000a0000002c0100000000000064000000000000006400000000000000\n";
 
-const LAST_READ: &[u8] = b"7 values 2=300 3=200 4=80 5=10 7=150 8=10 9=300 12=0 13=200 14=250 15=0 17=0 20=100";
+const LAST_READ: &[u8] =
+    b"7 values 2=300 3=200 4=80 5=10 7=150 8=10 9=300 12=0 13=200 14=250 15=0 17=0 20=100";
 
 /// What entries 21 and 22 add to a line of values.
 const FREQUENCIES: &[u8] = b" 21=400 22=2000";

@@ -310,7 +310,14 @@ fn structures_of_unknown_types_are_counted(rt: HostRuntime) -> Result<(), Fail> 
     assert_eq!(rt; status_of_long(alloc, "step", &opened, line)?, Some(3));
     let header = changed(alloc, &ONE_GENERIC_SUBSPACE[..48], &[(4, 112), (9, 0x64)])?;
     let table = joined(alloc, &[&header, b"\x06\x02", &ONE_GENERIC_SUBSPACE[48..]])?;
-    let behind = script_with(alloc, &table, b"\nclock 0 10\nopen 1 bank\ncall 0 1 0 - 3 0\n")?;
-    assert_eq!(rt; status_of_long(alloc, "step", &behind, BEHIND_UNKNOWN_TEXT)?, Some(0));
+    let behind = script_with(
+        alloc,
+        &table,
+        b"\nclock 0 10\nopen 1 bank\ncall 0 1 0 - 3 0\n",
+    )?;
+    assert_eq!(rt;
+        status_of_long(alloc, "step", &behind, BEHIND_UNKNOWN_TEXT)?,
+        Some(0)
+    );
     Ok(())
 }

@@ -58,13 +58,16 @@ fn structures_of_unknown_types_are_kept(rt: HostRuntime) -> Result<(), Fail> {
 #[test]
 fn wrong_tables_are_refused(rt: HostRuntime) -> Result<(), Fail> {
     let alloc = rt.alloc();
-    let rows: [(&[(usize, u8)], &[u8]); 9] = [
+    let rows: [(&[(usize, u8)], &[u8]); 10] = [
         (&[(0, 0x51)], b"refused table signature\n"),
         (&[(4, 47)], b"refused table length 47\n"),
         (&[(8, 3), (9, 0x6d)], b"refused table revision 3\n"),
         (&[(4, 0x6f)], b"refused table short 110\n"),
         (&[(48, 2), (9, 0x6c)], b"refused table size 48 2 62\n"),
-        (&[(48, 6), (49, 1), (9, 0xa5)], b"refused table size 48 6 1\n"),
+        (
+            &[(48, 6), (49, 1), (9, 0xa5)],
+            b"refused table size 48 6 1\n",
+        ),
         (&[(4, 0x31), (5, 0xff)], b"refused table length 65329\n"),
         (&[(4, 109)], b"refused table overrun 48\n"),
         (&[(50, 7)], b"refused table checksum 7\n"),
