@@ -88,3 +88,8 @@ pub data IsVerdict (b : Board) (t : Told) : Verdict → Type 0 where
       → PendingFlaw b t.records p (Some flaw) → IsVerdict b t (No (length t.records) flaw)
   Flawless : t.head ≡ b.head → AreFlawless b t.records (length t.records) → IfSome t.pending (λ p. PendingFlaw b t.records p None)
       → IsVerdict b t Yes
+
+-- a journal that has a verdict
+pub record HasVerdict (b : Board) (t : Told) : Type 0 where
+  pub verdict : Verdict
+  pub is : IsVerdict b t verdict

@@ -6,7 +6,7 @@ use Rattle.std.proofs.lemmas.Fmt.{decimal_injective}
 use Rattle.pcc_script.specs.declared.limits.TheConstants.{MAX_MADE_CALLS}
 use Rattle.pccrun_core.specs.declared.command.Command.{Command}
 use Rattle.pccrun_core.specs.declared.command.Command.TheVariants as command
-use Rattle.pccrun_core.specs.Answers.{Answers, AsksToMake, Made, Makes, Refused, Summed, TooLong, Usage}
+use Rattle.pccrun_core.specs.Answers.{Answers, AsksToMake, Made, Makes, MakesText, Refused, Summed, TellsFlaw, TooLong, Usage, Yields}
 use Rattle.pccrun_core.specs.Headlined.{Headlined}
 use Rattle.pccrun_core.proofs.Ranges.{CanBeginAll, served_ranges}
 use Rattle.pccrun_core.proofs.Tops.{makes_alone, same_command}
@@ -20,9 +20,15 @@ same_number words m n a b =
     let few_too : n ≤ MAX_MADE_CALLS = b.few in
     decimal_injective m n (omega (arith, few)) (omega (arith, few_too)) (ap (λ (v : List (List ℕ)). get_or v 1 []) both)
 
+-- what is written with status 0 is made of the input
+made_text : (c : Command) (input : List ℕ) (status : ℕ) (text : List ℕ) → status ≡ 0 → Yields c input status text → Makes c input text
+made_text c input status text e (MakesText _ h) = h
+made_text c input status text e (TellsFlaw is _ h) = absurd (omega (arith, e))
+
 pub headlined : CanBeginAll → (words : List (List ℕ)) (left left' held held' : Option (List ℕ)) (status : ℕ) (text : List ℕ) → Answers words left left' status text → Appends held held' text → status ≡ 0
     → Headlined words left left' held held'
-headlined can words left left' held held' status text (Made c asked input read made is) written e =
+headlined can words left left' held held' status text (Made c asked input read _ _ yields) written e =
+    let is : Makes c input text = made_text c input status text e yields in
     let P : Command → Type 0 = λ d. Makes d input text in
     let A : List ℕ → Type 0 = λ v. Appends held held' v in
     record {

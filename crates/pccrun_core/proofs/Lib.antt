@@ -1,6 +1,9 @@
 mod Woven
 mod Weavable
 mod Refused
+mod OneScript
+mod Audits
+mod Counting
 mod Small
 mod Ranges
 mod Packaged

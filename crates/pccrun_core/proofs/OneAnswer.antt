@@ -14,21 +14,20 @@ use Rattle.pccrun_core.specs.declared.command.Command.{Command}
 use Rattle.pccrun_core.specs.declared.command.Command.TheVariants as command
 use Rattle.pccrun_core.specs.declared.command.Request.{Request}
 use Rattle.pccrun_core.specs.declared.command.Request.TheVariants as request
-use Rattle.pccrun_core.specs.Answers.{Answers, Asks, AsksFor, AsksToMake, Made, Makes, ReadMore, Refused, Summed, TooLong, Usage, input_limit, usage_line}
+use Rattle.pccrun_core.specs.Answers.{Answers, Asks, AsksFor, AsksToMake, Made, ReadMore, Refused, Summed, TooLong, Usage, Yields, input_limit, usage_line}
 use Rattle.pccrun_core.specs.Inputs.{Exceeds, IsRefusedInput, Rejects, Within}
 use Rattle.pccrun_core.specs.Refusals.{Refuses}
 use Rattle.pccrun_core.proofs.Headlined.{same_number}
-use Rattle.pccrun_core.proofs.OneLine.{accepted_kept, is_made, one_rejection, one_text}
+use Rattle.pccrun_core.proofs.OneLine.{accepted_kept, is_made, one_rejection, one_text, same_status, weave_status}
 use Rattle.pccrun_core.proofs.Packaged.{OneFault, OnePackage, OneSpelling}
 use Rattle.pccrun_core.proofs.Tops.{all_consumed, all_read, makes_alone, same_command}
 
 -- ---- what words lead to
 
--- the command makes the text of the input
+-- the command writes the text of the input, with the status
 record IsMadeText (c : Command) (input : List ℕ) (status : ℕ) (text : List ℕ) : Type 0 where
-  done : status ≡ 0
   short : length input ≤ input_limit
-  makes : Makes c input text
+  yields : Yields c input status text
 
 -- the text is the line of a refusal of the input
 record IsLine (c : Command) (input : List ℕ) (status : ℕ) (text : List ℕ) : Type 0 where
@@ -50,14 +49,13 @@ exceeds input left more =
 
 by_command : (words : List (List ℕ)) (input : List ℕ) (left : Option (List ℕ)) (status : ℕ) (text : List ℕ) (c : Command) → AsksFor words c → Answers words (Some input) left status text
     → ByCommand c input status text
-by_command words input left status text c asked (Made d also whole read _ makes) =
+by_command words input left status text c asked (Made d also whole read _ _ yields) =
     let one : d ≡ c = same_command words d c also asked in
     let same : whole ≡ input = all_read (Some input) left input whole refl read.read read.end in
     let short : length whole ≤ input_limit = read.short in
     inl (record {
-      done = refl;
       short = subst (λ (v : List ℕ). length v ≤ input_limit) same short;
-      makes = subst (λ (v : List ℕ). Makes c v text) same (subst (λ (e : Command). Makes e whole text) one makes);
+      yields = subst (λ (v : List ℕ). Yields c v status text) same (subst (λ (e : Command). Yields e whole status text) one yields);
     })
 by_command words input left status text c asked (Summed n made _ is) = absurd (makes_alone words c n asked made)
 by_command words input left status text c asked (Usage unasked) = absurd (unasked (request.Run c) asked)
@@ -77,7 +75,7 @@ by_command words input left status text c asked (Refused d also whole read r ref
 -- ---- a refused input
 
 line_of : (c : Command) (input : List ℕ) (cause : Refusal) (status : ℕ) (text : List ℕ) → Rejects c input cause → ByCommand c input status text → IsLine c input status text
-line_of c input cause status text h (inl made) = absurd (accepted_kept c input cause (record { short = made.short; made = is_made c input text made.makes }) h)
+line_of c input cause status text h (inl made) = absurd (accepted_kept c input cause (record { short = made.short; made = is_made c input text status made.yields }) h)
 line_of c input cause status text h (inr line) = line
 
 refused_with : (words : List (List ℕ)) (left left' : Option (List ℕ)) (status : ℕ) (text : List ℕ) (cause : Refusal) → Answers words left left' status text → (k : IsRefusedInput words left cause)
@@ -105,13 +103,13 @@ record SameAnswer (words : List (List ℕ)) (status another : ℕ) (text line : 
   texts : (AsksFor words command.Weave → status ≢ 0) → text ≡ line
 
 made_kept : (c : Command) (input : List ℕ) (status another : ℕ) (text line : List ℕ) → IsMadeText c input status text → IsLine c input another line → ⊥
-made_kept c input status another text line h k = accepted_kept c input k.cause (record { short = h.short; made = is_made c input text h.makes }) k.rejects
+made_kept c input status another text line h k = accepted_kept c input k.cause (record { short = h.short; made = is_made c input text status h.yields }) k.rejects
 
 one_by_command : OnePackage → OneSpelling → OneFault → (words : List (List ℕ)) (input : List ℕ) (status another : ℕ) (text line : List ℕ) (c : Command) → AsksFor words c
     → ByCommand c input status text → ByCommand c input another line → SameAnswer words status another text line
 one_by_command one spelling single words input status another text line c asked (inl h) (inl k) = record {
-  statuses = h.done ∙ sym k.done;
-  texts = λ other. one_text one c input text line (λ e. other (subst (AsksFor words) e asked) h.done) h.makes k.makes;
+  statuses = same_status c input text line status another h.yields k.yields;
+  texts = λ other. (one_text one c input text line status another (λ e. other (subst (AsksFor words) e asked) (weave_status c input text status e h.yields)) h.yields k.yields).1;
 }
 one_by_command one spelling single words input status another text line c asked (inl h) (inr k) = absurd (made_kept c input status another text line h k)
 one_by_command one spelling single words input status another text line c asked (inr h) (inl k) = absurd (made_kept c input another status line text k h)
@@ -126,7 +124,7 @@ one_summary n text line h k =
 
 by_count : (words : List (List ℕ)) (input : List ℕ) (left : Option (List ℕ)) (status : ℕ) (text : List ℕ) (n : ℕ) → AsksToMake words n → Answers words (Some input) left status text
     → (status ≡ 0) × IsSummary n text
-by_count words input left status text n made (Made c asked whole read _ makes) = absurd (makes_alone words c n asked made)
+by_count words input left status text n made (Made c asked whole read _ _ yields) = absurd (makes_alone words c n asked made)
 by_count words input left status text n made (Summed m also _ is) = (refl, subst (λ (k : ℕ). IsSummary k text) (same_number words m n also made) is)
 by_count words input left status text n made (Usage unasked) = absurd (unasked (request.Make n) made)
 by_count words input left status text n made (TooLong c asked more) = absurd (makes_alone words c n asked made)
@@ -134,7 +132,7 @@ by_count words input left status text n made (Refused c asked whole read r refus
 
 by_usage : (words : List (List ℕ)) (input : List ℕ) (left : Option (List ℕ)) (status : ℕ) (text : List ℕ) → ((r : Request) → Asks words r → ⊥) → Answers words (Some input) left status text
     → (status ≡ 2) × (text ≡ usage_line)
-by_usage words input left status text none (Made c asked whole read _ makes) = absurd (none (request.Run c) asked)
+by_usage words input left status text none (Made c asked whole read _ _ yields) = absurd (none (request.Run c) asked)
 by_usage words input left status text none (Summed n made _ is) = absurd (none (request.Make n) made)
 by_usage words input left status text none (Usage unasked) = (refl, refl)
 by_usage words input left status text none (TooLong c asked more) = absurd (none (request.Run c) asked)
@@ -142,9 +140,9 @@ by_usage words input left status text none (Refused c asked whole read r refuses
 
 same_answer : OnePackage → OneSpelling → OneFault → (words : List (List ℕ)) (input : List ℕ) (left other : Option (List ℕ)) (status another : ℕ) (text line : List ℕ)
     → Answers words (Some input) left status text → Answers words (Some input) other another line → SameAnswer words status another text line
-same_answer one spelling single words input left other status another text line (Made c asked whole read _ makes) b =
-    one_by_command one spelling single words input 0 another text line c asked
-    (by_command words input left 0 text c asked (Made c asked whole read text makes)) (by_command words input other another line c asked b)
+same_answer one spelling single words input left other status another text line (Made c asked whole read _ _ yields) b =
+    one_by_command one spelling single words input status another text line c asked
+    (by_command words input left status text c asked (Made c asked whole read status text yields)) (by_command words input other another line c asked b)
 same_answer one spelling single words input left other status another text line (Summed n made _ is) b =
     let found = by_count words input other another line n made b in
     record { statuses = sym found.0; texts = λ differs. one_summary n text line is found.1 }

@@ -22,7 +22,7 @@ use Rattle.script_run.specs.ScriptRuns.{run_of}
 use Rattle.script_run.proofs.Ranged.{opened_ranges}
 use Rattle.script_run.proofs.Several.{opens_apart}
 use Rattle.script_run.proofs.Starting.{set_up_apart}
-use Rattle.pccrun_core.specs.Answers.{Serves}
+use Rattle.pccrun_core.specs.Serving.{Serves}
 use Rattle.pccrun_core.specs.declared.command.Command.{Command}
 
 -- a law of set-ups that is used

@@ -27,9 +27,9 @@ use Rattle.pcc_setup.specs.declared.setup.SetUp.{SetUp}
 use Rattle.pcc_setup.proofs.OneFault.{set_up_kept}
 use Rattle.pcc_setup.specs.declared.opening.Opened.{Opened}
 use Rattle.pcc_setup.specs.declared.refusal.UseFault.{UseFault}
-use Rattle.pccrun_core.specs.Answers.{IsSetUpFor, Serves}
+use Rattle.pccrun_core.specs.Serving.{IsSetUpFor, IsSpelled, Serves}
 use Rattle.pccrun_core.specs.CommandErrors.{IsRefusedBy}
-use Rattle.pccrun_core.specs.Refusals.{BySetUp, ByUse, IsSpelled, NotServed, ScriptRefused, TextRefused, Unserved, WrongLine, WrongScript}
+use Rattle.pccrun_core.specs.Refusals.{BySetUp, ByUse, NotServed, ScriptRefused, TextRefused, Unserved, WrongLine, WrongScript}
 use Rattle.pccrun_core.specs.Uses.{use_fault}
 
 -- ---- texts of tables

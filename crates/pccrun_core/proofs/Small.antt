@@ -8,7 +8,7 @@ use Rattle.pcc_bytes.specs.Fields.{hex_text, line_text}
 use Rattle.pcc_script.specs.Text.{Statement, cap_statement, clock_statement, cpu_statement, action_statement, line_of, open_statement, pick_statements, script_text, statements_text, table_statement}
 use Rattle.pcc_script.specs.declared.scenario.Scenario.{Scenario}
 use Rattle.pccrun_core.specs.Answers.{input_limit}
-use Rattle.pccrun_core.specs.Refusals.{IsSpelled}
+use Rattle.pccrun_core.specs.Serving.{IsSpelled}
 
 abbrev lines_text : List Statement → List ℕ
 lines_text statements = flat_map line_text (map line_of statements)

@@ -1,5 +1,5 @@
 -- What the words and the bytes read lead to.
-use Rattle.std.proofs.Common.{◌≡◌, ℕ, ◌+◌, ◌<◌, ◌≤◌, true, List, [], ◌∷◌, ◌++◌, length, get_or, map, refl, sym, ap, ◌∙◌, subst, arith}
+use Rattle.std.proofs.Common.{◌≡◌, inl, inr, ℕ, ◌+◌, ◌<◌, ◌≤◌, Bool, true, false, List, [], ◌∷◌, ◌++◌, length, get_or, map, refl, sym, ap, ◌∙◌, subst, arith}
 use Rattle.std.specs.Prelude.{◌==◌, if◌then◌else◌, Option, Some, None, bytes_eq, codes, decimal}
 use Rattle.std.specs.Io.KnownBytes.{Consumes, IsAtEnd}
 use Rattle.std.proofs.lemmas.List.{append-nil, length-append}
@@ -13,7 +13,9 @@ use Rattle.pccrun_core.specs.declared.command.Request.{Request}
 use Rattle.pccrun_core.specs.declared.command.Request.TheVariants as request
 use Rattle.pcc_setup.specs.declared.refusal.Refusal.{Refusal}
 use Rattle.pcc_setup.specs.declared.refusal.Refusal.TheVariants as refusal
-use Rattle.pccrun_core.specs.Answers.{Answers, Asks, AsksFor, AsksToMake, IsMade, IsServedInput, Made, Makes, Refused, Serves, Summed, TooLong, Usage, input_limit, usage_line, word_of}
+use Rattle.pccrun_core.specs.Answers.{Answers, Asks, AsksFor, AsksToMake, AuditGives, IsDone, IsMade, IsServedInput, Made, Makes, MakesText, Refused, Summed, TellsFlaw, TooLong, Usage, Yields, input_limit, usage_line, word_of}
+use Rattle.pccrun_core.specs.Serving.{Serves}
+use Rattle.pccrun_core.proofs.Audits.{audit_kept}
 use Rattle.pcc_setup.specs.RefusalText.{HasLine, refused_line}
 use Rattle.pcc_setup.proofs.Refused.{table_kept}
 use Rattle.pccrun_core.specs.Refusals.{Refuses, WrongLine}
@@ -47,8 +49,14 @@ pub stepped : (input : List ℕ) (s : Scenario) (os : List Opened) (text : List 
     → Makes command.Step input text
 stepped input s os text h e = (s, os, h, e h.opens)
 
-pub made_of : (words : List (List ℕ)) (left left' : Option (List ℕ)) (input text : List ℕ) (c : Command) → AsksFor words c → Consumes left left' input → IsAtEnd left' → length input ≤ input_limit → Makes c input text → Answers words left left' 0 text
-made_of words left left' input text c asked read end short made = Made c asked input (record { read = read; end = end; short = short }) text made
+-- what an audit writes, by its status
+pub judged : (input : List ℕ) (flawed : Bool) (text : List ℕ) (status : ℕ) → AuditGives input flawed text → status ≡ (if flawed then 1 else 0)
+    → Yields command.Audit input status text
+judged input true text status h e = subst (λ (n : ℕ). Yields command.Audit input n text) (sym e) (TellsFlaw refl text h)
+judged input false text status h e = subst (λ (n : ℕ). Yields command.Audit input n text) (sym e) (MakesText text h)
+
+pub made_of : (words : List (List ℕ)) (left left' : Option (List ℕ)) (status : ℕ) (input text : List ℕ) (c : Command) → AsksFor words c → Consumes left left' input → IsAtEnd left' → length input ≤ input_limit → Yields c input status text → Answers words left left' status text
+made_of words left left' status input text c asked read end short yields = Made c asked input (record { read = read; end = end; short = short }) status text yields
 
 pub refused_for : (words : List (List ℕ)) (left left' : Option (List ℕ)) (input text : List ℕ) (c : Command) (r : Refusal) → AsksFor words c → Consumes left left' input → IsAtEnd left' → length input ≤ input_limit → Refuses c input r → text ≡ refused_line r → Answers words left left' 3 text
 refused_for words left left' input text c r asked read end short cause e =
@@ -95,7 +103,8 @@ told_by letter =
     else (if letter == 119 then command.Show
     else (if letter == 108 then command.Build
     else (if letter == 115 then command.Raise
-    else command.Cpc))))
+    else (if letter == 105 then command.Audit
+    else command.Cpc)))))
 
 told_back : (c : Command) → told_by (fourth (word_of c)) ≡ c
 told_back command.Step = refl
@@ -104,6 +113,7 @@ told_back command.Show = refl
 told_back command.Build = refl
 told_back command.Cpc = refl
 told_back command.Raise = refl
+told_back command.Audit = refl
 
 -- words ask for one command
 one_command : (c d : Command) → word_of c ≡ word_of d → c ≡ d
@@ -120,11 +130,26 @@ kept command.Show input r h k = table_kept input h.0 r h.1 k
 kept command.Build input r h (WrongLine none line wrong fault) = none h.0 (has_text h.0 h.1.value) h.1.text_is
 kept command.Cpc input r h k = package_kept input h.0 r h.1 k
 kept command.Raise input r h k = package_kept input h.0 r h.1 k
+kept command.Audit input r h k = audit_kept input r h k
+
+zero_done : (c : Command) → IsDone c 0
+zero_done command.Step = refl
+zero_done command.Weave = refl
+zero_done command.Show = refl
+zero_done command.Build = refl
+zero_done command.Cpc = refl
+zero_done command.Raise = refl
+zero_done command.Audit = inl refl
+
+done_by : (c : Command) (input : List ℕ) (status : ℕ) (text : List ℕ) → Yields c input status text → IsDone c status
+done_by c input status text (MakesText _ h) = zero_done c
+done_by c input status text (TellsFlaw is _ h) = subst (λ (d : Command). IsDone d 1) (sym is) (inr refl)
 
 -- a served input leads to what is made of it alone
-pub served_input_runs : (words : List (List ℕ)) (left left' : Option (List ℕ)) (status : ℕ) (text : List ℕ) → Answers words left left' status text → IsServedInput words left → status ≡ 0
-served_input_runs words left left' status text (Made c asked input read made is) h = refl
-served_input_runs words left left' status text (Summed n asked made is) h = refl
+pub served_input_runs : (words : List (List ℕ)) (left left' : Option (List ℕ)) (status : ℕ) (text : List ℕ) → Answers words left left' status text → (h : IsServedInput words left) → IsDone h.command status
+served_input_runs words left left' status text (Made c asked input read _ _ yields) h =
+    subst (λ (d : Command). IsDone d status) (same_command words c h.command asked h.asked) (done_by c input status text yields)
+served_input_runs words left left' status text (Summed n asked made is) h = zero_done h.command
 served_input_runs words left left' status text (Usage unasked) h = absurd (unasked (request.Run h.command) h.asked)
 served_input_runs words left left' status text (TooLong c asked more) h =
     let P : Option (List ℕ) → Type 0 = λ o. Consumes o left' more.text in
@@ -146,11 +171,26 @@ makes_alone words c n asked h = let both : word_of c ∷ [] ≡ codes "make" ∷
 
 -- and a made-up script is run
 pub made_runs : (words : List (List ℕ)) (left left' : Option (List ℕ)) (status n : ℕ) (text : List ℕ) → Answers words left left' status text → AsksToMake words n → status ≡ 0
-made_runs words left left' status n text (Made c asked input read made is) h = refl
+made_runs words left left' status n text (Made c asked input read _ _ yields) h = absurd (makes_alone words c n asked h)
 made_runs words left left' status n text (Summed m asked made is) h = refl
 made_runs words left left' status n text (Usage unasked) h = absurd (unasked (request.Make n) h)
 made_runs words left left' status n text (TooLong c asked more) h = absurd (makes_alone words c n asked h)
 made_runs words left left' status n text (Refused c asked input read r cause) h = absurd (makes_alone words c n asked h)
+
+-- what is written has one of the lower statuses
+yields_low : (c : Command) (input : List ℕ) (status : ℕ) (text : List ℕ) → Yields c input status text → status < 4
+yields_low c input status text (MakesText _ h) = omega arith
+yields_low c input status text (TellsFlaw is _ h) = omega arith
+
+pub answers_low : (words : List (List ℕ)) (left left' : Option (List ℕ)) (status : ℕ) (text : List ℕ) → Answers words left left' status text → status < 4
+answers_low words left left' status text (Made c asked input read _ _ yields) = yields_low c input status text yields
+answers_low words left left' status text (Summed n asked made is) = omega arith
+answers_low words left left' status text (Usage unasked) = omega arith
+answers_low words left left' status text (TooLong c asked more) = omega arith
+answers_low words left left' status text (Refused c asked input read r cause) = omega arith
+
+pub never : (low status high : ℕ) → low < 4 → status ≡ low → 4 ≤ high → status ≡ high → ⊥
+never low status high below is above e = omega (arith, below, is, above, e)
 
 -- ---- rules
 

@@ -28,7 +28,8 @@ use Rattle.pcc_wiring.specs.Faults.{fault_of}
 use Rattle.pcc_wiring.specs.Wirings.{wiring_with}
 use Rattle.script_run.proofs.OpenedScripts.{there}
 use Rattle.pccrun_core.specs.declared.command.Command.TheVariants as command
-use Rattle.pccrun_core.specs.Answers.{Makes, Serves}
+use Rattle.pccrun_core.specs.Answers.{Makes}
+use Rattle.pccrun_core.specs.Serving.{Serves}
 use Rattle.pccrun_core.specs.Uses.{is_wait, weave_fault}
 use Rattle.pccrun_core.specs.Weaving.{IsCall, IsOpenedAlone, IsWoven}
 

@@ -1,7 +1,10 @@
 -- What the program writes, and its status, by its words and by the bytes that it read.
-use Rattle.std.specs.Prelude.{◌≡◌, ◌≤◌, ℕ, ◌+◌, List, [], ◌∷◌, length, codes, decimal, Option, Some, None}
+use Rattle.std.specs.Prelude.{◌≡◌, ◌≤◌, ◌⊎◌, ℕ, ◌+◌, Bool, true, false, List, [], ◌∷◌, length, codes, decimal, Option, Some}
 use Rattle.std.specs.Io.KnownBytes.{Consumes, IsAtEnd}
 use Rattle.pcc_bytes.specs.Bytes.{IsBytes}
+use Rattle.audit_run.specs.Audits.{IsAuditOf}
+use Rattle.audit_run.specs.Cuts.{IsCut}
+use Rattle.audit_run.specs.Journals.{HasJournals}
 use Rattle.aml_pkg.specs.declared.item.Item.{Item}
 use Rattle.cpc_package.specs.Packages.{CpcBytes}
 use Rattle.cpc_package.specs.PackageText.{package_text}
@@ -18,12 +21,10 @@ use Rattle.pccrun_core.specs.declared.command.Request.TheVariants as request
 use Rattle.pcc_setup.specs.declared.refusal.Refusal.{Refusal}
 use Rattle.pcc_setup.specs.declared.refusal.Refusal.TheVariants as refusal
 use Rattle.pcc_setup.specs.RefusalText.{refused_line}
-use Rattle.pcc_setup.specs.SetUps.{IsSetUpOf, Opens}
-use Rattle.pcc_setup.specs.declared.setup.SetUp.{SetUp}
 use Rattle.pcc_setup.specs.declared.opening.Opened.{Opened}
-use Rattle.pccrun_core.specs.Refusals.{IsSpelled, Refuses}
+use Rattle.pccrun_core.specs.Refusals.{Refuses}
+use Rattle.pccrun_core.specs.Serving.{Serves}
 use Rattle.script_run.specs.ScriptRuns.{IsStepText}
-use Rattle.pccrun_core.specs.Uses.{use_fault}
 use Rattle.script_run.specs.Summaries.{IsSummary}
 use Rattle.pccrun_core.specs.Weaving.{IsWoven}
 
@@ -37,6 +38,7 @@ word_of command.Show = codes "show"
 word_of command.Build = codes "build"
 word_of command.Cpc = codes "cpc"
 word_of command.Raise = codes "raise"
+word_of command.Audit = codes "audit"
 
 -- the words ask for a command on the whole input that is built
 abbrev pub AsksFor : List (List ℕ) → Command → Type 0
@@ -76,24 +78,24 @@ pub record ReadMore (left left' : Option (List ℕ)) : Type 0 where
 
 -- ---- what is made of it
 
--- this is the set-up of a script, and the command can be used with it
-pub record IsSetUpFor (c : Command) (s : Scenario) (u : SetUp) : Type 0 where
-  pub set_up : IsSetUpOf s u
-  pub used : use_fault c s ≡ None
-
--- a text spells a script, these subspaces are what the script opens, and the command can be used with it
-pub record Serves (c : Command) (input : List ℕ) (s : Scenario) (opened : List Opened) : Type 0 where
-  pub spells : IsSpelled input s
-  pub opens : Opens s opened
-  pub used : use_fault c s ≡ None
-
 -- a text is that of a table
 pub record IsTextOf (t : Table) (text : List ℕ) : Type 0 where
   pub value : IsTableValue t
   pub text_is : text ≡ show_text t
 
+-- The script part of an input is served, the rest of it spells one journal for each subspace that the script opens, and of these journals this is
+-- written, which tells a flaw or not.
+pub record AuditGives (input : List ℕ) (flawed : Bool) (text : List ℕ) : Type 0 where
+  pub script : List ℕ
+  pub journals : List ℕ
+  pub cut : IsCut input script journals
+  pub scenario : Scenario
+  pub opened : List Opened
+  pub served : Serves command.Audit script scenario opened
+  pub audited : IsAuditOf opened journals flawed text
+
 -- What a command makes of its whole input: of a served script the text of its run; of the bytes of a table its text; of the text of
--- a table its bytes; of the bytes of a package its text, or the bytes of that package as one of revision 3.
+-- a table its bytes; of the bytes of a package its text, or the bytes of that package as one of revision 3; of journals without a flaw one line each.
 abbrev pub Makes : Command → List ℕ → List ℕ → Type 0
 Makes command.Step input text = (s : Scenario) × (opened : List Opened) × (h : Serves command.Step input s opened)
     × IsStepText s opened h.opens.checked.cpus text
@@ -102,6 +104,22 @@ Makes command.Show input text = (t : Table) × TableBytes input t × (text ≡ s
 Makes command.Build input bytes = (t : Table) × (input ≡ show_text t) × IsBytes bytes × TableBytes bytes t
 Makes command.Cpc input text = (c : Item) × CpcBytes input c × (text ≡ package_text c)
 Makes command.Raise input bytes = (c : Item) × CpcBytes input c × CpcBytes bytes (raised c)
+Makes command.Audit input text = AuditGives input false text
+
+-- What a command writes of its whole input, and its status: 0 after what it makes of it; 1 after the flaw that `audit` tells.
+pub data Yields (c : Command) (input : List ℕ) : ℕ → List ℕ → Type 0 where
+  MakesText : (text : List ℕ) → Makes c input text → Yields c input 0 text
+  TellsFlaw : c ≡ command.Audit → (text : List ℕ) → AuditGives input true text → Yields c input 1 text
+
+-- the script part of an input is served, and the rest of it spells one journal for each subspace that the script opens
+pub record IsAudited (input : List ℕ) : Type 0 where
+  pub script : List ℕ
+  pub journals : List ℕ
+  pub cut : IsCut input script journals
+  pub scenario : Scenario
+  pub opened : List Opened
+  pub served : Serves command.Audit script scenario opened
+  pub told : HasJournals (length opened) journals
 
 -- a command makes something of this input
 abbrev pub IsMade : Command → List ℕ → Type 0
@@ -111,14 +129,20 @@ IsMade command.Show input = (t : Table) × TableBytes input t
 IsMade command.Build input = (t : Table) × IsTextOf t input
 IsMade command.Cpc input = (c : Item) × CpcBytes input c
 IsMade command.Raise input = (c : Item) × CpcBytes input c
+IsMade command.Audit input = IsAudited input
+
+-- the statuses with which a command ends that is served
+abbrev pub IsDone : Command → ℕ → Type 0
+IsDone command.Audit status = (status ≡ 0) ⊎ (status ≡ 1)
+IsDone c status = status ≡ 0
 
 -- ---- what is written
 
--- The status, and the text that is to be written. 0: what the command makes of its input, or the summary of a made-up script. 2: the words ask
--- for nothing that is built. 3: the input is refused.
+-- The status, and the text that is to be written. 0: what the command makes of its input, or the summary of a made-up script. 1: the flaw that
+-- `audit` tells. 2: the words ask for nothing that is built. 3: the input is refused.
 pub data Answers (words : List (List ℕ)) (left left' : Option (List ℕ)) : ℕ → List ℕ → Type 0 where
-  Made : (c : Command) → AsksFor words c → (input : List ℕ) → ReadWhole left left' input → (text : List ℕ) → Makes c input text
-      → Answers words left left' 0 text
+  Made : (c : Command) → AsksFor words c → (input : List ℕ) → ReadWhole left left' input → (status : ℕ) → (text : List ℕ)
+      → Yields c input status text → Answers words left left' status text
   Summed : (n : ℕ) → AsksToMake words n → (text : List ℕ) → IsSummary n text → Answers words left left' 0 text
   Usage : ((r : Request) → Asks words r → ⊥) → Answers words left left' 2 usage_line
   TooLong : (c : Command) → AsksFor words c → ReadMore left left' → Answers words left left' 3 (refused_line refusal.Long)

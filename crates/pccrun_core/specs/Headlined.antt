@@ -9,7 +9,8 @@ use Rattle.script_run.specs.Headlines.{AreHeadlines}
 use Rattle.script_run.specs.Requests.{AreRanged}
 use Rattle.script_run.specs.ScriptRuns.{asks_of, run_of, step_text}
 use Rattle.script_run.specs.Summaries.{summary_text}
-use Rattle.pccrun_core.specs.Answers.{AsksFor, AsksToMake, ReadWhole, Serves}
+use Rattle.pccrun_core.specs.Answers.{AsksFor, AsksToMake, ReadWhole}
+use Rattle.pccrun_core.specs.Serving.{Serves}
 use Rattle.pccrun_core.specs.Weaving.{IsWoven}
 use Rattle.pccrun_core.specs.declared.command.Command.TheVariants as command
 

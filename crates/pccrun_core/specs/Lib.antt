@@ -1,6 +1,7 @@
 pub mod Uses
 pub mod Weaving
 pub mod Packages
+pub mod Serving
 pub mod Refusals
 pub mod Answers
 pub mod Inputs

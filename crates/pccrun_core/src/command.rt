@@ -24,6 +24,8 @@ pub enum Command {
     Cpc,
     /// Writes a package of performance control again, as one of revision 3.
     Raise,
+    /// Judges journals.
+    Audit,
 }
 
 /// The command whose word this is.
@@ -42,6 +44,8 @@ fn command_named(word: &[u8]) -> Option<Command>
         Some(Command::Cpc)
     } else if is_text(word, b"raise") {
         Some(Command::Raise)
+    } else if is_text(word, b"audit") {
+        Some(Command::Audit)
     } else {
         None
     }

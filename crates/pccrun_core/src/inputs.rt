@@ -3,7 +3,7 @@ ghost use Rattle.std.specs.Prelude.{◌≡◌, ◌≢◌, ◌⊎◌, ℕ, List, 
 ghost use Rattle.pcc_bytes.specs.Bytes.{IsBytes};
 ghost use Rattle.pcc_setup.specs.RefusalText.{refused_line};
 ghost use Rattle.pcc_setup.specs.declared.refusal.Refusal.{Refusal};
-ghost use Rattle.pccrun_core.specs.Answers.{Answers, AsksFor, IsMade, Makes};
+ghost use Rattle.pccrun_core.specs.Answers.{Answers, AsksFor, IsMade, Yields};
 ghost use Rattle.pccrun_core.specs.Inputs.{IsAccepted, IsRefusedInput, IsRejected, Rejects};
 ghost use Rattle.pccrun_core.specs.declared.command.Command.{Command};
 ghost use Rattle.pccrun_core.specs.declared.command.Command.TheVariants.{Weave};
@@ -17,9 +17,10 @@ pub fn input_laws()
     ensures one_refusal { (c : Command) (input : List ℕ) (r q : Refusal) → Rejects c input r → Rejects c input q → r ≡ q }
 
     // Of an input that is made there is a text, and it is the only one. That `weave` prints one trace alone isn't said here.
-    ensures made { (c : Command) (input text : List ℕ) → Makes c input text → IsMade c input }
-    ensures some_text { (c : Command) (input : List ℕ) → c ≢ Weave → IsMade c input → (text : List ℕ) × Makes c input text }
-    ensures one_text { (c : Command) (input text other : List ℕ) → c ≢ Weave → Makes c input text → Makes c input other → text ≡ other }
+    ensures made { (c : Command) (input text : List ℕ) (status : ℕ) → Yields c input status text → IsMade c input }
+    ensures some_text { (c : Command) (input : List ℕ) → c ≢ Weave → IsMade c input → (status : ℕ) × (text : List ℕ) × Yields c input status text }
+    ensures one_text { (c : Command) (input text other : List ℕ) (status another : ℕ) → c ≢ Weave → Yields c input status text
+        → Yields c input another other → (status ≡ another) × (text ≡ other) }
 {
     package_laws();
 }

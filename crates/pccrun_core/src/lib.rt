@@ -1,6 +1,7 @@
 //! The top call of the program: all that it does over a source and a sink that are handed in.
 #![tactic(auto)]
 
+mod audit;
 mod command;
 mod error;
 mod inputs;

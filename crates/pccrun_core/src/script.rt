@@ -1,11 +1,12 @@
-//! A script with its set-up, as far as `step` and `weave` serve it.
+//! A script with its set-up, as far as a command serves it.
 ghost use Rattle.std.specs.Prelude.{◌<◌, ◌≤◌, ◌^◌, IfOk, MatchResult, length};
 ghost use Rattle.std.specs.List.{AllByRecursion};
 ghost use Rattle.pcc_script.specs.Limits.{IsWithin};
 ghost use Rattle.pcc_setup.specs.SetUps.{IsSetUpOf};
-ghost use Rattle.pccrun_core.specs.Answers.{IsSetUpFor, Serves, input_limit};
+ghost use Rattle.pccrun_core.specs.Answers.{input_limit};
 ghost use Rattle.pccrun_core.specs.CommandErrors.{IsRefusedBy};
-ghost use Rattle.pccrun_core.specs.Refusals.{IsSpelled, NotServed, ScriptRefused};
+ghost use Rattle.pccrun_core.specs.Refusals.{NotServed, ScriptRefused};
+ghost use Rattle.pccrun_core.specs.Serving.{IsSetUpFor, IsSpelled, Serves};
 
 use crate::command::Command;
 use crate::error::CommandError;

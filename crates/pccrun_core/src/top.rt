@@ -1,9 +1,9 @@
 //! The top call of every command that needs no threads.
-ghost use Rattle.std.specs.Prelude.{◌≡◌, ◌≢◌, ◌≤◌, ◌<◌, List, ℕ, IfOk, IfErr, IsErrOf, MatchResult, length, map};
+ghost use Rattle.std.specs.Prelude.{◌≡◌, ◌≢◌, ◌≤◌, ◌<◌, List, ℕ, if◌then◌else◌, IfOk, IfErr, IsErrOf, MatchResult, length, map};
 ghost use Rattle.std.specs.String.{string_bytes};
 ghost use Rattle.std.specs.Io.KnownBytes.{Appends, Keeps};
 ghost use Rattle.pcc_causes.specs.Causes.{AppendsPrefix, Rose};
-ghost use Rattle.pccrun_core.specs.Answers.{Answers, AsksFor, AsksToMake, IsServedInput, Makes, input_limit};
+ghost use Rattle.pccrun_core.specs.Answers.{Answers, AsksFor, AsksToMake, IsDone, IsServedInput, Makes, Yields, input_limit};
 ghost use Rattle.pcc_setup.specs.RefusalText.{HasLine, refused_line};
 ghost use Rattle.pcc_setup.specs.declared.refusal.Refusal.{Refusal};
 ghost use Rattle.pccrun_core.specs.CommandErrors.{IsRefusedBy};
@@ -14,6 +14,7 @@ ghost use Rattle.pccrun_core.specs.Statuses.{code_of};
 ghost use Rattle.pccrun_core.specs.declared.command.Command.{Command};
 ghost use Rattle.pccrun_core.specs.declared.top.Stop.TheVariants.{NoMemory as OutOfMemory};
 
+use crate::audit::audited;
 use crate::command::{Command, Request, request_of, usage};
 use crate::error::CommandError;
 use crate::package::{cpc, raise};
@@ -31,8 +32,8 @@ const INPUT_LIMIT: usize = 4_194_304;
 /// How the program ended.
 #[derive(Clone, Copy, Debug, PartialEq, Eq)]
 pub struct Finished {
-    /// The exit status: 0 the command's text was written, 2 the usage line, 3 the line of a refused input; 4 the source failed, 5 the
-    /// sink failed, 6 memory ran out.
+    /// The exit status: 0 the command's text was written, 1 the flaw that `audit` tells, 2 the usage line, 3 the line of a refused input; 4 the
+    /// source failed, 5 the sink failed, 6 memory ran out.
     pub status: u8,
 }
 
@@ -40,6 +41,7 @@ pub struct Finished {
 #[derive(Clone, Copy, Debug, PartialEq, Eq)]
 enum Status {
     Done = 0,
+    Flawed = 1,
     Usage = 2,
     Refused = 3,
     ReadFault = 4,
@@ -75,18 +77,55 @@ fn copy_of(alloc: Global, text: &[u8]) -> Result<Bytes, NoMemory>
     Ok(Bytes::from_vec(Vec::from_slice(alloc, text)?))
 }
 
-// What a command makes of its whole input.
-fn made(alloc: Global, command: Command, input: &[u8]) -> Result<Vec<u8>, CommandError>
+// What a command makes of its whole input is written with status 0.
+fn done(text: Result<Vec<u8>, CommandError>) -> Result<Answer, CommandError>
+    ensures { (c : Command) (input : List ℕ) → MatchResult text (λ v. Makes c input v.items) (IsRefusedBy (Refuses c input))
+        → MatchResult result (λ a. Yields c input (code_of a.status) a.text) (IsRefusedBy (Refuses c input)) }
+{
+    match text {
+        Ok(text) => Ok(Answer {
+            status: Status::Done,
+            text: Bytes::from_vec(text),
+        }),
+        Err(error) => Err(error),
+    }
+}
+
+// The status after what `audit` writes.
+fn audit_status(flawed: bool) -> Status
+    ensures { code_of result ≡ if flawed then 1 else 0 }
+{
+    if flawed { Status::Flawed } else { Status::Done }
+}
+
+// What `audit` writes of its whole input.
+#[tactic(auto, using(crate::proofs::Tops::judged))]
+fn judged(alloc: Global, input: &[u8]) -> Result<Answer, CommandError>
     requires { length input.now ≤ input_limit }
-    ensures { MatchResult result (λ v. Makes command input.now v.items) (IsRefusedBy (Refuses command input.now)) }
+    ensures { MatchResult result (λ a. Yields Command.Audit input.now (code_of a.status) a.text) (IsRefusedBy (Refuses Command.Audit input.now)) }
+{
+    match audited(alloc, input) {
+        Ok(audited) => Ok(Answer {
+            status: audit_status(audited.flawed),
+            text: audited.text,
+        }),
+        Err(error) => Err(error),
+    }
+}
+
+// What a command writes of its whole input.
+fn made(alloc: Global, command: Command, input: &[u8]) -> Result<Answer, CommandError>
+    requires { length input.now ≤ input_limit }
+    ensures { MatchResult result (λ a. Yields command input.now (code_of a.status) a.text) (IsRefusedBy (Refuses command input.now)) }
 {
     match command {
-        Command::Step => step(alloc, input),
-        Command::Weave => weave(alloc, input),
-        Command::Show => show(alloc, input),
-        Command::Build => build(alloc, input),
-        Command::Cpc => cpc(alloc, input),
-        Command::Raise => raise(alloc, input),
+        Command::Step => done(step(alloc, input)),
+        Command::Weave => done(weave(alloc, input)),
+        Command::Show => done(show(alloc, input)),
+        Command::Build => done(build(alloc, input)),
+        Command::Cpc => done(cpc(alloc, input)),
+        Command::Raise => done(raise(alloc, input)),
+        Command::Audit => judged(alloc, input),
     }
 }
 
@@ -122,10 +161,7 @@ fn answer_to<S: Source>(alloc: Global, words: &[String], source: &mut S) -> Resu
         Err(ReadEnd::TooLong { .. }) => return refused(alloc, Refusal::Long),
     };
     match made(alloc, command, &bytes) {
-        Ok(text) => Ok(Answer {
-            status: Status::Done,
-            text: Bytes::from_vec(text),
-        }),
+        Ok(answer) => Ok(answer),
         Err(CommandError::Input(InputError::Refused(refusal))) => refused(alloc, refusal),
         Err(CommandError::SetUp(SetUpError::Refused { text })) => Ok(Answer {
             status: Status::Refused,
@@ -180,10 +216,10 @@ pub fn run<S: Source, W: Sink>(
         × AppendsPrefix (W.held sink.old) (W.held sink.new) text) }
     ensures memory { result.status ≡ 6 → Keeps (W.held sink.old) (W.held sink.new) }
 
-    // A served input is run, where neither source nor sink fails and memory doesn't run out.
-    ensures complete { IsServedInput (map (λ w. string_bytes w) words.now) (S.left source.old)
+    // A served input is run, where neither source nor sink fails and memory doesn't run out. Of `audit` the status is 0 or 1 then.
+    ensures complete { (h : IsServedInput (map (λ w. string_bytes w) words.now) (S.left source.old))
         → (Rose (S.faults source.old) (S.faults source.new) → ⊥) → (Rose (W.faults sink.old) (W.faults sink.new) → ⊥)
-        → result.status ≢ 6 → result.status ≡ 0 }
+        → result.status ≢ 6 → IsDone h.command result.status }
 
     // A refused input is refused, where neither source nor sink fails and memory doesn't run out.
     ensures refused { (cause : Refusal) → IsRefusedInput (map (λ w. string_bytes w) words.now) (S.left source.old) cause

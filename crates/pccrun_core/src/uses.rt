@@ -1,7 +1,7 @@
 //! Whether a command can be used with a script.
 ghost use Rattle.std.specs.Prelude.{◌≡◌, Some, None};
 ghost use Rattle.std.specs.List.{list_any};
-ghost use Rattle.pccrun_core.specs.Uses.{is_wait, use_fault, weave_fault};
+ghost use Rattle.pccrun_core.specs.Uses.{audit_fault, is_wait, use_fault, weave_fault};
 
 use crate::command::Command;
 use pcc_script::{Line, Scenario};
@@ -37,6 +37,16 @@ fn weave_fault(scenario: &Scenario) -> Option<UseFault>
     None
 }
 
+fn audit_fault(scenario: &Scenario) -> Option<UseFault>
+    ensures { result ≡ audit_fault scenario.now }
+{
+    if scenario.actions.len() == 0 && scenario.picks.is_none() {
+        None
+    } else {
+        Some(UseFault::Audit)
+    }
+}
+
 /// Why a command can't be used with a script, if it can't.
 pub fn use_fault(command: Command, scenario: &Scenario) -> Option<UseFault>
     ensures { result ≡ use_fault command scenario.now }
@@ -50,6 +60,7 @@ pub fn use_fault(command: Command, scenario: &Scenario) -> Option<UseFault>
             }
         }
         Command::Weave => weave_fault(scenario),
+        Command::Audit => audit_fault(scenario),
         Command::Show | Command::Build | Command::Cpc | Command::Raise => None,
     }
 }

@@ -27,11 +27,6 @@ behind ended b le = rw (le-ltb _ _ le) refl
 pub short_table : (b : List ℕ) (n : ℕ) → 48 ≤ length b → told_length b ≡ Ok n → length b < n → decision true b ≡ Faulty (Short (length b))
 short_table b n le told lt = behind true b le ∙ rw (told, lt-ltb _ _ lt) refl
 
--- a header that is wrong
-pub wrong_header : (ended : Bool) (h m : List ℕ) (f : TableFault) → length h ≡ 48 → told_length h ≡ Err f → decision ended (h ++ m) ≡ Faulty f
-wrong_header ended h m f len told =
-    behind ended (h ++ m) (omega (arith, length-append h m)) ∙ ap (behind_header ended (h ++ m)) (told_more h m (omega arith) ∙ told)
-
 -- all bytes that a right header tells
 pub whole : (ended : Bool) (b m : List ℕ) → told_length b ≡ Ok (length b) → decision ended (b ++ m) ≡ table_decision b
 whole ended b m told =
@@ -155,30 +150,6 @@ table_gone b ReadFault left e h = absurd (late_table b ReadFault h)
 table_gone b NoMemory left e h = tt
 
 -- ---- excused faults
-
-pub excused_is : (f : TableFault) (d : Decision) → IsExcused f → ReaderFaultIs f d
-excused_is ReadFault d h = tt
-excused_is NoMemory d h = tt
-excused_is (Short a) d h = absurd h
-excused_is Signature d h = absurd h
-excused_is (LengthOutside a) d h = absurd h
-excused_is (Revision a) d h = absurd h
-excused_is (TooMany a) d h = absurd h
-excused_is (Overrun a) d h = absurd h
-excused_is (SubspaceLength a k s) d h = absurd h
-excused_is (Checksum a) d h = absurd h
-
-pub excused_gone : (f : TableFault) (b : List ℕ) (left : Option (List ℕ)) → IsExcused f → IsGone f b left
-excused_gone ReadFault b left h = tt
-excused_gone NoMemory b left h = tt
-excused_gone (Short a) b left h = absurd h
-excused_gone Signature b left h = absurd h
-excused_gone (LengthOutside a) b left h = absurd h
-excused_gone (Revision a) b left h = absurd h
-excused_gone (TooMany a) b left h = absurd h
-excused_gone (Overrun a) b left h = absurd h
-excused_gone (SubspaceLength a k s) b left h = absurd h
-excused_gone (Checksum a) b left h = absurd h
 
 pub reader_fault : (f : TableFault) (d : Decision) → FaultIs f d → ReaderFaultIs f d
 reader_fault ReadFault d h = tt

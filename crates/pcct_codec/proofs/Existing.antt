@@ -114,7 +114,7 @@ begins_right ended b h =
 -- ---- bytes behind which a source has ended
 
 -- a decision that is made
-abbrev IsMade : Decision → Type 0
+abbrev pub IsMade : Decision → Type 0
 IsMade d = (d ≡ Right) ⊎ ((f : TableFault) × (d ≡ Faulty f))
 
 sized_made : (few at : ℕ) (rest : List ℕ) (r : Result ℕ TableFault) → ((size : ℕ) → IsMade (structures_decision few (at + size) (drop size rest)))
@@ -139,7 +139,7 @@ then_made (Faulty f) next h k = inr (f, refl)
 then_made Undecided next (inl e) k = absurd cc
 then_made Undecided next (inr e) k = let f : Undecided ≡ Faulty e.0 = e.1 in absurd cc
 
-table_made : (b : List ℕ) → IsMade (table_decision b)
+pub table_made : (b : List ℕ) → IsMade (table_decision b)
 unfolding table_decision
 table_made b = then_made (structures_decision 256 48 (drop 48 b)) (sum_decision b) (structures_made 256 48 (drop 48 b)) (sum_made b (eqb (sum b % 256) 0))
 

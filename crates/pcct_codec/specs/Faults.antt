@@ -1,5 +1,5 @@
 -- What the first bytes of a source decide: that they begin with a table, or the first check that fails.
-use Rattle.std.specs.Prelude.{◌≡◌, ◌<◌, ◌≤◌, ◌++◌, ℕ, zero, suc, ◌+◌, ◌%◌, ◌==◌, nat_lt, ◌||◌, if◌then◌else◌, Bool, true, List, [], ◌∷◌, length, take}
+use Rattle.std.specs.Prelude.{◌≡◌, ℕ, zero, suc, ◌+◌, ◌%◌, ◌==◌, nat_lt, ◌||◌, if◌then◌else◌, Bool, true, List, [], ◌∷◌, length, take}
 use Rattle.std.specs.Prelude.{drop, sum, slice_index, Option, Some, None, Result, Ok, Err, codes}
 use Rattle.std.specs.Str.{bytes_eq}
 use Rattle.std.specs.Io.KnownBytes.{Consumes, IsAtEnd}
@@ -120,16 +120,3 @@ pub record Gone (fault : TableFault) (old new : Option (List ℕ)) : Type 0 wher
   pub taken : List ℕ
   pub read : Consumes old new taken
   pub gone : IsGone fault taken new
-
--- some bytes are gone from the front of a source
-pub record Taken (old new : Option (List ℕ)) : Type 0 where
-  pub taken : List ℕ
-  pub read : Consumes old new taken
-
--- bytes grew to a number by those that are gone from the front of a source, or to fewer where it has ended
-pub record Filled (old new : Option (List ℕ)) (before after : List ℕ) (want : ℕ) : Type 0 where
-  pub more : List ℕ
-  pub read : Consumes old new more
-  pub grown : after ≡ before ++ more
-  pub within : length after ≤ want
-  pub ended : length after < want → IsAtEnd new

@@ -1,89 +1,20 @@
-//! Tables from bytes, and from a source of them.
-ghost use Rattle.std.specs.Prelude.{◌≡◌, ◌↔◌, ◌⊎◌, ◌++◌, ◌<◌, ◌≤◌, ◌^◌, Bool, List, ℕ, Some, Ok, vec_len, length, take, true, false, IfOk, IfErr};
-ghost use Rattle.std.specs.Prelude.{IsErrOf, MatchResult, OnOk};
-ghost use Rattle.std.specs.Io.KnownBytes.{Consumes};
+//! Tables from bytes.
+ghost use Rattle.std.specs.Prelude.{◌≡◌, ◌↔◌, ◌⊎◌, ◌++◌, ◌≤◌, Bool, List, ℕ, Ok, length, take, true, false, IfOk, IsErrOf, MatchResult};
 ghost use Rattle.pcc_bytes.specs.Bytes.{IsBytes};
-ghost use Rattle.pcc_causes.specs.Causes.{Rose};
 ghost use Rattle.pcct_table.specs.declared.table.Table.{Table};
 ghost use Rattle.pcct_codec.specs.declared.fault.TableFault.TheVariants.{NoMemory};
 ghost use Rattle.pcct_codec.specs.Tables.{BeginsTable, IsTableValue, TableBytes};
-ghost use Rattle.pcct_codec.specs.Faults.{
-  AnswerIs,
-  FaultIs,
-  Filled,
-  Gone,
-  HasFault,
-  IsExcused,
-  ReaderFaultIs,
-  Right,
-  Taken,
-  Undecided,
-  decision,
-  table_decision,
-  told_length,
-};
+ghost use Rattle.pcct_codec.specs.Faults.{FaultIs, HasFault, Right, Undecided, decision, table_decision, told_length};
 
 use crate::fault::TableFault;
 use crate::header::{HEADER_BYTES, table_with, told_length};
 use crate::structures::structures_from;
 use crate::sum::byte_sum;
-use pcc_io::{Failed, Source};
 use pcct_table::Table;
 use std::alloc::Global;
 
-/// How many bytes one read asks for at most.
-const CHUNK: usize = 1024;
-
-/// Reads until there are this many bytes or the source has ended.
-#[tactic(auto, using(crate::proofs::Reading::filling_start, crate::proofs::Reading::filling_more, crate::proofs::Reading::filling_taken, crate::proofs::Reading::filling_kept, crate::proofs::Reading::filling_ended, crate::proofs::Reading::filling_end))]
-fn fill<S: Source>(source: &mut S, bytes: &mut Vec<u8>, want: usize) -> Result<(), TableFault>
-    requires within { vec_len bytes.old ≤ want }
-    requires small { want < 2 ^ 32 }
-    ensures ok { OnOk result (Filled (S.left source.old) (S.left source.new) bytes.old.items bytes.new.items want) }
-    ensures excused { IfErr result IsExcused }
-    ensures taken { Taken (S.left source.old) (S.left source.new) }
-    ensures fault { IsErrOf result TableFault.ReadFault → Rose (S.faults source.old) (S.faults source.new) }
-    ensures later { S.faults source.old ≤ S.faults source.new }
-{
-    let mut buf = [0; CHUNK];
-    while bytes.len() < want {
-        let most = CHUNK.min(want - bytes.len());
-        match source.read(&mut buf[..most]) {
-            Err(Failed) => return Err(TableFault::ReadFault),
-            Ok(0) => return Ok(()),
-            Ok(n) => bytes.extend_from_slice(&buf[..n])?,
-        }
-    }
-    Ok(())
-}
-
-/// The bytes of a header that is right and of all that it states.
-fn take_table<S: Source>(alloc: Global, source: &mut S) -> Result<Vec<u8>, TableFault>
-    ensures ok { IfOk result (λ v. Consumes (S.left source.old) (S.left source.new) v.items × (told_length v.items ≡ Ok (length v.items))) }
-    ensures exact { (all : List ℕ) → S.left source.old ≡ Some all → IfErr result (λ f. ReaderFaultIs f (decision true all)) }
-    ensures gone { IfErr result (λ f. Gone f (S.left source.old) (S.left source.new)) }
-    ensures fault { IsErrOf result TableFault.ReadFault → Rose (S.faults source.old) (S.faults source.new) }
-    ensures later { S.faults source.old ≤ S.faults source.new }
-{
-    let mut bytes = Vec::new(alloc);
-    fill(source, &mut bytes, HEADER_BYTES)?;
-    if bytes.len() < HEADER_BYTES {
-        return Err(TableFault::Short {
-            at: bytes.len() as u32,
-        });
-    }
-    let len = told_length(&bytes)?;
-    fill(source, &mut bytes, len)?;
-    if bytes.len() < len {
-        return Err(TableFault::Short {
-            at: bytes.len() as u32,
-        });
-    }
-    Ok(bytes)
-}
-
 /// The table that the bytes spell, which a right header states to be all.
-fn table_in(alloc: Global, bytes: &[u8]) -> Result<Table, TableFault>
+pub(crate) fn table_in(alloc: Global, bytes: &[u8]) -> Result<Table, TableFault>
     requires { told_length bytes.now ≡ Ok (length bytes.now) }
     ensures table { MatchResult result
         (λ t. TableBytes bytes.now t × (table_decision bytes.now ≡ Right))
@@ -126,29 +57,6 @@ pub fn table_of_bytes(alloc: Global, bytes: &[u8]) -> Result<(Table, usize), Tab
     };
     let table = table_in(alloc, front)?;
     Ok((table, len))
-}
-
-/// The table with whose bytes the source begins, which are then gone. The header's 48 bytes are taken first, then as many as it states.
-/// After a fault of the header 48 bytes are gone, after one of the structures or of the sum all of the table's, and at `Short` the
-/// source is at its end.
-pub fn table_from<S: Source>(alloc: Global, source: &mut S) -> Result<Table, TableFault>
-    // A table is one that the taken bytes spell.
-    ensures found { IfOk result (λ t. (bytes : List ℕ) × IsBytes bytes × TableBytes bytes t
-        × Consumes (S.left source.old) (S.left source.new) bytes) }
-    ensures value { IfOk result IsTableValue }
-    // What the source begins with is read, unless it fails or memory runs out.
-    ensures only { (bytes rest : List ℕ) (t : Table) → TableBytes bytes t → S.left source.old ≡ Some (bytes ++ rest)
-        → MatchResult result (λ v. v ≡ t) IsExcused }
-    // A fault is that of the first check that fails on what the source has.
-    ensures exact { (all : List ℕ) → S.left source.old ≡ Some all → AnswerIs result (decision true all) }
-    ensures gone { IfErr result (λ f. Gone f (S.left source.old) (S.left source.new)) }
-    ensures fault { IsErrOf result TableFault.ReadFault → Rose (S.faults source.old) (S.faults source.new) }
-    ensures later { S.faults source.old ≤ S.faults source.new }
-{
-    match take_table(alloc, source) {
-        Err(fault) => Err(fault),
-        Ok(bytes) => table_in(alloc, &bytes),
-    }
 }
 
 /// What some bytes decide stays, whatever follows, where they are enough to decide. It does nothing.

@@ -2,6 +2,7 @@
 ghost use Rattle.std.specs.Prelude.{◌≡◌, [], ◌∷◌, ◌++◌, take, drop, true, false, Err};
 ghost use Rattle.pcct_codec.specs.Tables.{TableBytes, most_structures};
 ghost use Rattle.pcct_codec.specs.Faults.{Faulty, Right, Undecided, decision, structure_size, structures_decision};
+ghost use Rattle.pcct_codec.specs.Pieces.{pieces_decision};
 ghost use Rattle.pcct_codec.specs.Worked.{no_subspaces, one_generic, repeated};
 ghost use Rattle.pcct_codec.specs.declared.fault.TableFault.TheVariants.{
   Checksum,
@@ -33,6 +34,19 @@ pub fn worked_tables()
     ensures right { decision false ONE_GENERIC_SUBSPACE ≡ Right }
     ensures unknown { decision false (take 9 ONE_GENERIC_SUBSPACE ++ 0x68 ∷ take 38 (drop 10 ONE_GENERIC_SUBSPACE) ++ 6 ∷ drop 49 ONE_GENERIC_SUBSPACE) ≡ Right }
     ensures wanting { decision false (take 100 ONE_GENERIC_SUBSPACE) ≡ Undecided }
+{}
+
+/// What parts of them decide, and what they are read to in pieces. It does nothing.
+pub fn worked_pieces()
+    ensures header { decision false (take 47 ONE_GENERIC_SUBSPACE) ≡ Undecided }
+    ensures stated { decision false (take 48 ONE_GENERIC_SUBSPACE) ≡ Undecided }
+    ensures last { decision false (take 109 ONE_GENERIC_SUBSPACE) ≡ Undecided }
+    ensures size { decision false (take 50 (take 49 ONE_GENERIC_SUBSPACE ++ 61 ∷ drop 50 ONE_GENERIC_SUBSPACE)) ≡ Undecided }
+    ensures signature { decision false (0x51 ∷ take 46 (drop 1 ONE_GENERIC_SUBSPACE)) ≡ Undecided }
+    ensures whole { pieces_decision [] (take 47 ONE_GENERIC_SUBSPACE ∷ [] ∷ take 62 (drop 47 ONE_GENERIC_SUBSPACE) ∷ drop 109 ONE_GENERIC_SUBSPACE ∷ []) ≡ Right }
+    ensures trailing { pieces_decision [] ((ONE_GENERIC_SUBSPACE ++ 1 ∷ 2 ∷ 3 ∷ []) ∷ []) ≡ Right }
+    ensures wrong { pieces_decision [] ((0x51 ∷ take 19 (drop 1 ONE_GENERIC_SUBSPACE)) ∷ take 28 (drop 20 ONE_GENERIC_SUBSPACE) ∷ []) ≡ Faulty Signature }
+    ensures short { pieces_decision [] (take 20 ONE_GENERIC_SUBSPACE ∷ take 27 (drop 20 ONE_GENERIC_SUBSPACE) ∷ []) ≡ Faulty (Short 47) }
 {}
 
 /// Each fault of a table's bytes: these are the bytes of a table but for one of them, or for the bytes that follow. It does nothing.

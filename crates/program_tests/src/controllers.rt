@@ -8,10 +8,10 @@ use std::alloc::Global;
 use std::test::Fail;
 
 /// Registers of a desired performance of 100, a minimum of 10 and a maximum of 300.
-const OPENED: &[u8] = b"open 0 cppc 640000000a0000002c010000\n";
+pub const OPENED: &[u8] = b"open 0 cppc 640000000a0000002c010000\n";
 
 /// A script whose table has one generic subspace with 32 bytes of space.
-fn script(alloc: Global, rest: &[&[u8]]) -> Result<Vec<u8>, NoMemory> {
+pub fn script(alloc: Global, rest: &[&[u8]]) -> Result<Vec<u8>, NoMemory> {
     let table = changed(alloc, &ONE_GENERIC_SUBSPACE, &[(64, 0x28), (9, 0x5e)])?;
     let mut text = Vec::from_slice(alloc, b"table ")?;
     put_hex(&mut text, &table)?;
@@ -22,7 +22,7 @@ fn script(alloc: Global, rest: &[&[u8]]) -> Result<Vec<u8>, NoMemory> {
     Ok(text)
 }
 
-fn cpu_line(alloc: Global, package: &[u8]) -> Result<Vec<u8>, NoMemory> {
+pub fn cpu_line(alloc: Global, package: &[u8]) -> Result<Vec<u8>, NoMemory> {
     let mut line = Vec::from_slice(alloc, b"cpu ")?;
     put_hex(&mut line, package)?;
     line.push(b'\n')?;
@@ -41,7 +41,7 @@ fn status(
     status_of_long(alloc, "step", &input, text)
 }
 
-const HEAD: &[u8] = b"journal 0 type 0 cppc room 32 turnaround 0 rate 0 errors yes\n";
+pub const HEAD: &[u8] = b"journal 0 type 0 cppc room 32 turnaround 0 rate 0 errors yes\n";
 
 const READ_AND_SET: &[u8] = b"read 0 0 3 0\nset 0 0 10 150 300 3 0\nread 0 0 3 0\n";
 
@@ -56,7 +56,7 @@ const LAST_READ: &[u8] =
 /// What entries 21 and 22 add to a line of values.
 const FREQUENCIES: &[u8] = b" 21=400 22=2000";
 
-const READ_AND_SET_JOURNAL: &[u8] =
+pub const READ_AND_SET_JOURNAL: &[u8] =
     b"journal 0 type 0 cppc room 32 turnaround 0 rate 0 errors yes\n\
 record 0 caller 0 code 0 ok post 0 done 1 timely in 640000000a0000002c0100000000000000000000000000000000000000000000 \
 out 640000000a0000002c0100000000000064000000000000006400000000000000\n\

@@ -18,6 +18,7 @@ fn words_that_ask_for_nothing(rt: HostRuntime) -> Result<(), Fail> {
         "make 4 4",
         "Step",
         "raise x",
+        "audit x",
         "",
     ] {
         let words = words_of(alloc, text)?;

@@ -1,0 +1,9 @@
+pub mod Cutting
+pub mod OneCut
+pub mod JournalLines
+pub mod InTurn
+pub mod OneReading
+pub mod Judging
+pub mod WorkedCuts
+pub mod WorkedJournals
+pub mod OneAudit
