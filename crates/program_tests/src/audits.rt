@@ -40,7 +40,8 @@ const NOTHING: &[u8] =
 
 /// The status of `audit`, if it writes this text of these parts, which follow a table of one generic subspace.
 fn status(alloc: Global, parts: &[&[u8]], text: &[u8]) -> Result<Option<u8>, NoMemory> {
-    let input = joined(alloc, &[TABLE, &joined(alloc, parts)?])?;
+    let script = joined(alloc, parts)?;
+    let input = joined(alloc, &[TABLE, &script])?;
     status_of(alloc, "audit", &input, text)
 }
 
@@ -161,6 +162,8 @@ fn refused_audits(rt: HostRuntime) -> Result<(), Fail> {
     Ok(())
 }
 
+const EMPTY: &[u8] = b"journal 1 type 0 bank room 16 turnaround 0 rate 0 errors yes\nend 1\n";
+
 const FIRST: &[u8] = b"journal 1 type 0 bank room 16 turnaround 0 rate 0 errors yes\n\
 record 0 caller 0 code 17 error post 0 done 10 timely in 00000000000000000000000000000000 out 00000000000000000000000000000000\nend 1\n";
 
@@ -168,14 +171,12 @@ record 0 caller 0 code 17 error post 0 done 10 timely in 00000000000000000000000
 #[test]
 fn audits_of_two_journals(rt: HostRuntime) -> Result<(), Fail> {
     let alloc = rt.alloc();
-    let second = joined(alloc, &[HEAD, SWAP, END])?;
-    let empty = b"journal 1 type 0 bank room 16 turnaround 0 rate 0 errors yes\nend 1\n".as_slice();
     let rows: [(&[&[u8]], u8, &[u8]); 6] = [
-        (&[empty, &second], 0, b"yes 1 0\nyes 0 1\n"),
-        (&[FIRST, &second], 1, b"no 1 0 legal\n"),
-        (&[empty, HEAD, WRONG_SWAP, END], 1, b"no 0 0 legal\n"),
+        (&[EMPTY, HEAD, SWAP, END], 0, b"yes 1 0\nyes 0 1\n"),
+        (&[FIRST, HEAD, SWAP, END], 1, b"no 1 0 legal\n"),
+        (&[EMPTY, HEAD, WRONG_SWAP, END], 1, b"no 0 0 legal\n"),
         (&[FIRST, HEAD, FETCH, END], 3, b"refused line 9 text\n"),
-        (&[&second, empty], 1, b"no 1 0 head\n"),
+        (&[HEAD, SWAP, END, EMPTY], 1, b"no 1 0 head\n"),
         (&[FIRST], 3, b"refused line 8 text\n"),
     ];
     for (journals, status_is, text) in rows {
@@ -229,7 +230,8 @@ fn the_longest_journals(rt: HostRuntime) -> Result<(), Fail> {
         ),
     ];
     for (count, rest, status_is, text) in rows {
-        let input = joined(alloc, &[TABLE, OPENED, HEAD, &records(alloc, count)?, rest])?;
+        let records = records(alloc, count)?;
+        let input = joined(alloc, &[TABLE, OPENED, HEAD, &records, rest])?;
         assert_eq!(rt;
             status_of_long(alloc, "audit", &input, text)?,
             Some(status_is)
