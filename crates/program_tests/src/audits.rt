@@ -231,7 +231,9 @@ fn the_longest_journals(rt: HostRuntime) -> Result<(), Fail> {
     ];
     for (count, rest, status_is, text) in rows {
         let records = records(alloc, count)?;
-        let input = joined(alloc, &[TABLE, OPENED, HEAD, &records, rest])?;
+        let mut input = joined(alloc, &[TABLE, OPENED, HEAD])?;
+        put(&mut input, &records)?;
+        put(&mut input, rest)?;
         assert_eq!(rt;
             status_of_long(alloc, "audit", &input, text)?,
             Some(status_is)
