@@ -106,9 +106,9 @@ replied w block = bytes_of (drop (heads_of (style_of w)) block)
 abbrev pub block_after : Wiring → Asked → List ℕ → List ℕ
 block_after w c block = block_header (style_of w) w c.code (length c.bytes) ++ words_of (over (replied w block) c.bytes)
 
--- the run that posts a call: it stores all words of the call's block
+-- the run that posts a call: it stores the words of the call's block that differ from those that were last stored or loaded
 abbrev pub posts_call : Wiring → Asked → List ℕ → Run AskEnd
-posts_call w c block = post_run w c.code (block_after w c block)
+posts_call w c block = post_run w c.code (block_after w c block) block
 
 -- a line with no word step, that ends so
 abbrev pub Rests : TraceLine → TraceEnd → Type 0

@@ -25,7 +25,7 @@ pub record AskStep (ws : List ℕ) (a : Ask) (ws' : List ℕ) (b : Ask) (told : 
   pub machine : b ≡ ask_fed a (found (ask_next a) ws)
   pub told_is : told ≡ ask_told a (found (ask_next a) ws)
 
--- the words of the block before its last one at once, and then one word step
+-- words of the block but the last one at once, and then one word step
 pub record AskStride (ws : List ℕ) (a : Ask) (ws' : List ℕ) (b : Ask) (told : Option AskOutcome) : Type 0 where
   pub count : ℕ
   pub words : List ℕ
@@ -86,7 +86,7 @@ module _ (exec : Device) where
     pub device : d' ≡ (settle exec (record { m = answer_fed b (found (answer_next b) ws); device = d; done = [] })).device
     pub told_is : told ≡ answer_told b (found (answer_next b) ws)
 
-  -- the words of the block before its last one at once, and then one word step
+  -- words of the block but the last one at once, and then one word step
   pub record AnswerStride (ws : List ℕ) (b : Answer) (d : List ℕ) (ws' : List ℕ) (b' : Answer) (d' : List ℕ) (told : Option AnswerOutcome) : Type 0 where
     pub count : ℕ
     pub words : List ℕ

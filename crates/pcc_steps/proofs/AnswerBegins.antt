@@ -43,7 +43,7 @@ module _ (exec : Device) (start : List ℕ) where
   waited : (t : Turn) (x : Asker) (y : Answerer) (c : Core) (n : ℕ) → Waits t (flight x) y c → Waits t (flight x) (record y { m = record y.m { steps = n } }) c
   waited quiet x y c n f = f
   waited (taken j) x y c n f = record { row = f.row; loaded = f.loaded; header = f.header }
-  waited (replying j) x y c n f = record { row = f.row; header = f.header; out = f.out; bytes = f.bytes; told = f.told }
+  waited (replying j) x y c n f = record { row = f.row; header = f.header; loaded = f.loaded; out = f.out; bytes = f.bytes; told = f.told }
 
   counted : (q : Pose) (t : Turn) (x : Asker) (y : Answerer) (c : Core) (n : ℕ) → Fits q t x y c → Fits q t x (record y { m = record y.m { steps = n } }) c
   counted free t x y c n f = f

@@ -1,5 +1,5 @@
 -- What a step of the answering machine leads to, and what the device's turn adds to a history.
-use Rattle.std.proofs.Common.{◌≡◌, ◌≢◌, ℕ, Bool, true, false, eqb, List, [], ◌++◌, refl, sym, ap}
+use Rattle.std.proofs.Common.{◌≡◌, ◌≢◌, ℕ, ◌+◌, Bool, true, false, eqb, ltb, List, [], ◌++◌, length, refl, sym, ap}
 use Rattle.std.specs.Prelude.{Option, Some, None}
 use Rattle.std.proofs.lemmas.List.{append-nil}
 use Rattle.pcc_history.specs.Devices.{Device}
@@ -9,6 +9,8 @@ use Rattle.pcc_steps.specs.declared.wiring.Style.TheVariants.{Headed, Joined4, S
 use Rattle.pcc_steps.specs.declared.answer.AnswerStage.{AnswerStage}
 use Rattle.pcc_steps.specs.declared.answer.AnswerStage.TheVariants.{AnswerRest, TakeLine, TakeAckLoad, TakeAckStore, TakeHeader, TakeBlock, RunDevice, ReplyBlock, ReplyError, ReplyHeader, ReplyUpdateLoad, ReplyUpdateStore, ReplyMarkLoad, ReplyMarkStore, CloseBellLoad, CloseBellStore, CloseLine}
 use Rattle.pcc_steps.specs.declared.answer.AnswerOutcome.{AnswerOutcome}
+use Rattle.pcc_steps.specs.declared.wiring.Wiring.{Wiring}
+use Rattle.pcc_steps.specs.Changes.{next_changed}
 use Rattle.pcc_steps.specs.Wires.{style_of, tells_error, four_by}
 use Rattle.pcc_steps.specs.Asking.{has_more}
 use Rattle.pcc_steps.specs.Answering.{Answer, answer_fed_at, answer_told_at, after_ack, after_take, after_error, after_reply, after_close, after_update, done_stage, asks_notify, served_at, take_on, take_told, load_on, reply_on}
@@ -121,9 +123,9 @@ load_rests : (b : Bool) (j v : ℕ) (a : Answer) → is_rest (load_on b j v a).s
 load_rests true j v a = refl
 load_rests false j v a = refl
 
-reply_rests : (b : Bool) (j : ℕ) (a : Answer) → is_rest (reply_on b j a).stage ≡ false
-reply_rests true j a = refl
-reply_rests false j a = reply_goes (tells_error a.wiring) (style_of a.wiring)
+reply_rests : (b : Bool) (n : ℕ) (w : Wiring) → is_rest (reply_on b n w) ≡ false
+reply_rests true n w = refl
+reply_rests false n w = reply_goes (tells_error w) (style_of w)
 
 pub fed_rests : (st : AnswerStage) (a : Answer) (v : ℕ) → is_rest st ≡ false → is_run st ≡ false
     → is_rest (answer_fed_at st a v).stage ≡ ends_run (answer_told_at st a v)
@@ -134,7 +136,7 @@ fed_rests TakeAckStore a v e f = ack_goes (style_of a.wiring)
 fed_rests TakeHeader a v e f = refl
 fed_rests (TakeBlock j) a v e f = load_rests (has_more j a.wiring) j v a
 fed_rests RunDevice a v e f = absurd (cc f)
-fed_rests (ReplyBlock j) a v e f = reply_rests (has_more j a.wiring) j a
+fed_rests (ReplyBlock j) a v e f = let n : ℕ = next_changed (j + 1) a.out a.loaded in reply_rests (ltb n (length a.out)) n a.wiring
 fed_rests ReplyError a v e f = error_goes (style_of a.wiring)
 fed_rests ReplyHeader a v e f = served_rest (done_stage a)
 fed_rests ReplyUpdateLoad a v e f = refl

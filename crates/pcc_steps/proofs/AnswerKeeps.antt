@@ -11,6 +11,7 @@ use Rattle.pcc_steps.specs.declared.wiring.Style.TheVariants.{Headed, Joined3, S
 use Rattle.pcc_steps.specs.declared.answer.AnswerStage.{AnswerStage}
 use Rattle.pcc_steps.specs.declared.answer.AnswerStage.TheVariants.{AnswerRest, TakeLine, TakeAckLoad, TakeAckStore, TakeHeader, TakeBlock, RunDevice}
 use Rattle.shmem_header.specs.Spelling.{words_of, bytes_of}
+use Rattle.pcc_steps.specs.Changes.{next_changed}
 use Rattle.pcc_steps.specs.Wires.{style_of, heads_of, block_of, code_by, four_by, masked_by}
 use Rattle.pcc_steps.specs.Asking.{has_more}
 use Rattle.pcc_steps.specs.Answering.{Answer, AnswerOk, AnswerPlace, answer_next_at, answer_fed_at, take_on, load_on, after_ack, after_take, ran_with}
@@ -18,7 +19,8 @@ use Rattle.pcc_steps.specs.Agree.{Core, act, Finds, mix, Asker, Answerer, settle
 use Rattle.pcc_steps.proofs.Trails.{sent_carries, waits_pends}
 use Rattle.pcc_steps.proofs.Lists.{take_all, loads, get_block}
 use Rattle.pcc_steps.proofs.Bits.{code_known}
-use Rattle.pcc_steps.proofs.Spaces.{block_long, bytes_again, mix_front, some_words, behind_heads}
+use Rattle.pcc_steps.proofs.ReplyStages.{replied_turn, replied_place, replied_between, replied_told, mix_loaded}
+use Rattle.pcc_steps.proofs.Spaces.{block_long, bytes_again, mix_front, some_words}
 use Rattle.pcc_steps.proofs.Legality.{legal_more, state_more, room_more, state_kept}
 
 -- the answering machine at this stage, wired as the asking one
@@ -227,10 +229,11 @@ module _ (exec : Device) (is_state : List ℕ → Type 0) (room : ℕ) (law : (d
       let x1 : Exchange = exchange_of exec r y.device code input in
       let z : Answerer = record { m = m; device = e.state; done = y.done ++ x1 ∷ [] } in
       let more : (d : List ℕ) → d ≡ state_after exec start y.done → Legal exec r start (y.done ++ exchange_of exec r d code input ∷ []) = λ d e. subst (λ (d : List ℕ). Legal exec r start (y.done ++ exchange_of exec r d code input ∷ [])) (sym e) (legal_more exec r start y.done code input g.legal) in
-      let out : take k l ++ words_of e.space ≡ reply_block f e.space = ap (λ (l : List ℕ). take k l ++ words_of e.space) whole in record {
+      let out : take k l ++ words_of e.space ≡ reply_block f e.space = ap (λ (l : List ℕ). take k l ++ words_of e.space) whole in
+      let longs : length m.out ≡ block_of w = ap (λ (l : List ℕ). length l) out ∙ block_long k w.room x.m.sent e.space long reply in record {
         ask_ok = g.ask_ok;
-        answer_ok = record { wired = ok.wired; sized = record { loaded = ap (λ (l : List ℕ). length l) whole ∙ long; out = ap (λ (l : List ℕ). length l) out ∙ block_long k w.room x.m.sent e.space long reply; space = reply }; place = (omega arith, behind_heads k w.room ok.wired.least); kept = ok.kept; header = ok.header };
-        between = tt;
+        answer_ok = record { wired = ok.wired; sized = record { loaded = ap (λ (l : List ℕ). length l) whole ∙ long; out = longs; space = reply }; place = replied_place k w m.out l longs (omega arith); kept = ok.kept; header = ok.header };
+        between = replied_between k w m.out l;
         same = refl;
         legal = more y.device g.device;
         device = ap (λ (d : List ℕ). (exec d code input).state) g.device ∙ sym (state_more exec start y.done x1);
@@ -240,18 +243,19 @@ module _ (exec : Device) (is_state : List ℕ → Type 0) (room : ℕ) (law : (d
         asked = g.asked;
         posts = g.posts;
         irq = g.irq;
-        fits = in_flight (replying k) x z c q record {
+        fits = subst (λ (t : Turn). Fits (pose x.m) t x z c) (sym (replied_turn k w m.out l m longs (omega arith))) (in_flight (replying (next_changed k m.out l)) x z c q record {
           row = record {
             completion = t.row.completion;
             line = t.row.line;
-            block = t.row.block ∙ sym (ap (λ (o : List ℕ). mix k o x.m.sent) out ∙ mix_front k x.m.sent (words_of e.space) front);
+            block = t.row.block ∙ sym (mix_loaded k m.out l x.m.sent whole (longs ∙ sym long) ∙ ap (λ (o : List ℕ). mix k o x.m.sent) out ∙ mix_front k x.m.sent (words_of e.space) front);
             done = (λ i. t.row.done i ++ record { code = is_code i; input = is_input i; error = both r e.bad; output = e.space } ∷ []);
           };
           header = has;
+          loaded = whole;
           out = out;
           bytes = kept.1.fits;
-          told = tt;
-        };
+          told = replied_told k w m.out l c.error e.bad;
+        });
       }
 
   loaded_on : (b : Bool) (j v : ℕ) (x : Asker) (y : Answerer) (c : Core) → x.m.wiring.room ≡ room → has_more j x.m.wiring ≡ b → v ≡ get_or c.block j 0

@@ -1,7 +1,6 @@
 -- Each step of a reply keeps the relation.
 use Rattle.std.proofs.Common.{◌≡◌, ◌≢◌, ℕ, ◌+◌, ◌^◌, ◌<◌, ◌≤◌, Bool, true, false, List, length, get_or, set, refl, sym, ap, ◌∙◌, subst, ⊎_elim, inl, inr, arith}
 use Rattle.std.specs.Int.RustNames.{bit_or}
-use borrow.Author.Tests.{ltb-true, ltb-false}
 use Rattle.pcc_exec.specs.Execution.{IsSpace}
 use Rattle.pcc_history.specs.Devices.{Device}
 use Rattle.pcc_history.specs.Channel.{both}
@@ -11,92 +10,43 @@ use Rattle.pcc_steps.specs.declared.wiring.Style.TheVariants.{Headed, Joined3, S
 use Rattle.pcc_steps.specs.declared.answer.AnswerStage.{AnswerStage}
 use Rattle.pcc_steps.specs.declared.answer.AnswerStage.TheVariants.{AnswerRest, TakeLine, TakeAckLoad, TakeAckStore, TakeHeader, TakeBlock, RunDevice, ReplyBlock, ReplyError, ReplyHeader, ReplyUpdateLoad, ReplyUpdateStore, ReplyMarkLoad, ReplyMarkStore, CloseBellLoad, CloseBellStore, CloseLine}
 use Rattle.shmem_header.specs.HeaderBits.{with_status}
-use Rattle.pcc_steps.specs.Wires.{style_of, heads_of, block_of, status_of, tells_error, four_by, masked_by, update_place}
+use Rattle.pcc_steps.specs.Changes.{next_changed}
+use Rattle.pcc_steps.specs.Wires.{style_of, heads_of, block_of, status_of, four_by, masked_by, update_place}
 use Rattle.pcc_steps.specs.Runs.{error_word}
-use Rattle.pcc_steps.specs.Asking.{has_more, CodeFits}
-use Rattle.pcc_steps.specs.Answering.{Answer, AnswerPlace, AnswerUpdates, AnswerSets, answer_next_at, reply_on, after_error, after_reply, after_close, after_done, asks_notify, done_stage, after_update}
+use Rattle.pcc_steps.specs.Asking.{CodeFits}
+use Rattle.pcc_steps.specs.Answering.{Answer, AnswerPlace, AnswerUpdates, AnswerSets, answer_next_at, reply_stage, after_error, after_close, after_done, asks_notify, done_stage, after_update}
 use Rattle.pcc_steps.specs.Agree.{Core, act, Finds, mix, Asker, Answerer, settle_at, settle, answerer_fed_at, Pose, free, writing, cleared, waiting, reading, pose, Turn, quiet, replying, turn_at, closed, finished, Marked, Row, flight, HasHeader, Shows, Told, IsReplying, IsDone, Fits, IsBetween, Agreed, Agree}
 use Rattle.pcc_steps.proofs.Lists.{mix_more, mix_all, set_block}
-use Rattle.pcc_steps.proofs.Bits.{reports_headed, status_seen, sets_mark, sets_update, shows_stored, shows_none}
+use Rattle.pcc_steps.proofs.Bits.{reports_headed, status_seen, sets_mark, sets_update, shows_stored}
+use Rattle.pcc_steps.proofs.ReplyStages.{place_error, between_error, told_error, turn_error, settled_error, replied_settled, replied_place, replied_between, replied_turn, replied_told, mix_loaded}
 use Rattle.pcc_steps.proofs.AnswerPlaces.{place_close, place_done}
 use Rattle.pcc_steps.proofs.AnswerKeeps.{staged, at, KeepsAt, while_replying, still, in_flight, moves, steps_on, rests, takes_line, loads_ack, stores_ack, loads_header, loads_block, runs}
 
 module _ (exec : Device) (is_state : List ℕ → Type 0) (room : ℕ) (law : (d : List ℕ) (code : ℕ) (s : List ℕ) → is_state d → IsSpace room s → is_state (exec d code s).state × IsSpace room (exec d code s).space) (start : List ℕ) (sound : is_state start) where
   -- ---- the reply
 
-  turn_error : (s : Style) (a : Answer) → turn_at (after_error s) a ≡ replying (block_of a.wiring)
-  turn_error Headed a = refl
-  turn_error _ a = refl
-
-  turn_reply : (b : Bool) (s : Style) (a : Answer) → turn_at (after_reply b s) a ≡ replying (block_of a.wiring)
-  turn_reply true s a = refl
-  turn_reply false s a = turn_error s a
-
-  place_error : (s : Style) (w : Wiring) → style_of w ≡ s → AnswerPlace (after_error s) w
-  place_error Headed w e = e
-  place_error Joined3 w e = subst AnswerSets (sym e) tt
-  place_error Separate3 w e = subst AnswerSets (sym e) tt
-  place_error Joined4 w e = subst AnswerUpdates (sym e) tt
-  place_error Separate4 w e = subst AnswerUpdates (sym e) tt
-  place_error Reduced5 w e = subst AnswerSets (sym e) tt
-
-  place_reply : (b : Bool) (s : Style) (w : Wiring) → style_of w ≡ s → tells_error w ≡ b → AnswerPlace (after_reply b s) w
-  place_reply true s w e is = is
-  place_reply false s w e is = place_error s w e
-
-  settled_error : (s : Style) (y : Answerer) → settle_at exec (after_error s) y ≡ y
-  settled_error Headed y = refl
-  settled_error _ y = refl
-
-  settled_reply : (b : Bool) (s : Style) (y : Answerer) → settle_at exec (after_reply b s) y ≡ y
-  settled_reply true s y = refl
-  settled_reply false s y = settled_error s y
-
-  between_error : (s : Style) → IsBetween (after_error s)
-  between_error Headed = tt
-  between_error _ = tt
-
-  between_reply : (b : Bool) (s : Style) → IsBetween (after_reply b s)
-  between_reply true s = tt
-  between_reply false s = between_error s
-
-  told_error : (s : Style) (w : Wiring) (word : ℕ) (e : Bool) → Shows w word e → Told (after_error s) w word e
-  told_error Headed w word e h = h
-  told_error _ w word e h = h
-
-  told_reply : (b : Bool) (s : Style) (w : Wiring) (word : ℕ) (bad : Bool) → tells_error w ≡ b → Told (after_reply b s) w word (both w.reports bad)
-  told_reply true s w word bad is = tt
-  told_reply false s w word bad is = told_error s w word (both w.reports bad) (shows_none (style_of w) w.reports w.error_mask word bad is)
-
-  replied_on : (b : Bool) (j : ℕ) (x : Asker) (y : Answerer) (c : Core) → has_more j x.m.wiring ≡ b → Agreed exec start x (at (ReplyBlock j) x y) c
-      → Agreed exec start x (settle exec (record y { m = reply_on b j (staged (ReplyBlock j) x y) })) (record c { block = set c.block j (get_or y.m.out j 0) })
-  replied_on true j x y c more g = let ok = g.answer_ok in let w = x.m.wiring in let n : ℕ = block_of w in let here : j < n = ok.place.1 in let from : heads_of (style_of w) ≤ j = ok.place.0 in let t = while_replying exec is_state room law start sound (pose x.m) j x (at (ReplyBlock j) x y) c g.fits in
-      let long : length y.m.out ≡ n = ok.sized.out in let long' : length x.m.sent ≡ n = g.ask_ok.sized.sent in let z : Answerer = at (ReplyBlock (j + 1)) x y in let d : Core = record c { block = set c.block j (get_or y.m.out j 0) } in
-      moves exec is_state room law start sound x y c d (ReplyBlock j) (ReplyBlock (j + 1)) y.m.kept y.m.header y.m.loaded g (steps_on exec is_state room law start sound (staged (ReplyBlock j) x y) (ReplyBlock (j + 1)) y.m.kept ok ok.kept (omega arith, ltb-true (j + 1) n more)) tt g.irq
-      (in_flight exec is_state room law start sound (replying (j + 1)) x z d t.0 record {
-        row = record { completion = t.1.row.completion; line = t.1.row.line; block = ap (λ (l : List ℕ). set l j (get_or y.m.out j 0)) t.1.row.block ∙ mix_more j y.m.out x.m.sent (omega arith) (omega arith); done = t.1.row.done };
+  -- a word of the reply is stored: the words up to the next one that changed stand there
+  replied_on : (j : ℕ) (x : Asker) (y : Answerer) (c : Core) → Agreed exec start x (at (ReplyBlock j) x y) c
+      → let st : AnswerStage = reply_stage (j + 1) x.m.wiring y.m.out y.m.loaded in
+      Agreed exec start x (settle_at exec st (at st x y)) (record c { block = set c.block j (get_or y.m.out j 0) })
+  replied_on j x y c g = let ok = g.answer_ok in let w = x.m.wiring in let n : ℕ = block_of w in let here : j < n = ok.place.1 in let from : heads_of (style_of w) ≤ j = ok.place.0 in let t = while_replying exec is_state room law start sound (pose x.m) j x (at (ReplyBlock j) x y) c g.fits in
+      let long : length y.m.out ≡ n = ok.sized.out in let long' : length x.m.sent ≡ n = g.ask_ok.sized.sent in let same : length y.m.out ≡ length x.m.sent = long ∙ sym long' in
+      let k : ℕ = next_changed (j + 1) y.m.out y.m.loaded in let st : AnswerStage = reply_stage (j + 1) w y.m.out y.m.loaded in let z : Answerer = at st x y in let d : Core = record c { block = set c.block j (get_or y.m.out j 0) } in
+      subst (λ (u : Answerer). Agreed exec start x u d) (sym (replied_settled exec (j + 1) w y.m.out y.m.loaded z))
+      (moves exec is_state room law start sound x y c d (ReplyBlock j) st y.m.kept y.m.header y.m.loaded g (steps_on exec is_state room law start sound (staged (ReplyBlock j) x y) st y.m.kept ok ok.kept (replied_place (j + 1) w y.m.out y.m.loaded long (omega arith))) (replied_between (j + 1) w y.m.out y.m.loaded) g.irq
+      (subst (λ (t : Turn). Fits (pose x.m) t x z d) (sym (replied_turn (j + 1) w y.m.out y.m.loaded z.m long (omega arith))) (in_flight exec is_state room law start sound (replying k) x z d t.0 record {
+        row = record { completion = t.1.row.completion; line = t.1.row.line; block = ap (λ (l : List ℕ). set l j (get_or y.m.out j 0)) t.1.row.block ∙ (mix_more j y.m.out x.m.sent (omega arith) same ∙ sym (mix_loaded (j + 1) y.m.out y.m.loaded x.m.sent t.1.loaded same)); done = t.1.row.done };
         header = t.1.header;
+        loaded = t.1.loaded;
         out = t.1.out;
         bytes = t.1.bytes;
-        told = tt;
-      })
-  replied_on false j x y c more g = let ok = g.answer_ok in let w = x.m.wiring in let n : ℕ = block_of w in let here : j < n = ok.place.1 in let t = while_replying exec is_state room law start sound (pose x.m) j x (at (ReplyBlock j) x y) c g.fits in
-      let long : length y.m.out ≡ n = ok.sized.out in let long' : length x.m.sent ≡ n = g.ask_ok.sized.sent in let s : Style = style_of w in let b : Bool = tells_error w in let st : AnswerStage = after_reply b s in let z : Answerer = at st x y in
-      let last : n ≤ j + 1 = ltb-false (j + 1) n more in let all : j + 1 ≡ n = omega arith in let d : Core = record c { block = set c.block j (get_or y.m.out j 0) } in
-      subst (λ (u : Answerer). Agreed exec start x u d) (sym (settled_reply b s z))
-      (moves exec is_state room law start sound x y c d (ReplyBlock j) st y.m.kept y.m.header y.m.loaded g (steps_on exec is_state room law start sound (staged (ReplyBlock j) x y) st y.m.kept ok ok.kept (place_reply b s w refl refl)) (between_reply b s) g.irq
-      (subst (λ (t : Turn). Fits (pose x.m) t x z d) (sym (turn_reply b s z.m)) (in_flight exec is_state room law start sound (replying n) x z d t.0 record {
-        row = record { completion = t.1.row.completion; line = t.1.row.line; block = ap (λ (l : List ℕ). set l j (get_or y.m.out j 0)) t.1.row.block ∙ (mix_more j y.m.out x.m.sent (omega arith) (omega arith) ∙ ap (λ (k : ℕ). mix k y.m.out x.m.sent) all); done = t.1.row.done };
-        header = t.1.header;
-        out = t.1.out;
-        bytes = t.1.bytes;
-        told = told_reply b s w c.error y.m.bad refl;
+        told = replied_told (j + 1) w y.m.out y.m.loaded c.error y.m.bad;
       })))
 
   stores_reply : (j : ℕ) (x : Asker) (y : Answerer) → KeepsAt exec is_state room law start sound (ReplyBlock j) x y
   stores_reply j x y ws v same g f small = let c = g.0 in let o = g.1.0 in let s : ℕ = get_or y.m.out j 0 in (
     record c { block = set c.block j s },
-    (o, ap (λ (l : List ℕ). set l (8 + j) s) g.1.1 ∙ set_block c o j s, replied_on (has_more j x.m.wiring) j x y c refl g.1.2),
+    (o, ap (λ (l : List ℕ). set l (8 + j) s) g.1.1 ∙ set_block c o j s, replied_on j x y c g.1.2),
   )
 
   stores_error : (x : Asker) (y : Answerer) → KeepsAt exec is_state room law start sound ReplyError x y
@@ -106,11 +56,12 @@ module _ (exec : Device) (is_state : List ℕ → Type 0) (room : ℕ) (law : (d
         (
           g.1.0,
           ap (λ (l : List ℕ). set l 3 e) g.1.1,
-          subst (λ (u : Answerer). Agreed exec start x u d) (sym (settled_error s z))
+          subst (λ (u : Answerer). Agreed exec start x u d) (sym (settled_error exec s z))
               (moves exec is_state room law start sound x y c d ReplyError st y.m.kept y.m.header y.m.loaded h (steps_on exec is_state room law start sound (staged ReplyError x y) st y.m.kept ok ok.kept (place_error s w refl)) (between_error s) h.irq
               (subst (λ (t : Turn). Fits (pose x.m) t x z d) (sym (turn_error s z.m)) (in_flight exec is_state room law start sound (replying n) x z d t.0 record {
                 row = record { completion = t.1.row.completion; line = t.1.row.line; block = t.1.row.block; done = t.1.row.done };
                 header = t.1.header;
+                loaded = t.1.loaded;
                 out = t.1.out;
                 bytes = t.1.bytes;
                 told = told_error s w e (both w.reports y.m.bad) (shows_stored w y.m.bad ok.place h.ask_ok.wired);
@@ -184,7 +135,7 @@ module _ (exec : Device) (is_state : List ℕ → Type 0) (room : ℕ) (law : (d
       g.1.0,
       g.1.1,
       moves exec is_state room law start sound x y c c ReplyUpdateLoad ReplyUpdateStore v y.m.header y.m.loaded h (steps_on exec is_state room law start sound (staged ReplyUpdateLoad x y) ReplyUpdateStore v ok small ok.place) tt h.irq
-          (in_flight exec is_state room law start sound (replying n) x z c t.0 record { row = t.1.row; header = t.1.header; out = t.1.out; bytes = t.1.bytes; told = t.1.told }),
+          (in_flight exec is_state room law start sound (replying n) x z c t.0 record { row = t.1.row; header = t.1.header; loaded = t.1.loaded; out = t.1.out; bytes = t.1.bytes; told = t.1.told }),
     ),
   )
 
@@ -195,7 +146,7 @@ module _ (exec : Device) (is_state : List ℕ → Type 0) (room : ℕ) (law : (d
       g.1.0,
       g.1.1,
       moves exec is_state room law start sound x y c c ReplyMarkLoad ReplyMarkStore v y.m.header y.m.loaded h (steps_on exec is_state room law start sound (staged ReplyMarkLoad x y) ReplyMarkStore v ok small ok.place) tt h.irq
-          (in_flight exec is_state room law start sound (replying n) x z c t.0 record { row = t.1.row; header = t.1.header; out = t.1.out; bytes = t.1.bytes; told = t.1.told }),
+          (in_flight exec is_state room law start sound (replying n) x z c t.0 record { row = t.1.row; header = t.1.header; loaded = t.1.loaded; out = t.1.out; bytes = t.1.bytes; told = t.1.told }),
     ),
   )
 
@@ -228,7 +179,7 @@ module _ (exec : Device) (is_state : List ℕ → Type 0) (room : ℕ) (law : (d
       record o { update = z },
       ap (λ (l : List ℕ). set l 6 z) g.1.1,
       moves exec is_state room law start sound x y c c ReplyUpdateStore ReplyMarkLoad y.m.kept y.m.header y.m.loaded h (steps_on exec is_state room law start sound (staged ReplyUpdateStore x y) ReplyMarkLoad y.m.kept ok ok.kept (subst AnswerSets (sym e) tt)) tt h.irq
-          (in_flight exec is_state room law start sound (replying n) x u c t.0 record { row = t.1.row; header = t.1.header; out = t.1.out; bytes = t.1.bytes; told = t.1.told }),
+          (in_flight exec is_state room law start sound (replying n) x u c t.0 record { row = t.1.row; header = t.1.header; loaded = t.1.loaded; out = t.1.out; bytes = t.1.bytes; told = t.1.told }),
     ),
   )
   updated Reduced5 x y ws e u g = absurd u

@@ -1,6 +1,6 @@
 -- The answering machine walks its table.
 use Rattle.std.specs.Prelude.{Option, None, Some}
-use Rattle.std.proofs.Common.{◌≡◌, ◌≢◌, ℕ, suc, ◌+◌, ◌-◌, ◌<◌, ◌≤◌, Bool, true, false, eqb, ◌==◌, if◌then◌else◌, List, [], ◌∷◌, ◌++◌, length, set, take, drop, refl, sym, ap, ◌∙◌, subst, arith, length-set}
+use Rattle.std.proofs.Common.{◌≡◌, ◌≢◌, ℕ, suc, ◌+◌, ◌-◌, ◌<◌, ◌≤◌, Bool, true, false, eqb, ltb, ◌==◌, if◌then◌else◌, List, [], ◌∷◌, ◌++◌, length, set, take, drop, refl, sym, ap, ◌∙◌, subst, arith, length-set}
 use Rattle.std.specs.Int.RustNames.{bit_or}
 use Rattle.std.proofs.lemmas.List.{take_more_set}
 use borrow.Author.Tests.{ltb-false}
@@ -14,14 +14,17 @@ use Rattle.pcc_steps.specs.declared.answer.AnswerStage.{AnswerStage}
 use Rattle.pcc_steps.specs.declared.answer.AnswerStage.TheVariants.{AnswerRest, TakeLine, TakeAckLoad, TakeAckStore, TakeHeader, TakeBlock, RunDevice, ReplyBlock, ReplyError, ReplyHeader, ReplyUpdateLoad, ReplyUpdateStore, ReplyMarkLoad, ReplyMarkStore, CloseBellLoad, CloseBellStore, CloseLine}
 use Rattle.pcc_steps.specs.declared.answer.AnswerOutcome.{AnswerOutcome}
 use Rattle.pcc_steps.specs.declared.answer.AnswerOutcome.TheVariants.{Idle, Served}
+use Rattle.pcc_steps.specs.Changes.{next_changed}
 use Rattle.pcc_steps.specs.Wires.{style_of, heads_of, block_of, tells_error, four_by, masked_by, update_place}
-use Rattle.pcc_steps.specs.Runs.{Run, ends, stores, swaps, store_words, load_words, masked_write, AnswerStep, acknowledges_bell, takes_header, takes_block, executes_command, replies_space, replies_error, replies_status, replies_completion, rings_bell, raises_interrupt, only, taking_steps, completing_steps, answer_table, answer_steps, answering, AnswerEnd, finds_none, serves}
+use Rattle.pcc_steps.specs.Runs.{Run, ends, stores, swaps, store_changed, load_words, masked_write, AnswerStep, acknowledges_bell, takes_header, takes_block, executes_command, replies_space, replies_error, replies_status, replies_completion, rings_bell, raises_interrupt, only, taking_steps, completing_steps, answer_table, answer_steps, answering, AnswerEnd, finds_none, serves}
 use Rattle.pcc_steps.specs.Asking.{has_more, rose}
 use Rattle.pcc_steps.specs.Answering.{Answer, AnswerOk, AnswerUpdates, AnswerSets, answer_next_at, answer_fed_at, answer_told_at, answer_stepped, answer_code, take_on, load_on, reply_on, take_told, served_at, after_ack, after_take, after_error, after_reply, after_close, after_done, update_stage, asks_notify, ran_with}
 use Rattle.pcc_steps.specs.Walk.{answer_number, from, behind, got, answer_left_by, answer_left, answer_after, Takes, Gives}
 use Rattle.pcc_steps.specs.Laws.{AnswersByTable, AnswerStepsByTable, ExecutesByTable}
 use Rattle.pcc_steps.proofs.Spaces.{behind_front}
-use Rattle.pcc_steps.proofs.AskWalks.{dropped, none_left, all_taken, next_place, takes_so}
+use Rattle.pcc_steps.proofs.Lists.{all_taken, next_place}
+use Rattle.pcc_steps.proofs.Changes.{Storing, next_stored}
+use Rattle.pcc_steps.proofs.AskWalks.{takes_so}
 
 -- ---- places in the table
 
@@ -197,12 +200,12 @@ taken_block false j v a more here long = let k = λ (l : List ℕ). answering (b
     ap (λ (z : List AnswerStep). answering z w (record { header = a.header; block = l; bad = a.bad; reply = bytes_of (drop (heads_of (style_of w)) l) })) one
     ∙ (sym (ap (λ (z : List AnswerStep). answering (drop 1 z) w (record (got a) { block = l })) two) ∙ sym (λ i. load_words (8 + j + 1) (none i) (t i) k))
 
-replied_words : (b : Bool) (j : ℕ) (a : Answer) → has_more j a.wiring ≡ b → length a.out ≡ block_of a.wiring
-    → answer_left (reply_on b j a) ≡ store_words (8 + j + 1) (drop (j + 1) a.out) (answering (behind answer_number 5 (answer_steps a.wiring)) a.wiring (got a))
-replied_words true j a more long = ap (λ (p : ℕ). store_words p (drop (j + 1) a.out) (answering (behind answer_number 5 (answer_steps a.wiring)) a.wiring (got a))) (next_place j)
-replied_words false j a more long = let w = a.wiring in let k : Run AnswerEnd = answering (behind answer_number 5 (answer_steps w)) w (got a) in let last : block_of w ≤ j + 1 = ltb-false (j + 1) (block_of w) more in
-    left_reply (style_of w) (acks a) (tells a) (rings a) (record a { stage = after_reply (tells a) (style_of w) })
-    ∙ (sym (ap (λ (z : List AnswerStep). answering (drop 1 z) w (got a)) (from_five (style_of w) (acks a) (tells a) (rings a))) ∙ sym (ap (λ (l : List ℕ). store_words (8 + j + 1) l k) (none_left (j + 1) a.out (omega arith))))
+-- the stores of the reply that are left, at the next word that changed or after the last one
+replied_words : (b : Bool) (n : ℕ) (a : Answer)
+    → answer_left_by (answer_steps a.wiring) (reply_on b n a.wiring) a ≡ Storing b 8 n a.out a.loaded (answering (behind answer_number 5 (answer_steps a.wiring)) a.wiring (got a))
+replied_words true n a = refl
+replied_words false n a = left_reply (style_of a.wiring) (acks a) (tells a) (rings a) a
+    ∙ sym (ap (λ (z : List AnswerStep). answering (drop 1 z) a.wiring (got a)) (from_five (style_of a.wiring) (acks a) (tells a) (rings a)))
 
 error_walks : (s : Style) (b c d : Bool) (a : Answer) → c ≡ true → let t : List AnswerStep = answer_table s b c d in
     Takes (answer_left_by t ReplyError a) (answer_next_at ReplyError a) (λ v. answer_left_by t (after_error s) (record a { stage = after_error s }))
@@ -271,8 +274,8 @@ walks TakeHeader a runs steps ok = header_walks (style_of a.wiring) (acks a) (te
 walks (TakeBlock j) a runs steps ok = let k = λ (l : List ℕ). answering (behind answer_number 3 (answer_steps a.wiring)) a.wiring (record (got a) { block = l }) in let n : ℕ = block_of a.wiring in let here : j < n = ok.place in let e : suc (n - (j + 1)) ≡ n - j = omega arith in
     subst (λ (m : ℕ). Takes (load_words (8 + j) m (take j a.loaded) k) (Load (8 + j)) (λ v. answer_after None (answer_fed_at (TakeBlock j) a v))) e (refl, λ v. taken_block (has_more j a.wiring) j v a refl here ok.sized.loaded)
 walks RunDevice a runs steps ok = absurd (steps refl)
-walks (ReplyBlock j) a runs steps ok = let k : Run AnswerEnd = answering (behind answer_number 5 (answer_steps a.wiring)) a.wiring (got a) in let here : j < block_of a.wiring = ok.place.1 in let long : length a.out ≡ block_of a.wiring = ok.sized.out in
-    subst (λ (l : List ℕ). Takes (store_words (8 + j) l k) (answer_next_at (ReplyBlock j) a) (λ v. answer_after None (answer_fed_at (ReplyBlock j) a v))) (sym (dropped j a.out (omega arith))) (refl, λ v. replied_words (has_more j a.wiring) j a refl long)
+walks (ReplyBlock j) a runs steps ok = let k : Run AnswerEnd = answering (behind answer_number 5 (answer_steps a.wiring)) a.wiring (got a) in let n : ℕ = next_changed (j + 1) a.out a.loaded in let b : Bool = ltb n (length a.out) in
+    (refl, λ v. replied_words b n (answer_fed_at (ReplyBlock j) a v) ∙ sym (next_stored b 8 (j + 1) a.out a.loaded k refl) ∙ ap (λ (p : ℕ). store_changed p (drop (j + 1) a.out) (drop (j + 1) a.loaded) k) (next_place j))
 walks ReplyError a runs steps ok = error_walks (style_of a.wiring) (acks a) (tells a) (rings a) a ok.place
 walks ReplyHeader a runs steps ok = status_walks (style_of a.wiring) (acks a) (tells a) (rings a) a (λ v. answer_after (answer_told_at ReplyHeader a v) (answer_fed_at ReplyHeader a v)) ok.place (λ v. done_left (rings a) a refl)
 walks ReplyUpdateLoad a runs steps ok = update_walks (style_of a.wiring) (acks a) (tells a) (rings a) a ok.place
@@ -285,11 +288,21 @@ walks CloseLine a runs steps ok = (refl, λ v. refl)
 
 -- ---- the device, and the beginning
 
+-- the reply that the device leaves is stored where it differs from what was loaded
+replied_ran : (a : Answer) (reply : List ℕ) (bad : Bool) → heads_of (style_of a.wiring) ≤ length a.loaded → let k : ℕ = heads_of (style_of a.wiring) in
+    answer_left (ran_with (record a { space = reply }) bad) ≡ store_changed (8 + k) (words_of reply) (drop k a.loaded)
+    (answering (replied (style_of a.wiring) (tells a) (rings a)) a.wiring (record { header = a.header; block = a.loaded; bad = bad; reply = reply }))
+replied_ran a reply bad front = let w = a.wiring in let s : Style = style_of w in let k : ℕ = heads_of s in let m : Answer = ran_with (record a { space = reply }) bad in let n : ℕ = next_changed k m.out a.loaded in let b : Bool = ltb n (length m.out) in
+    let rest : Run AnswerEnd = answering (behind answer_number 5 (answer_steps w)) w (got m) in
+    replied_words b n m ∙ sym (next_stored b 8 k m.out a.loaded rest refl)
+    ∙ ap (λ (l : List ℕ). store_changed (8 + k) l (drop k a.loaded) rest) (behind_front k a.loaded (words_of reply) front)
+    ∙ ap (λ (z : List AnswerStep). store_changed (8 + k) (words_of reply) (drop k a.loaded) (answering (drop 1 z) w (got m))) (from_five s (acks a) (tells a) (rings a))
+
 pub gives : (a : Answer) → AnswerOk (record a { stage = RunDevice })
     → Gives (left_at RunDevice a) (Execute (answer_code a)) (bytes_of (drop (heads_of (style_of a.wiring)) a.loaded)) (λ bad reply. answer_left (ran_with (record a { space = reply }) bad))
-gives a ok = let w = a.wiring in let k : ℕ = heads_of (style_of w) in let long : length a.loaded ≡ block_of w = ok.sized.loaded in
+gives a ok = let w = a.wiring in let k : ℕ = heads_of (style_of w) in let long : length a.loaded ≡ block_of w = ok.sized.loaded in let front : k ≤ length a.loaded = omega arith in
     subst (λ (l : List AnswerStep). Gives (answering l w (got a)) (Execute (answer_code a)) (bytes_of (drop k a.loaded)) (λ bad reply. answer_left (ran_with (record a { space = reply }) bad))) (sym (from_four (style_of w) (acks a) (tells a) (rings a)))
-    (refl, refl, λ bad reply. (λ i. store_words (8 + k) (behind_front k a.loaded (words_of reply) (omega arith) i) (answering (drop 1 (from_five (style_of w) (acks a) (tells a) (rings a) i)) w (record { header = a.header; block = a.loaded; bad = bad; reply = reply }))))
+    (refl, refl, λ bad reply. replied_ran a reply bad front)
 
 -- what an earlier run has left is not used
 fresh : (s : Style) (w : Wiring) (l : List AnswerStep) (b b' : List ℕ) (e e' : Bool) (r r' : List ℕ)

@@ -1,5 +1,5 @@
 -- What a step of the asking machine keeps, and to which stage it leads.
-use Rattle.std.proofs.Common.{◌≡◌, ◌≢◌, ℕ, Bool, true, false, eqb, List, drop, refl}
+use Rattle.std.proofs.Common.{◌≡◌, ◌≢◌, ℕ, ◌+◌, Bool, true, false, eqb, ltb, List, length, drop, refl}
 use Rattle.std.specs.Prelude.{Option, Some, None}
 use Rattle.pcc_steps.specs.declared.wiring.Style.{Style}
 use Rattle.pcc_steps.specs.declared.wiring.Style.TheVariants.{Headed, Joined3, Separate3, Joined4, Separate4, Reduced5}
@@ -12,7 +12,9 @@ use Rattle.pcc_history.specs.Channel.{Exchange}
 use Rattle.pcc_steps.specs.Agree.{done_after}
 use Rattle.pcc_steps.specs.Wires.{style_of, heads_of, sees_done, tells_error, acknowledges}
 use Rattle.pcc_steps.specs.Carrying.{is_rest, carried_at, carried, ends_run, looks_after, flies_after}
-use Rattle.pcc_steps.specs.Asking.{Ask, Flies, has_more, ask_fed_at, ask_told_at, after_block, after_update, after_mark, after_bell, after_look, store_on, look_on, read_on, block_on, line_on, lowered_on, drained, look_told, read_told, end_told, line_told}
+use Rattle.pcc_steps.specs.Changes.{next_changed}
+use Rattle.pcc_steps.proofs.PostStages.{post_stage}
+use Rattle.pcc_steps.specs.Asking.{Ask, Flies, has_more, ask_fed_at, ask_told_at, after_block, after_update, after_mark, after_bell, after_look, block_stage, look_on, read_on, block_on, line_on, lowered_on, drained, look_told, read_told, end_told, line_told}
 
 pub rest_is : (st : AskStage) → is_rest st ≡ true → st ≡ AskRest
 rest_is AskRest e = refl
@@ -161,9 +163,19 @@ goes_look false = refl
 
 -- ---- one lemma for each conditional
 
-stored : (b : Bool) (j : ℕ) (a : Ask) → Fed (PostBlock j) a (store_on b j a) None
-stored true j a = record { wiring = refl; code = refl; input = refl; budget = refl; looks = refl; flies = refl; carried = refl; rests = refl; sure = tt; space = refl }
-stored false j a = record { wiring = refl; code = refl; input = refl; budget = refl; looks = refl; flies = refl; carried = carried_block (style_of a.wiring) a.in_flight; rests = goes_block (style_of a.wiring); sure = tt; space = refl }
+stored : (j k : ℕ) (a : Ask) → Fed (PostBlock j) a (record a { stage = block_stage k a.wiring a.sent a.shown }) None
+stored j k a = let n : ℕ = next_changed k a.sent a.shown in let b : Bool = ltb n (length a.sent) in let s : Style = style_of a.wiring in record {
+  wiring = refl;
+  code = refl;
+  input = refl;
+  budget = refl;
+  looks = refl;
+  flies = refl;
+  carried = post_stage (λ (st : AskStage). carried_at st a.in_flight ≡ true) b n s refl (carried_block s a.in_flight);
+  rests = post_stage (λ (st : AskStage). is_rest st ≡ false) b n s refl (goes_block s);
+  sure = tt;
+  space = refl;
+}
 
 looked : (b : Bool) (a : Ask) (v : ℕ) → a.in_flight ≡ true → Fed LookWord a (look_on b v a) (look_told b)
 looked true a v f = record { wiring = refl; code = refl; input = refl; budget = refl; looks = refl; flies = refl; carried = carried_look (tells_error a.wiring) a.in_flight; rests = goes_look (tells_error a.wiring); sure = tt; space = refl }
@@ -192,7 +204,7 @@ lowers false a f = drain LookLineStore a a f f refl refl refl refl refl refl
 
 pub fed : (st : AskStage) (a : Ask) (v : ℕ) → is_rest st ≡ false → Flies st a.in_flight → Fed st a (ask_fed_at st a v) (ask_told_at st a v)
 fed AskRest a v e f = absurd (cc e)
-fed (PostBlock j) a v e f = stored (has_more j a.wiring) j a
+fed (PostBlock j) a v e f = stored j (j + 1) a
 fed PostHeader a v e f = record { wiring = refl; code = refl; input = refl; budget = refl; looks = refl; flies = refl; carried = refl; rests = refl; sure = tt; space = refl }
 fed PostUpdateLoad a v e f = record { wiring = refl; code = refl; input = refl; budget = refl; looks = refl; flies = refl; carried = refl; rests = refl; sure = tt; space = refl }
 fed PostUpdateStore a v e f = record { wiring = refl; code = refl; input = refl; budget = refl; looks = refl; flies = refl; carried = carried_update (style_of a.wiring) a.in_flight; rests = goes_update (style_of a.wiring); sure = tt; space = refl }

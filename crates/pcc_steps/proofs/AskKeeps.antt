@@ -1,16 +1,17 @@
 -- Each step of the asking end keeps the relation.
 use Rattle.std.proofs.Common.{◌≡◌, ◌≢◌, ℕ, ◌+◌, ◌^◌, ◌<◌, ◌≤◌, Bool, true, false, List, length, get_or, set, refl, sym, ap, ◌∙◌, subst, inl, arith}
-use borrow.Author.Tests.{ltb-true, ltb-false}
 use Rattle.pcc_history.specs.Devices.{Device}
 use Rattle.pcc_steps.specs.declared.wiring.Style.{Style}
 use Rattle.pcc_steps.specs.declared.wiring.Style.TheVariants.{Headed, Joined3, Separate3, Joined4, Separate4, Reduced5}
 use Rattle.pcc_steps.specs.declared.ask.AskStage.{AskStage}
 use Rattle.pcc_steps.specs.declared.ask.AskStage.TheVariants.{PostBlock, PostHeader, PostUpdateLoad, PostUpdateStore, PostMarkLoad, PostMarkStore, PostBellLoad, PostBellStore, PostLine}
 use Rattle.pcc_steps.specs.Wires.{style_of, block_of, sent_header, masked_by, without, update_place}
-use Rattle.pcc_steps.specs.Asking.{Ask, AskOk, AskPlace, AskUpdates, AskClears, AskRings, Flies, LooksLeft, PostsLeft, has_more, ask_next_at, store_on, after_block, after_update, after_mark, after_bell}
+use Rattle.pcc_steps.specs.Asking.{Ask, AskOk, AskPlace, AskUpdates, AskClears, AskRings, ask_next_at, block_stage, after_update, after_mark, after_bell}
 use Rattle.pcc_steps.specs.Agree.{Core, act, Finds, mix, Asker, Answerer, asker_fed_at, Pose, writing, cleared, bell_pose, pose_at, pose, Turn, turn, closed, Marked, flight, Waits, Fits, flying, trail, is_pending_at, Agreed, Agree}
 use Rattle.pcc_steps.proofs.Lists.{mix_more, mix_all, set_block}
-use Rattle.pcc_steps.proofs.Trails.{block_pends, mark_pends, bell_pends, same_pends}
+use Rattle.pcc_steps.proofs.Changes.{mix_next}
+use Rattle.pcc_steps.proofs.PostStages.{steps_on, posted_ok, posted_pose, posted_pends}
+use Rattle.pcc_steps.proofs.Trails.{mark_pends, bell_pends, same_pends}
 use Rattle.pcc_steps.proofs.Bits.{clears_mark, clears_update}
 
 -- the asking end at this stage
@@ -42,46 +43,21 @@ module _ (exec : Device) (start : List ℕ) where
     fits = fits;
   }
 
-  -- the machine's own facts, at another stage of its run
-  pub steps_on : (a : Ask) (st : AskStage) (kept : ℕ) → AskOk a → kept < 2 ^ 64 → AskPlace st a.wiring → Flies st a.in_flight → LooksLeft st a.looks a.budget
-      → PostsLeft st a.posts → AskOk (record a { stage = st; kept = kept })
-  steps_on a st kept ok small place flies looks posts = record { wired = ok.wired; sized = ok.sized; place = place; flies = flies; looks = looks; posts = posts; kept = small; mask = ok.mask; id = ok.id; code = ok.code }
-
   -- ---- posting
 
-  pose_after : (s : Style) (a : Ask) → style_of a.wiring ≡ s → pose_at (after_block s) a ≡ writing (block_of a.wiring)
-  pose_after Headed a e = refl
-  pose_after Joined3 a e = refl
-  pose_after Separate3 a e = refl
-  pose_after Joined4 a e = refl
-  pose_after Separate4 a e = refl
-  pose_after Reduced5 a e = ap (λ (s : Style). bell_pose s (block_of a.wiring)) e
-
-  -- the last word of the block is stored: the next step is in its place
-  block_ok : (s : Style) (a : Ask) → style_of a.wiring ≡ s → AskOk (record a { stage = PostBlock 0 }) → AskOk (record a { stage = after_block s })
-  block_ok Headed a e ok = steps_on (record a { stage = PostBlock 0 }) PostHeader a.kept ok ok.kept e ok.flies ok.looks ok.posts
-  block_ok Joined3 a e ok = steps_on (record a { stage = PostBlock 0 }) PostUpdateLoad a.kept ok ok.kept (subst AskUpdates (sym e) tt) ok.flies ok.looks ok.posts
-  block_ok Separate3 a e ok = steps_on (record a { stage = PostBlock 0 }) PostUpdateLoad a.kept ok ok.kept (subst AskUpdates (sym e) tt) ok.flies ok.looks ok.posts
-  block_ok Joined4 a e ok = steps_on (record a { stage = PostBlock 0 }) PostMarkLoad a.kept ok ok.kept (subst AskClears (sym e) tt) ok.flies ok.looks ok.posts
-  block_ok Separate4 a e ok = steps_on (record a { stage = PostBlock 0 }) PostMarkLoad a.kept ok ok.kept (subst AskClears (sym e) tt) ok.flies ok.looks ok.posts
-  block_ok Reduced5 a e ok = steps_on (record a { stage = PostBlock 0 }) PostBellLoad a.kept ok ok.kept (subst AskRings (sym e) tt) ok.flies ok.looks ok.posts
-
-  -- a word of the block is stored
-  stored : (b : Bool) (j : ℕ) (x : Asker) (y : Answerer) (c : Core) → has_more j x.m.wiring ≡ b → Agreed exec start (at (PostBlock j) x) y c
-      → Agreed exec start (record x { m = store_on b j (at (PostBlock j) x).m }) y (record c { block = set c.block j (get_or x.m.sent j 0) })
-  stored true j x y c more g = let ok = g.ask_ok in let n : ℕ = block_of x.m.wiring in let fits = g.fits.1 in let long : length x.m.sent ≡ n = ok.sized.sent in let long' : length x.m.shown ≡ n = ok.sized.shown in let here : j < n = ok.place in
-      moves (at (PostBlock j) x) y c (record c { block = set c.block j (get_or x.m.sent j 0) }) (PostBlock (j + 1)) x.m.kept x.m.error x.m.loaded x.m.looks x.clears refl g (steps_on (at (PostBlock j) x).m (PostBlock (j + 1)) x.m.kept ok ok.kept (ltb-true (j + 1) n more) ok.flies ok.looks ok.posts) g.irq
-      (g.fits.0, record { completion = fits.completion; line = fits.line; block = ap (λ (l : List ℕ). set l j (get_or x.m.sent j 0)) fits.block ∙ mix_more j x.m.sent x.m.shown (omega arith) (omega arith); done = fits.done })
-  stored false j x y c more g = let ok = g.ask_ok in let n : ℕ = block_of x.m.wiring in let fits = g.fits.1 in let long : length x.m.sent ≡ n = ok.sized.sent in let long' : length x.m.shown ≡ n = ok.sized.shown in let here : j < n = ok.place in
-      let last : n ≤ j + 1 = ltb-false (j + 1) n more in let all : j + 1 ≡ n = omega arith in let s : Style = style_of x.m.wiring in let a : Ask = record x.m { stage = after_block s } in let d : Core = record c { block = set c.block j (get_or x.m.sent j 0) } in
-      moves (at (PostBlock j) x) y c d (after_block s) x.m.kept x.m.error x.m.loaded x.m.looks x.clears (block_pends s x.m.in_flight) g (block_ok s x.m refl (record { wired = ok.wired; sized = ok.sized; place = omega arith; flies = ok.flies; looks = ok.looks; posts = ok.posts; kept = ok.kept; mask = ok.mask; id = ok.id; code = ok.code })) g.irq
-      (subst (λ (q : Pose). Fits q (turn y.m) (record x { m = a }) y d) (sym (pose_after s a refl))
-      (g.fits.0, record { completion = fits.completion; line = fits.line; block = ap (λ (l : List ℕ). set l j (get_or x.m.sent j 0)) fits.block ∙ (mix_more j x.m.sent x.m.shown (omega arith) (omega arith) ∙ ap (λ (k : ℕ). mix k x.m.sent x.m.shown) all); done = fits.done }))
+  -- a word of the block is stored: the words up to the next one that changed stand there
+  stored : (j : ℕ) (x : Asker) (y : Answerer) (c : Core) → Agreed exec start (at (PostBlock j) x) y c
+      → Agreed exec start (at (block_stage (j + 1) x.m.wiring x.m.sent x.m.shown) x) y (record c { block = set c.block j (get_or x.m.sent j 0) })
+  stored j x y c g = let ok = g.ask_ok in let n : ℕ = block_of x.m.wiring in let fits = g.fits.1 in let long : length x.m.sent ≡ n = ok.sized.sent in let long' : length x.m.shown ≡ n = ok.sized.shown in let here : j < n = ok.place in
+      let st : AskStage = block_stage (j + 1) x.m.wiring x.m.sent x.m.shown in let d : Core = record c { block = set c.block j (get_or x.m.sent j 0) } in let same : length x.m.sent ≡ length x.m.shown = long ∙ sym long' in
+      moves (at (PostBlock j) x) y c d st x.m.kept x.m.error x.m.loaded x.m.looks x.clears (posted_pends (j + 1) x.m x.m.in_flight) g (posted_ok j (j + 1) x.m ok) g.irq
+      (subst (λ (q : Pose). Fits q (turn y.m) (at st x) y d) (sym (posted_pose (j + 1) x.m (at st x).m refl long (omega arith)))
+      (g.fits.0, record { completion = fits.completion; line = fits.line; block = ap (λ (l : List ℕ). set l j (get_or x.m.sent j 0)) fits.block ∙ (mix_more j x.m.sent x.m.shown (omega arith) same ∙ sym (mix_next (j + 1) x.m.sent x.m.shown same)); done = fits.done }))
 
   pub stores_block : (j : ℕ) → Keeps (PostBlock j)
   stores_block j x y ws v g f small = let c = g.0 in let o = g.1.0 in let s : ℕ = get_or x.m.sent j 0 in (
     record c { block = set c.block j s },
-    (o, ap (λ (l : List ℕ). set l (8 + j) s) g.1.1 ∙ set_block c o j s, stored (has_more j x.m.wiring) j x y c refl g.1.2),
+    (o, ap (λ (l : List ℕ). set l (8 + j) s) g.1.1 ∙ set_block c o j s, stored j x y c g.1.2),
   )
 
   -- the whole block stands there

@@ -15,7 +15,8 @@ use Rattle.pcc_steps.proofs.Lists.{take_all, loads, get_block}
 use Rattle.pcc_steps.proofs.Bits.{closed_unset, finished_opened, error_seen, error_shown}
 use Rattle.pcc_steps.proofs.Spaces.{block_long, behind_front, space_again, some_words}
 use Rattle.pcc_steps.proofs.Trails.{look_pends, flown_pends, drain_asks}
-use Rattle.pcc_steps.proofs.AskKeeps.{at, Keeps, moves, steps_on, stores_block, stores_header, loads_update, stores_update, loads_mark, stores_mark, loads_bell, stores_bell, raises_bell}
+use Rattle.pcc_steps.proofs.PostStages.{steps_on}
+use Rattle.pcc_steps.proofs.AskKeeps.{at, Keeps, moves, stores_block, stores_header, loads_update, stores_update, loads_mark, stores_mark, loads_bell, stores_bell, raises_bell}
 
 -- the drained command joins the history
 abbrev pub ended : Asker → Asker
@@ -136,7 +137,7 @@ module _ (exec : Device) (start : List ℕ) where
   lined : (b : Bool) (x : Asker) (y : Answerer) (c : Core) → Agreed exec start (at LookLine x) y c
       → Agreed exec start (record x { m = line_on b (at LookLine x).m; done = done_after (line_told b x.m.error) x.done (line_on b (at LookLine x).m); clears = clears_after (line_told b x.m.error) x.clears }) y c
   lined true x y c g = let ok = g.ask_ok in let r = g.fits.1 in drains x y c c LookLine x.m.loaded r.error r.output g ok.flies ok.looks ok.posts ok.sized.loaded g.irq g.fits.0 r.is r.loaded r.knows
-  lined false x y c g = let ok = g.ask_ok in let r = g.fits.1 in moves exec start (at LookLine x) y c c LookLineStore x.m.kept x.m.error x.m.loaded x.m.looks x.clears refl g (steps_on exec start (at LookLine x).m LookLineStore x.m.kept ok ok.kept ok.place ok.flies ok.looks ok.posts) g.irq (g.fits.0, record { error = r.error; output = r.output; is = r.is; loaded = r.loaded; knows = r.knows })
+  lined false x y c g = let ok = g.ask_ok in let r = g.fits.1 in moves exec start (at LookLine x) y c c LookLineStore x.m.kept x.m.error x.m.loaded x.m.looks x.clears refl g (steps_on (at LookLine x).m LookLineStore x.m.kept ok ok.kept ok.place ok.flies ok.looks ok.posts) g.irq (g.fits.0, record { error = r.error; output = r.output; is = r.is; loaded = r.loaded; knows = r.knows })
 
   looks_line : Keeps exec start LookLine
   looks_line x y ws v g f small = (g.0, (g.1.0, g.1.1, lined (eqb v 0) x y g.0 g.1.2))
@@ -148,7 +149,7 @@ module _ (exec : Device) (start : List ℕ) where
 
   lowered : (b : Bool) (x : Asker) (y : Answerer) (c : Core) → acknowledges x.m.wiring ≡ b → Agreed exec start (at LookLineStore x) y c
       → Agreed exec start (record x { m = lowered_on b (at LookLineStore x).m; done = done_after (end_told b x.m.error) x.done (lowered_on b (at LookLineStore x).m); clears = clears_after (end_told b x.m.error) x.clears }) y (record c { irq = 0 })
-  lowered true x y c is g = let ok = g.ask_ok in let r = g.fits.1 in moves exec start (at LookLineStore x) y c (record c { irq = 0 }) LookAckLoad x.m.kept x.m.error x.m.loaded x.m.looks x.clears refl g (steps_on exec start (at LookLineStore x).m LookAckLoad x.m.kept ok ok.kept (ok.place, is) ok.flies ok.looks ok.posts) (omega arith)
+  lowered true x y c is g = let ok = g.ask_ok in let r = g.fits.1 in moves exec start (at LookLineStore x) y c (record c { irq = 0 }) LookAckLoad x.m.kept x.m.error x.m.loaded x.m.looks x.clears refl g (steps_on (at LookLineStore x).m LookAckLoad x.m.kept ok ok.kept (ok.place, is) ok.flies ok.looks ok.posts) (omega arith)
       (g.fits.0, record { error = r.error; output = r.output; is = lower x y c r.error r.output r.is; loaded = r.loaded; knows = r.knows })
   lowered false x y c is g = let ok = g.ask_ok in let r = g.fits.1 in drains x y c (record c { irq = 0 }) LookLineStore x.m.loaded r.error r.output g ok.flies ok.looks ok.posts ok.sized.loaded (omega arith) g.fits.0 (lower x y c r.error r.output r.is) r.loaded r.knows
 
@@ -157,7 +158,7 @@ module _ (exec : Device) (start : List ℕ) where
 
   loads_ack : Keeps exec start LookAckLoad
   loads_ack x y ws v g f small = let c = g.0 in let h = g.1.2 in let ok = h.ask_ok in let r = h.fits.1 in
-      (c, (g.1.0, g.1.1, moves exec start (at LookAckLoad x) y c c LookAckStore v x.m.error x.m.loaded x.m.looks x.clears refl h (steps_on exec start (at LookAckLoad x).m LookAckStore v ok small ok.place ok.flies ok.looks ok.posts) h.irq (h.fits.0, record { error = r.error; output = r.output; is = r.is; loaded = r.loaded; knows = r.knows })))
+      (c, (g.1.0, g.1.1, moves exec start (at LookAckLoad x) y c c LookAckStore v x.m.error x.m.loaded x.m.looks x.clears refl h (steps_on (at LookAckLoad x).m LookAckStore v ok small ok.place ok.flies ok.looks ok.posts) h.irq (h.fits.0, record { error = r.error; output = r.output; is = r.is; loaded = r.loaded; knows = r.knows })))
 
   stores_ack : Keeps exec start LookAckStore
   stores_ack x y ws v g f small = let c = g.0 in let o = g.1.0 in let h = g.1.2 in let ok = h.ask_ok in let r = h.fits.1 in let z : ℕ = masked_by x.m.wiring.ack x.m.kept in (

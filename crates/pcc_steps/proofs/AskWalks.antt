@@ -1,13 +1,11 @@
 -- The asking machine walks its tables.
-use Rattle.std.proofs.Common.{◌≡◌, ◌≢◌, ℕ, zero, suc, ◌+◌, ◌-◌, ◌<◌, ◌≤◌, Bool, true, false, eqb, ◌==◌, if◌then◌else◌, List, [], ◌∷◌, ◌++◌, length, get_or, set, take, drop, refl, sym, ap, ◌∙◌, subst, arith, length-set}
+use Rattle.std.proofs.Common.{◌≡◌, ◌≢◌, ℕ, zero, suc, ◌+◌, ◌-◌, ◌<◌, ◌≤◌, Bool, true, false, eqb, ltb, ◌==◌, if◌then◌else◌, List, [], ◌∷◌, ◌++◌, length, set, take, drop, refl, sym, ap, ◌∙◌, subst, arith, length-set}
 use Rattle.std.proofs.lemmas.List.{take_more_set}
 use borrow.Author.Tests.{ltb-false}
 use Rattle.pcc_steps.specs.declared.wiring.Wiring.{Wiring}
 use Rattle.pcc_steps.specs.declared.wiring.Style.{Style}
 use Rattle.pcc_steps.specs.declared.wiring.Style.TheVariants.{Headed, Joined3, Separate3, Joined4, Separate4, Reduced5}
 use Rattle.std.specs.Prelude.{Option, None, Some}
-use Rattle.pcc_history.specs.Channel.{over}
-use Rattle.shmem_header.specs.Spelling.{words_of}
 use Rattle.pcc_steps.specs.Laws.{AsksByTable, PostsByTable, LooksByTable}
 use Rattle.pcc_steps.specs.declared.ask.AskOutcome.{AskOutcome}
 use Rattle.pcc_steps.specs.declared.ask.AskOutcome.TheVariants.{Posted, Clear, Drained}
@@ -15,37 +13,18 @@ use Rattle.pcc_steps.specs.declared.wiring.Action.{Action}
 use Rattle.pcc_steps.specs.declared.wiring.Action.TheVariants.{Load}
 use Rattle.pcc_steps.specs.declared.ask.AskStage.{AskStage}
 use Rattle.pcc_steps.specs.declared.ask.AskStage.TheVariants.{AskRest, PostBlock, PostHeader, PostUpdateLoad, PostUpdateStore, PostMarkLoad, PostMarkStore, PostBellLoad, PostBellStore, PostLine, LookWord, LookError, LookBlock, LookLine, LookLineStore, LookAckLoad, LookAckStore}
-use Rattle.pcc_steps.specs.Wires.{style_of, block_of, meets, sees_done, tells_error, header_error, acknowledges, block_header}
-use Rattle.pcc_steps.specs.Runs.{Run, ends, loads, stores, swaps, executes, store_words, load_words, PostStep, post_steps, posting, AskEnd, posts, sees_clear, drains, LookStep, look_table, look_steps, looking, acknowledging, masked_write, Seen}
-use Rattle.pcc_steps.specs.Asking.{Ask, AskOk, AskUpdates, AskClears, AskRings, has_more, rose, ask_stepped, ask_next_at, ask_fed_at, ask_told_at, store_on, look_on, read_on, block_on, line_on, lowered_on, look_told, read_told, end_told, line_told, after_block, after_update, after_mark, after_bell, after_look}
+use Rattle.pcc_steps.specs.Changes.{next_changed}
+use Rattle.pcc_steps.specs.Wires.{style_of, block_of, meets, sees_done, tells_error, header_error, acknowledges}
+use Rattle.pcc_steps.specs.Runs.{Run, ends, loads, stores, swaps, executes, store_changed, load_words, PostStep, post_steps, posting, AskEnd, posts, sees_clear, drains, LookStep, look_table, look_steps, looking, acknowledging, masked_write, Seen}
+use Rattle.pcc_steps.specs.Asking.{Ask, AskOk, AskUpdates, AskClears, AskRings, has_more, rose, ask_stepped, ask_next_at, ask_fed_at, ask_told_at, ask_begun, post_on, look_on, read_on, block_on, line_on, lowered_on, look_told, read_told, end_told, line_told, after_block, after_update, after_mark, after_bell, after_look}
 use Rattle.pcc_steps.specs.Walk.{post_number, look_number, from, behind, ask_left_by, ask_left, ask_after, Takes}
-
--- ---- lists
-
-pub dropped : (j : ℕ) (l : List ℕ) → j < length l → drop j l ≡ get_or l j 0 ∷ drop (j + 1) l
-dropped j [] h = absurd (omega arith)
-dropped zero (x ∷ xs) h = refl
-dropped (suc j) (x ∷ xs) h = dropped j xs (omega arith) ∙ ap (λ (n : ℕ). get_or xs j 0 ∷ drop n (x ∷ xs)) (let e : suc (j + 1) ≡ suc j + 1 = omega arith in e)
-
-pub none_left : (j : ℕ) (l : List ℕ) → length l ≤ j → drop j l ≡ []
-none_left zero [] h = refl
-none_left (suc j) [] h = refl
-none_left zero (x ∷ xs) h = absurd (omega arith)
-none_left (suc j) (x ∷ xs) h = none_left j xs (omega arith)
-
-pub all_taken : (n : ℕ) (l : List ℕ) → length l ≤ n → take n l ≡ l
-all_taken zero [] h = refl
-all_taken (suc n) [] h = refl
-all_taken zero (x ∷ xs) h = absurd (omega arith)
-all_taken (suc n) (x ∷ xs) h = ap (λ (l : List ℕ). x ∷ l) (all_taken n xs (omega arith))
-
-pub next_place : (j : ℕ) → 8 + (j + 1) ≡ 8 + j + 1
-next_place j = omega arith
+use Rattle.pcc_steps.proofs.Lists.{all_taken, next_place}
+use Rattle.pcc_steps.proofs.Changes.{Storing, first_stored, next_stored}
 
 -- ---- posting
 
 module _ (look : List LookStep) where
-  left_block : (s : Style) (a : Ask) → ask_left_by (post_steps s) look (after_block s) a ≡ posting (behind post_number 0 (post_steps s)) a.wiring a.code a.sent
+  left_block : (s : Style) (a : Ask) → ask_left_by (post_steps s) look (after_block s) a ≡ posting (behind post_number 0 (post_steps s)) a.wiring a.code a.sent a.shown
   left_block Headed a = refl
   left_block Joined3 a = refl
   left_block Separate3 a = refl
@@ -54,7 +33,7 @@ module _ (look : List LookStep) where
   left_block Reduced5 a = refl
 
   left_update : (s : Style) (a : Ask) → AskUpdates s
-      → ask_left_by (post_steps s) look (after_update s) a ≡ posting (behind post_number 2 (post_steps s)) a.wiring a.code a.sent
+      → ask_left_by (post_steps s) look (after_update s) a ≡ posting (behind post_number 2 (post_steps s)) a.wiring a.code a.sent a.shown
   left_update Headed a u = absurd u
   left_update Joined3 a u = refl
   left_update Separate3 a u = refl
@@ -63,7 +42,7 @@ module _ (look : List LookStep) where
   left_update Reduced5 a u = absurd u
 
   left_mark : (s : Style) (a : Ask) → AskClears s
-      → ask_left_by (post_steps s) look (after_mark s) a ≡ posting (behind post_number 3 (post_steps s)) a.wiring a.code a.sent
+      → ask_left_by (post_steps s) look (after_mark s) a ≡ posting (behind post_number 3 (post_steps s)) a.wiring a.code a.sent a.shown
   left_mark Headed a u = absurd u
   left_mark Joined3 a u = absurd u
   left_mark Separate3 a u = refl
@@ -72,7 +51,7 @@ module _ (look : List LookStep) where
   left_mark Reduced5 a u = refl
 
   left_bell : (s : Style) (a : Ask) → AskRings s
-      → ask_left_by (post_steps s) look (after_bell s) a ≡ posting (behind post_number 4 (post_steps s)) a.wiring a.code a.sent
+      → ask_left_by (post_steps s) look (after_bell s) a ≡ posting (behind post_number 4 (post_steps s)) a.wiring a.code a.sent a.shown
   left_bell Headed a u = refl
   left_bell Joined3 a u = refl
   left_bell Separate3 a u = refl
@@ -199,11 +178,12 @@ lowered false a = sym (over_now a)
 
 -- ---- every stage
 
-store_walks : (b : Bool) (j : ℕ) (a : Ask) → has_more j a.wiring ≡ b → length a.sent ≡ block_of a.wiring
-    → ask_after None (store_on b j a) ≡ store_words (8 + j + 1) (drop (j + 1) a.sent) (posting (behind post_number 0 (post_steps (style_of a.wiring))) a.wiring a.code a.sent)
-store_walks true j a more long = ap (λ (p : ℕ). store_words p (drop (j + 1) a.sent) (posting (behind post_number 0 (post_steps (style_of a.wiring))) a.wiring a.code a.sent)) (next_place j)
-store_walks false j a more long = let k : Run AskEnd = posting (behind post_number 0 (post_steps (style_of a.wiring))) a.wiring a.code a.sent in let last : block_of a.wiring ≤ j + 1 = ltb-false (j + 1) (block_of a.wiring) more in
-    left_block (look_steps a.wiring) (style_of a.wiring) (record a { stage = after_block (style_of a.wiring) }) ∙ sym (ap (λ (l : List ℕ). store_words (8 + j + 1) l k) (none_left (j + 1) a.sent (omega arith)))
+-- the stores of the block that are left, at the next word that changed or after the last one
+store_walks : (b : Bool) (n : ℕ) (a : Ask)
+    → let k : Run AskEnd = posting (behind post_number 0 (post_steps (style_of a.wiring))) a.wiring a.code a.sent a.shown in
+    ask_left_by (post_steps (style_of a.wiring)) (look_steps a.wiring) (post_on b n (style_of a.wiring)) a ≡ Storing b 8 n a.sent a.shown k
+store_walks true n a = refl
+store_walks false n a = left_block (look_steps a.wiring) (style_of a.wiring) a
 
 abbrev pub left_at : AskStage → Ask → Run AskEnd
 left_at st a = ask_left_by (post_steps (style_of a.wiring)) (look_steps a.wiring) st a
@@ -211,8 +191,8 @@ left_at st a = ask_left_by (post_steps (style_of a.wiring)) (look_steps a.wiring
 pub walks : (st : AskStage) (a : Ask) → st ≢ AskRest → AskOk (record a { stage = st })
     → Takes (left_at st a) (ask_next_at st a) (λ v. ask_after (ask_told_at st a v) (ask_fed_at st a v))
 walks AskRest a runs ok = absurd (runs refl)
-walks (PostBlock j) a runs ok = let k : Run AskEnd = posting (behind post_number 0 (post_steps (style_of a.wiring))) a.wiring a.code a.sent in let here : j < block_of a.wiring = ok.place in let long : length a.sent ≡ block_of a.wiring = ok.sized.sent in
-    subst (λ (l : List ℕ). Takes (store_words (8 + j) l k) (ask_next_at (PostBlock j) a) (λ v. ask_after None (ask_fed_at (PostBlock j) a v))) (sym (dropped j a.sent (omega arith))) (refl, λ v. store_walks (has_more j a.wiring) j a refl long)
+walks (PostBlock j) a runs ok = let k : Run AskEnd = posting (behind post_number 0 (post_steps (style_of a.wiring))) a.wiring a.code a.sent a.shown in let n : ℕ = next_changed (j + 1) a.sent a.shown in let b : Bool = ltb n (length a.sent) in
+    (refl, λ v. store_walks b n (ask_fed_at (PostBlock j) a v) ∙ sym (next_stored b 8 (j + 1) a.sent a.shown k refl) ∙ ap (λ (p : ℕ). store_changed p (drop (j + 1) a.sent) (drop (j + 1) a.shown) k) (next_place j))
 walks PostHeader a runs ok = header_walks (look_steps a.wiring) (style_of a.wiring) a ok.place
 walks PostUpdateLoad a runs ok = update_walks (look_steps a.wiring) (style_of a.wiring) a ok.place
 walks PostUpdateStore a runs ok = (refl, λ v. left_update (look_steps a.wiring) (style_of a.wiring) (record a { stage = after_update (style_of a.wiring) }) ok.place)
@@ -232,10 +212,10 @@ walks LookAckStore a runs ok = (refl, λ v. sym (over_now a))
 
 -- ---- the beginnings
 
-first_block : (s : Style) (w : Wiring) (code : ℕ) (block : List ℕ)
-    → store_words 8 block (posting (behind post_number 0 (post_steps s)) w code block) ≡ posting (post_steps s) w code block
-first_block Headed w code block = refl
-first_block _ w code block = refl
+first_block : (s : Style) (w : Wiring) (code : ℕ) (block old : List ℕ)
+    → store_changed 8 block old (posting (behind post_number 0 (post_steps s)) w code block old) ≡ posting (post_steps s) w code block old
+first_block Headed w code block old = refl
+first_block _ w code block old = refl
 
 -- the count of steps is no part of a run
 stepped_at : (post : List PostStep) (look : List LookStep) (st : AskStage) (a : Ask) (n : ℕ)
@@ -262,7 +242,9 @@ asks_by_table a ok runs = takes_so (ask_left a) (ask_next_at a.stage a) (λ v. a
     (λ v. after_stepped (ask_told_at a.stage a v) (ask_fed_at a.stage a v)) (walks a.stage a runs ok)
 
 pub posts_by_table : PostsByTable
-posts_by_table a code bytes = first_block (style_of a.wiring) a.wiring code (block_header (style_of a.wiring) a.wiring code (length bytes) ++ words_of (over a.space bytes))
+posts_by_table a code bytes = let z : Ask = ask_begun a code bytes in let s : Style = style_of a.wiring in let k : Run AskEnd = posting (behind post_number 0 (post_steps s)) a.wiring code z.sent a.shown in
+    let n : ℕ = next_changed 0 z.sent a.shown in let b : Bool = ltb n (length z.sent) in
+    store_walks b n z ∙ sym (first_stored b 8 z.sent a.shown k refl) ∙ first_block s a.wiring code z.sent a.shown
 
 pub looks_by_table : LooksByTable
 looks_by_table a = refl

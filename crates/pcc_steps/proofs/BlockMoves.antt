@@ -1,25 +1,22 @@
 -- Words of the block that are moved at once are moved by single word steps.
-use Rattle.std.proofs.Common.{◌≡◌, ◌≢◌, ◌⊎◌, inl, inr, ℕ, zero, suc, ◌+◌, ◌-◌, ◌^◌, ◌<◌, ◌≤◌, Bool, true, List, length, get_or, set, refl, sym, ap, ◌∙◌, subst, arith, length-set}
+use Rattle.std.proofs.Common.{◌≡◌, ◌≢◌, ◌⊎◌, inl, inr, ℕ, zero, suc, ◌+◌, ◌-◌, ◌^◌, ◌<◌, ◌≤◌, Bool, true, ltb, List, length, get_or, set, refl, sym, ap, ◌∙◌, subst, arith, length-set}
+use Rattle.std.specs.Prelude.{None}
 use Rattle.std.proofs.lemmas.Bool.{lt-ltb, cases_lt}
 use Rattle.pcc_steps.specs.declared.wiring.Wiring.{Wiring}
 use Rattle.pcc_steps.specs.declared.ask.AskStage.{AskStage}
 use Rattle.pcc_steps.specs.declared.ask.AskStage.TheVariants.{PostBlock, LookBlock}
 use Rattle.pcc_steps.specs.declared.answer.AnswerStage.{AnswerStage}
 use Rattle.pcc_steps.specs.declared.answer.AnswerStage.TheVariants.{RunDevice, TakeBlock, ReplyBlock}
-use Rattle.pcc_steps.specs.Wires.{block_of}
-use Rattle.pcc_steps.specs.Asking.{Ask, AskOk, has_more, rose, ask_stepped, store_on, read_on, read_told}
-use Rattle.pcc_steps.specs.Answering.{Answer, AnswerOk, answer_stepped, load_on, reply_on}
-use Rattle.pcc_steps.specs.Moves.{AskMoves, AnswerMoves, before_last, with_stored, with_loaded, risen}
+use Rattle.pcc_steps.specs.Changes.{next_changed}
+use Rattle.pcc_steps.specs.Wires.{style_of, block_of}
+use Rattle.pcc_steps.specs.Asking.{Ask, AskOk, IsAskRunning, has_more, rose, ask_next, ask_fed, ask_told, ask_stepped, post_on, block_stage, read_on, read_told}
+use Rattle.pcc_steps.specs.Answering.{Answer, AnswerOk, IsAnswerStepping, answer_next, answer_fed, answer_told, answer_stepped, load_on, reply_on, reply_stage}
+use Rattle.pcc_steps.specs.Agree.{act, found}
+use Rattle.pcc_steps.specs.Moves.{AskMoves, AskMoved, AnswerMoves, AnswerMoved, with_loaded, risen}
+use Rattle.pcc_steps.proofs.Changes.{next_same, next_other}
 use Rattle.pcc_steps.proofs.Ends.{count_rises}
 
 -- ---- loops
-
-pub stored_more : (last j : ℕ) (block ws : List ℕ) → j < last
-    → with_stored (last - j) j block ws ≡ with_stored (last - (j + 1)) (j + 1) block (set ws (8 + j) (get_or block j 0))
-stored_more last j block ws h = let e : last - j ≡ suc (last - (j + 1)) = omega arith in ap (λ (n : ℕ). with_stored n j block ws) e
-
-pub stored_done : (last j : ℕ) (block ws : List ℕ) → last ≤ j → with_stored (last - j) j block ws ≡ ws
-stored_done last j block ws h = let e : last - j ≡ zero = omega arith in ap (λ (n : ℕ). with_stored n j block ws) e
 
 pub loaded_more : (last j : ℕ) (ws block : List ℕ) → j < last
     → with_loaded (last - j) j ws block ≡ with_loaded (last - (j + 1)) (j + 1) ws (set block j (get_or ws (8 + j) 0))
@@ -54,22 +51,56 @@ risen_full (suc n) steps most h = by (cases_lt steps (2 ^ 64 - 1)) (λ s le lt. 
 more_is : (j n : ℕ) (w : Wiring) → j + suc n < block_of w → has_more j w ≡ true
 more_is j n w h = lt-ltb (j + 1) (block_of w) (omega (arith, h))
 
-post_ok : (j k steps : ℕ) (a : Ask) → AskOk (record a { stage = PostBlock j }) → k < block_of a.wiring → AskOk (record a { stage = PostBlock k; steps = steps })
-post_ok j k steps a ok h = record { wired = ok.wired; sized = ok.sized; place = h; flies = ok.flies; looks = ok.looks; posts = ok.posts; kept = ok.kept; mask = ok.mask; id = ok.id; code = ok.code }
+-- one step more
+asks_more : (n : ℕ) (ws ws1 : List ℕ) (a b : Ask) → AskMoves n ws a ws1 b → let v : ℕ = found (ask_next b) ws1 in AskOk b → IsAskRunning b → v < 2 ^ 64
+    → ask_told b v ≡ None → AskMoves (suc n) ws a (act (ask_next b) ws1) (ask_fed b v)
+asks_more zero ws ws1 a b h ok runs small told = subst (λ (z : List ℕ × Ask). AskMoves 1 z.0 z.1 (act (ask_next b) ws1) (ask_fed b (found (ask_next b) ws1))) (λ i. (h.0 i, h.1 i)) (ok, runs, small, told, (refl, refl))
+asks_more (suc n) ws ws1 a b h ok runs small told = let v : ℕ = found (ask_next a) ws in (h.0, h.1, h.2, h.3, asks_more n (act (ask_next a) ws) ws1 (ask_fed a v) b h.4 ok runs small told)
 
-stores : (n j steps : ℕ) (ws : List ℕ) (a : Ask) → AskOk (record a { stage = PostBlock j }) → j + n < block_of a.wiring
-    → AskMoves n ws (record a { stage = PostBlock j; steps = steps }) (with_stored n j a.sent ws) (record a { stage = PostBlock (j + n); steps = risen n steps })
-stores zero j steps ws a ok h = (refl, let e : j + zero ≡ j = omega arith in ap (λ (k : ℕ). record a { stage = PostBlock k; steps = steps }) e)
-stores (suc n) j steps ws a ok h = let b : Ask = record a { stage = PostBlock j; steps = steps } in let out : List ℕ = set ws (8 + j) (get_or a.sent j 0) in
-    let fed : record a { stage = PostBlock (j + 1); steps = rose steps } ≡ ask_stepped (store_on (has_more j a.wiring) j b) = sym (ap (λ (m : Bool). ask_stepped (store_on m j b)) (more_is j n a.wiring h)) in
-    let at : j + 1 + n ≡ j + suc n = omega arith in
-    let rest = stores n (j + 1) (rose steps) out a (post_ok j (j + 1) a.steps a ok (omega (arith, h))) (omega (arith, h)) in (
-      post_ok j j steps a ok (omega (arith, h)),
-      λ q. cc,
-      omega arith,
-      refl,
-      subst (λ (z : Ask × ℕ). AskMoves n out z.0 (with_stored n (j + 1) a.sent out) (record a { stage = PostBlock z.1; steps = risen n (rose steps) })) (λ i. (fed i, at i)) rest,
-    )
+-- the words that changed before the place `next` are stored, but for the last of them
+pub record Posts (ws0 : List ℕ) (a : Ask) (ws : List ℕ) (at steps next : ℕ) : Type 0 where
+  pub moves : AskMoved ws0 a ws (record a { stage = PostBlock at; steps = steps })
+  pub right : AskOk (record a { stage = PostBlock at; steps = steps })
+  pub past : at < next
+  pub same : next_changed next a.sent a.shown ≡ next_changed (at + 1) a.sent a.shown
+  pub long : length ws ≡ length ws0
+
+pub posts_start : (ws : List ℕ) (a : Ask) (from : ℕ) → AskOk a → a.stage ≡ PostBlock from → Posts ws a ws from a.steps (from + 1)
+posts_start ws a from ok e = record {
+  moves = (0, (refl, ap (λ (st : AskStage). record a { stage = st }) (sym e)));
+  right = subst (λ (st : AskStage). AskOk (record a { stage = st })) e ok;
+  past = omega arith;
+  same = refl;
+  long = refl;
+}
+
+-- a word that did not change is passed over
+pub posts_over : (ws0 ws : List ℕ) (a : Ask) (at steps next : ℕ) → AskOk a → Posts ws0 a ws at steps next → next < length a.sent
+    → get_or a.sent next 0 ≡ get_or a.shown next 0 → Posts ws0 a ws at steps (next + 1)
+posts_over ws0 ws a at steps next ok h here e = record {
+  moves = h.moves;
+  right = h.right;
+  past = let p = h.past in omega (arith, p);
+  same = sym (next_same next a.sent a.shown here (ok.sized.sent ∙ sym ok.sized.shown) e) ∙ h.same;
+  long = h.long;
+}
+
+-- at another word that changed, the one before is stored
+pub posts_on : (ws0 ws : List ℕ) (a : Ask) (at steps next : ℕ) → AskOk a → Posts ws0 a ws at steps next → next < length a.sent
+    → get_or a.sent next 0 ≢ get_or a.shown next 0 → Posts ws0 a (set ws (8 + at) (get_or a.sent at 0)) next (rose steps) (next + 1)
+posts_on ws0 ws a at steps next ok h here e = let b : Ask = record a { stage = PostBlock at; steps = steps } in let long : length a.sent ≡ length a.shown = ok.sized.sent ∙ sym ok.sized.shown in
+    let is : next_changed (at + 1) a.sent a.shown ≡ next = sym h.same ∙ next_other next a.sent a.shown here long e in
+    let fed : block_stage (at + 1) a.wiring a.sent a.shown ≡ PostBlock next = ap (λ (n : ℕ). post_on (ltb n (length a.sent)) n (style_of a.wiring)) is ∙ ap (λ (m : Bool). post_on m next (style_of a.wiring)) (lt-ltb next (length a.sent) here) in record {
+      moves = (
+        suc h.moves.0,
+        subst (λ (st : AskStage). AskMoves (suc h.moves.0) ws0 a (set ws (8 + at) (get_or a.sent at 0)) (record a { stage = st; steps = rose steps })) fed
+            (asks_more h.moves.0 ws0 ws a b h.moves.1 h.right (λ q. cc) (omega arith) refl),
+      );
+      right = let r = h.right in record { wired = r.wired; sized = r.sized; place = (let s = ok.sized.sent in omega (arith, here, s)); flies = r.flies; looks = r.looks; posts = r.posts; kept = r.kept; mask = r.mask; id = r.id; code = r.code };
+      past = omega arith;
+      same = refl;
+      long = length-set ws (8 + at) (get_or a.sent at 0) ∙ h.long;
+    }
 
 look_ok : (j k steps : ℕ) (block : List ℕ) (a : Ask) → AskOk (record a { stage = LookBlock j }) → k < block_of a.wiring → length block ≡ block_of a.wiring
     → AskOk (record a { stage = LookBlock k; loaded = block; steps = steps })
@@ -102,16 +133,12 @@ loads (suc n) j steps ws block a small ok long h = let b : Ask = record a { stag
       subst (λ (z : Ask × ℕ). AskMoves n ws z.0 ws (record a { stage = LookBlock z.1; loaded = with_loaded n (j + 1) ws on; steps = risen n (rose steps) })) (λ i. (fed i, at i)) rest,
     )
 
+-- the words of the block from this one on, without the last one
+abbrev pub before_last : ℕ → Wiring → ℕ
+before_last j w = block_of w - 1 - j
+
 last_at : (j : ℕ) (w : Wiring) → j < block_of w → j + before_last j w ≡ block_of w - 1
 last_at j w h = omega (arith, h)
-
-pub posts_move : (j : ℕ) (ws : List ℕ) (a : Ask) → AskOk a → a.stage ≡ PostBlock j
-    → AskMoves (before_last j a.wiring) ws a (with_stored (before_last j a.wiring) j a.sent ws) (record a { stage = PostBlock (block_of a.wiring - 1); steps = risen (before_last j a.wiring) a.steps })
-posts_move j ws a ok e = let n : ℕ = before_last j a.wiring in
-    let ok' : AskOk (record a { stage = PostBlock j }) = subst (λ (s : AskStage). AskOk (record a { stage = s })) e ok in
-    let h : j < block_of a.wiring = ok'.place in
-    subst (λ (z : AskStage × ℕ). AskMoves n ws (record a { stage = z.0 }) (with_stored n j a.sent ws) (record a { stage = PostBlock z.1; steps = risen n a.steps })) (λ i. (sym e i, last_at j a.wiring h i))
-    (stores n j a.steps ws a ok' (omega (arith, h)))
 
 pub looks_move : (j : ℕ) (ws : List ℕ) (a : Ask) → ((p : ℕ) → get_or ws p 0 < 2 ^ 64) → AskOk a → a.stage ≡ LookBlock j
     → AskMoves (before_last j a.wiring) ws a ws (record a { stage = LookBlock (block_of a.wiring - 1); loaded = with_loaded (before_last j a.wiring) j ws a.loaded; steps = risen (before_last j a.wiring) a.steps })
@@ -120,6 +147,15 @@ looks_move j ws a small ok e = let n : ℕ = before_last j a.wiring in
     let h : j < block_of a.wiring = ok'.place in
     subst (λ (z : AskStage × ℕ). AskMoves n ws (record a { stage = z.0 }) ws (record a { stage = LookBlock z.1; loaded = with_loaded n j ws a.loaded; steps = risen n a.steps })) (λ i. (sym e i, last_at j a.wiring h i))
     (loads n j a.steps ws a.loaded a small ok' ok.sized.loaded (omega (arith, h)))
+
+-- a turn of the loop
+pub posts_same : (ws0 ws ws' : List ℕ) (a : Ask) (at at' steps steps' next : ℕ) → AskOk a → Posts ws0 a ws at steps next → next < length a.sent
+    → get_or a.sent next 0 ≡ get_or a.shown next 0 → ws' ≡ ws → at' ≡ at → steps' ≡ steps → Posts ws0 a ws' at' steps' (next + 1)
+posts_same ws0 ws ws' a at at' steps steps' next ok h here e w p n = subst (λ (z : List ℕ × ℕ × ℕ). Posts ws0 a z.0 z.1 z.2 (next + 1)) (λ i. (sym w i, sym p i, sym n i)) (posts_over ws0 ws a at steps next ok h here e)
+
+pub posts_other : (ws0 ws ws' : List ℕ) (a : Ask) (at at' steps steps' next : ℕ) → AskOk a → Posts ws0 a ws at steps next → next < length a.sent
+    → get_or a.sent next 0 ≢ get_or a.shown next 0 → ws' ≡ set ws (8 + at) (get_or a.sent at 0) → at' ≡ next → steps' ≡ rose steps → Posts ws0 a ws' at' steps' (next + 1)
+posts_other ws0 ws ws' a at at' steps steps' next ok h here e w p n = subst (λ (z : List ℕ × ℕ × ℕ). Posts ws0 a z.0 z.1 z.2 (next + 1)) (λ i. (sym w i, sym p i, sym n i)) (posts_on ws0 ws a at steps next ok h here e)
 
 -- ---- the answering end
 
@@ -145,26 +181,68 @@ takes (suc n) j steps ws block b small ok long h = let c : Answer = record b { s
       subst (λ (z : Answer × ℕ). AnswerMoves n ws z.0 ws (record b { stage = TakeBlock z.1; loaded = with_loaded n (j + 1) ws on; steps = risen n (rose steps) })) (λ i. (fed i, at i)) rest,
     )
 
-reply_ok : (j k steps : ℕ) (b : Answer) → AnswerOk (record b { stage = ReplyBlock j }) → j ≤ k → k < block_of b.wiring
-    → AnswerOk (record b { stage = ReplyBlock k; steps = steps })
-reply_ok j k steps b ok from h = record { wired = ok.wired; sized = ok.sized; place = (let p = ok.place.0 in omega (arith, p, from), h); kept = ok.kept; header = ok.header }
+-- one step more
+answers_more : (n : ℕ) (ws ws1 : List ℕ) (a b : Answer) → AnswerMoves n ws a ws1 b → let v : ℕ = found (answer_next b) ws1 in AnswerOk b → IsAnswerStepping b → v < 2 ^ 64
+    → answer_told b v ≡ None → AnswerOk (answer_fed b v) → (answer_fed b v).stage ≢ RunDevice → AnswerMoves (suc n) ws a (act (answer_next b) ws1) (answer_fed b v)
+answers_more zero ws ws1 a b h ok steps small told right goes = subst (λ (z : List ℕ × Answer). AnswerMoves 1 z.0 z.1 (act (answer_next b) ws1) (answer_fed b (found (answer_next b) ws1))) (λ i. (h.0 i, h.1 i)) (ok, steps, small, told, right, goes, (refl, refl))
+answers_more (suc n) ws ws1 a b h ok steps small told right goes = let v : ℕ = found (answer_next a) ws in
+    (h.0, h.1, h.2, h.3, h.4, h.5, answers_more n (act (answer_next a) ws) ws1 (answer_fed a v) b h.6 ok steps small told right goes)
 
-replies : (n j steps : ℕ) (ws : List ℕ) (b : Answer) → AnswerOk (record b { stage = ReplyBlock j }) → j + n < block_of b.wiring
-    → AnswerMoves n ws (record b { stage = ReplyBlock j; steps = steps }) (with_stored n j b.out ws) (record b { stage = ReplyBlock (j + n); steps = risen n steps })
-replies zero j steps ws b ok h = (refl, let e : j + zero ≡ j = omega arith in ap (λ (k : ℕ). record b { stage = ReplyBlock k; steps = steps }) e)
-replies (suc n) j steps ws b ok h = let c : Answer = record b { stage = ReplyBlock j; steps = steps } in let out : List ℕ = set ws (8 + j) (get_or b.out j 0) in
-    let d : Answer = record b { stage = ReplyBlock (j + 1); steps = rose steps } in
-    let fed : d ≡ answer_stepped (reply_on (has_more j b.wiring) j c) = sym (ap (λ (m : Bool). answer_stepped (reply_on m j c)) (more_is j n b.wiring h)) in
-    let at : j + 1 + n ≡ j + suc n = omega arith in
-    let rest = replies n (j + 1) (rose steps) out b (reply_ok j (j + 1) b.steps b ok (omega arith) (omega (arith, h))) (omega (arith, h)) in (
-      reply_ok j j steps b ok (omega arith) (omega (arith, h)),
-      (λ q. cc, λ q. cc),
-      omega arith,
-      refl,
-      subst AnswerOk fed (reply_ok j (j + 1) (rose steps) b ok (omega arith) (omega (arith, h))),
-      subst (λ (z : Answer). z.stage ≢ RunDevice) fed (λ q. cc),
-      subst (λ (z : Answer × ℕ). AnswerMoves n out z.0 (with_stored n (j + 1) b.out out) (record b { stage = ReplyBlock z.1; steps = risen n (rose steps) })) (λ i. (fed i, at i)) rest,
-    )
+-- the words that changed before the place `next` are stored, but for the last of them
+pub record Replies (ws0 : List ℕ) (a : Answer) (ws : List ℕ) (at steps next : ℕ) : Type 0 where
+  pub moves : AnswerMoved ws0 a ws (record a { stage = ReplyBlock at; steps = steps })
+  pub right : AnswerOk (record a { stage = ReplyBlock at; steps = steps })
+  pub past : at < next
+  pub same : next_changed next a.out a.loaded ≡ next_changed (at + 1) a.out a.loaded
+  pub long : length ws ≡ length ws0
+
+pub replies_start : (ws : List ℕ) (a : Answer) (from : ℕ) → AnswerOk a → a.stage ≡ ReplyBlock from → Replies ws a ws from a.steps (from + 1)
+replies_start ws a from ok e = record {
+  moves = (0, (refl, ap (λ (st : AnswerStage). record a { stage = st }) (sym e)));
+  right = subst (λ (st : AnswerStage). AnswerOk (record a { stage = st })) e ok;
+  past = omega arith;
+  same = refl;
+  long = refl;
+}
+
+-- a word that did not change is passed over
+pub replies_over : (ws0 ws : List ℕ) (a : Answer) (at steps next : ℕ) → AnswerOk a → Replies ws0 a ws at steps next → next < length a.out
+    → get_or a.out next 0 ≡ get_or a.loaded next 0 → Replies ws0 a ws at steps (next + 1)
+replies_over ws0 ws a at steps next ok h here e = record {
+  moves = h.moves;
+  right = h.right;
+  past = let p = h.past in omega (arith, p);
+  same = sym (next_same next a.out a.loaded here (ok.sized.out ∙ sym ok.sized.loaded) e) ∙ h.same;
+  long = h.long;
+}
+
+-- at another word that changed, the one before is stored
+pub replies_on : (ws0 ws : List ℕ) (a : Answer) (at steps next : ℕ) → AnswerOk a → Replies ws0 a ws at steps next → next < length a.out
+    → get_or a.out next 0 ≢ get_or a.loaded next 0 → Replies ws0 a (set ws (8 + at) (get_or a.out at 0)) next (rose steps) (next + 1)
+replies_on ws0 ws a at steps next ok h here e = let b : Answer = record a { stage = ReplyBlock at; steps = steps } in let long : length a.out ≡ length a.loaded = ok.sized.out ∙ sym ok.sized.loaded in
+    let is : next_changed (at + 1) a.out a.loaded ≡ next = sym h.same ∙ next_other next a.out a.loaded here long e in
+    let fed : reply_stage (at + 1) a.wiring a.out a.loaded ≡ ReplyBlock next = ap (λ (n : ℕ). reply_on (ltb n (length a.out)) n a.wiring) is ∙ ap (λ (m : Bool). reply_on m next a.wiring) (lt-ltb next (length a.out) here) in
+    let r = h.right in let right : AnswerOk (record a { stage = ReplyBlock next; steps = rose steps }) = record { wired = r.wired; sized = r.sized; place = (let p = r.place.0 in let q = h.past in omega (arith, p, q), let s = ok.sized.out in omega (arith, here, s)); kept = r.kept; header = r.header } in record {
+      moves = (
+        suc h.moves.0,
+        subst (λ (st : AnswerStage). AnswerMoves (suc h.moves.0) ws0 a (set ws (8 + at) (get_or a.out at 0)) (record a { stage = st; steps = rose steps })) fed
+            (answers_more h.moves.0 ws0 ws a b h.moves.1 h.right (λ q. cc, λ q. cc) (omega arith) refl
+            (subst (λ (st : AnswerStage). AnswerOk (record a { stage = st; steps = rose steps })) (sym fed) right) (subst (λ (st : AnswerStage). st ≢ RunDevice) (sym fed) (λ q. cc))),
+      );
+      right = right;
+      past = omega arith;
+      same = refl;
+      long = length-set ws (8 + at) (get_or a.out at 0) ∙ h.long;
+    }
+
+-- a turn of the loop
+pub replies_same : (ws0 ws ws' : List ℕ) (a : Answer) (at at' steps steps' next : ℕ) → AnswerOk a → Replies ws0 a ws at steps next → next < length a.out
+    → get_or a.out next 0 ≡ get_or a.loaded next 0 → ws' ≡ ws → at' ≡ at → steps' ≡ steps → Replies ws0 a ws' at' steps' (next + 1)
+replies_same ws0 ws ws' a at at' steps steps' next ok h here e w p n = subst (λ (z : List ℕ × ℕ × ℕ). Replies ws0 a z.0 z.1 z.2 (next + 1)) (λ i. (sym w i, sym p i, sym n i)) (replies_over ws0 ws a at steps next ok h here e)
+
+pub replies_other : (ws0 ws ws' : List ℕ) (a : Answer) (at at' steps steps' next : ℕ) → AnswerOk a → Replies ws0 a ws at steps next → next < length a.out
+    → get_or a.out next 0 ≢ get_or a.loaded next 0 → ws' ≡ set ws (8 + at) (get_or a.out at 0) → at' ≡ next → steps' ≡ rose steps → Replies ws0 a ws' at' steps' (next + 1)
+replies_other ws0 ws ws' a at at' steps steps' next ok h here e w p n = subst (λ (z : List ℕ × ℕ × ℕ). Replies ws0 a z.0 z.1 z.2 (next + 1)) (λ i. (sym w i, sym p i, sym n i)) (replies_on ws0 ws a at steps next ok h here e)
 
 pub takes_move : (j : ℕ) (ws : List ℕ) (b : Answer) → ((p : ℕ) → get_or ws p 0 < 2 ^ 64) → AnswerOk b → b.stage ≡ TakeBlock j
     → AnswerMoves (before_last j b.wiring) ws b ws (record b { stage = TakeBlock (block_of b.wiring - 1); loaded = with_loaded (before_last j b.wiring) j ws b.loaded; steps = risen (before_last j b.wiring) b.steps })
@@ -174,51 +252,25 @@ takes_move j ws b small ok e = let n : ℕ = before_last j b.wiring in
     subst (λ (z : AnswerStage × ℕ). AnswerMoves n ws (record b { stage = z.0 }) ws (record b { stage = TakeBlock z.1; loaded = with_loaded n j ws b.loaded; steps = risen n b.steps })) (λ i. (sym e i, last_at j b.wiring h i))
     (takes n j b.steps ws b.loaded b small ok' ok.sized.loaded (omega (arith, h)))
 
-pub replies_move : (j : ℕ) (ws : List ℕ) (b : Answer) → AnswerOk b → b.stage ≡ ReplyBlock j
-    → AnswerMoves (before_last j b.wiring) ws b (with_stored (before_last j b.wiring) j b.out ws) (record b { stage = ReplyBlock (block_of b.wiring - 1); steps = risen (before_last j b.wiring) b.steps })
-replies_move j ws b ok e = let n : ℕ = before_last j b.wiring in
-    let ok' : AnswerOk (record b { stage = ReplyBlock j }) = subst (λ (s : AnswerStage). AnswerOk (record b { stage = s })) e ok in
-    let h : j < block_of b.wiring = ok'.place.1 in
-    subst (λ (z : AnswerStage × ℕ). AnswerMoves n ws (record b { stage = z.0 }) (with_stored n j b.out ws) (record b { stage = ReplyBlock z.1; steps = risen n b.steps })) (λ i. (sym e i, last_at j b.wiring h i))
-    (replies n j b.steps ws b ok' (omega (arith, h)))
-
 -- ---- what the functions leave
 
 last_less : (j last : ℕ) (w : Wiring) → last ≡ block_of w - 1 → last - j ≡ before_last j w
 last_less j last w e = ap (λ (n : ℕ). n - j) e
 
-pub post_moved : (j last steps : ℕ) (ws ws' : List ℕ) (a b : Ask) → AskOk a → a.stage ≡ PostBlock j → last ≡ block_of a.wiring - 1
-    → ws' ≡ with_stored (last - j) j a.sent ws → steps ≡ risen (last - j) a.steps
-    → b ≡ record a { stage = PostBlock last; steps = steps } → AskMoves (before_last j a.wiring) ws a ws' b
-post_moved j last steps ws ws' a b ok st e ew es eb = let n : ℕ = before_last j a.wiring in let k : last - j ≡ n = last_less j last a.wiring e in
-    let w : ws' ≡ with_stored n j a.sent ws = ew ∙ ap (λ (m : ℕ). with_stored m j a.sent ws) k in
-    let s : steps ≡ risen n a.steps = es ∙ ap (λ (m : ℕ). risen m a.steps) k in
-    let x : b ≡ record a { stage = PostBlock (block_of a.wiring - 1); steps = risen n a.steps } = eb ∙ (λ i. record a { stage = PostBlock (e i); steps = s i }) in
-    subst (λ (z : List ℕ × Ask). AskMoves n ws a z.0 z.1) (λ i. (sym w i, sym x i)) (posts_move j ws a ok st)
-
 pub look_moved : (j last steps : ℕ) (ws block : List ℕ) (a b : Ask) → ((p : ℕ) → get_or ws p 0 < 2 ^ 64) → AskOk a → a.stage ≡ LookBlock j
     → last ≡ block_of a.wiring - 1 → block ≡ with_loaded (last - j) j ws a.loaded → steps ≡ risen (last - j) a.steps
-    → b ≡ record a { stage = LookBlock last; loaded = block; steps = steps } → AskMoves (before_last j a.wiring) ws a ws b
+    → b ≡ record a { stage = LookBlock last; loaded = block; steps = steps } → AskMoved ws a ws b
 look_moved j last steps ws block a b small ok st e el es eb = let n : ℕ = before_last j a.wiring in let k : last - j ≡ n = last_less j last a.wiring e in
     let l : block ≡ with_loaded n j ws a.loaded = el ∙ ap (λ (m : ℕ). with_loaded m j ws a.loaded) k in
     let s : steps ≡ risen n a.steps = es ∙ ap (λ (m : ℕ). risen m a.steps) k in
     let x : b ≡ record a { stage = LookBlock (block_of a.wiring - 1); loaded = with_loaded n j ws a.loaded; steps = risen n a.steps } = eb ∙ (λ i. record a { stage = LookBlock (e i); loaded = l i; steps = s i }) in
-    subst (λ (z : Ask). AskMoves n ws a ws z) (sym x) (looks_move j ws a small ok st)
+    (n, subst (λ (z : Ask). AskMoves n ws a ws z) (sym x) (looks_move j ws a small ok st))
 
 pub take_moved : (j last steps : ℕ) (ws block : List ℕ) (a b : Answer) → ((p : ℕ) → get_or ws p 0 < 2 ^ 64) → AnswerOk a → a.stage ≡ TakeBlock j
     → last ≡ block_of a.wiring - 1 → block ≡ with_loaded (last - j) j ws a.loaded → steps ≡ risen (last - j) a.steps
-    → b ≡ record a { stage = TakeBlock last; loaded = block; steps = steps } → AnswerMoves (before_last j a.wiring) ws a ws b
+    → b ≡ record a { stage = TakeBlock last; loaded = block; steps = steps } → AnswerMoved ws a ws b
 take_moved j last steps ws block a b small ok st e el es eb = let n : ℕ = before_last j a.wiring in let k : last - j ≡ n = last_less j last a.wiring e in
     let l : block ≡ with_loaded n j ws a.loaded = el ∙ ap (λ (m : ℕ). with_loaded m j ws a.loaded) k in
     let s : steps ≡ risen n a.steps = es ∙ ap (λ (m : ℕ). risen m a.steps) k in
     let x : b ≡ record a { stage = TakeBlock (block_of a.wiring - 1); loaded = with_loaded n j ws a.loaded; steps = risen n a.steps } = eb ∙ (λ i. record a { stage = TakeBlock (e i); loaded = l i; steps = s i }) in
-    subst (λ (z : Answer). AnswerMoves n ws a ws z) (sym x) (takes_move j ws a small ok st)
-
-pub reply_moved : (j last steps : ℕ) (ws ws' : List ℕ) (a b : Answer) → AnswerOk a → a.stage ≡ ReplyBlock j → last ≡ block_of a.wiring - 1
-    → ws' ≡ with_stored (last - j) j a.out ws → steps ≡ risen (last - j) a.steps
-    → b ≡ record a { stage = ReplyBlock last; steps = steps } → AnswerMoves (before_last j a.wiring) ws a ws' b
-reply_moved j last steps ws ws' a b ok st e ew es eb = let n : ℕ = before_last j a.wiring in let k : last - j ≡ n = last_less j last a.wiring e in
-    let w : ws' ≡ with_stored n j a.out ws = ew ∙ ap (λ (m : ℕ). with_stored m j a.out ws) k in
-    let s : steps ≡ risen n a.steps = es ∙ ap (λ (m : ℕ). risen m a.steps) k in
-    let x : b ≡ record a { stage = ReplyBlock (block_of a.wiring - 1); steps = risen n a.steps } = eb ∙ (λ i. record a { stage = ReplyBlock (e i); steps = s i }) in
-    subst (λ (z : List ℕ × Answer). AnswerMoves n ws a z.0 z.1) (λ i. (sym w i, sym x i)) (replies_move j ws a ok st)
+    (n, subst (λ (z : Answer). AnswerMoves n ws a ws z) (sym x) (takes_move j ws a small ok st))

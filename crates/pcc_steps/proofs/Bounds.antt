@@ -7,7 +7,7 @@ use Rattle.pcc_steps.specs.declared.wiring.Wiring.{Wiring}
 use Rattle.pcc_steps.specs.declared.wiring.Style.{Style}
 use Rattle.pcc_steps.specs.declared.wiring.Style.TheVariants.{Headed, Joined3, Separate3, Joined4, Separate4, Reduced5}
 use Rattle.pcc_steps.specs.Wires.{style_of, heads_of, block_of, meets, header_error, sees_done, tells_error, acknowledges, four_by, asks_by}
-use Rattle.pcc_steps.specs.Runs.{Run, ends, loads, stores, swaps, executes, Within, store_words, load_words, only, post_steps, posting, post_run, looks_at_error, looks_at_block, lowers_interrupt, looking, Seen, acknowledges_bell, executes_command, replies_space, taking_steps, completing_steps, answering, Got}
+use Rattle.pcc_steps.specs.Runs.{Run, ends, loads, stores, swaps, executes, Within, store_changed, load_words, only, post_steps, posting, post_run, looks_at_error, looks_at_block, lowers_interrupt, looking, Seen, acknowledges_bell, executes_command, replies_space, taking_steps, completing_steps, answering, Got}
 use Rattle.pcc_steps.specs.Laws.{PostsWithin, LooksWithin, AnswersWithin}
 use Rattle.pcc_steps.proofs.AnswerWalks.{closing, replied}
 
@@ -23,9 +23,11 @@ choice : {E : Type 0} (b : Bool) (n : ℕ) (r t : Run E) → Within n r → With
 choice true n r t h k = h
 choice false n r t h k = k
 
-stored : {E : Type 0} (p : ℕ) (ws : List ℕ) (k : Run E) (m : ℕ) → Within m k → Within (length ws + m) (store_words p ws k)
-stored p [] k m h = more m (0 + m) k (omega arith) h
-stored p (w ∷ ws) k m h = (omega arith, more (length ws + m) (length (w ∷ ws) + m - 1) (store_words (p + 1) ws k) (omega arith) (stored (p + 1) ws k m h))
+stored : {E : Type 0} (p : ℕ) (ws os : List ℕ) (k : Run E) (m : ℕ) → Within m k → Within (length ws + m) (store_changed p ws os k)
+stored p [] os k m h = more m (0 + m) k (omega arith) h
+stored p (w ∷ ws) [] k m h = (omega arith, more (length ws + m) (length (w ∷ ws) + m - 1) (store_changed (p + 1) ws [] k) (omega arith) (stored (p + 1) ws [] k m h))
+stored p (w ∷ ws) (o ∷ os) k m h = let r = store_changed (p + 1) ws os k in let l = stored (p + 1) ws os k m h in
+    choice (w == o) (length (w ∷ ws) + m) r (stores p w r) (more (length ws + m) (length (w ∷ ws) + m) r (omega arith) l) (omega arith, more (length ws + m) (length (w ∷ ws) + m - 1) r (omega arith) l)
 
 loaded : {E : Type 0} (p n : ℕ) (found : List ℕ) (k : List ℕ → Run E) (m : ℕ) → ((b : List ℕ) → length b ≡ length found + n → Within m (k b))
     → Within (n + m) (load_words p n found k)
@@ -34,16 +36,16 @@ loaded p (suc n) found k m h = (omega arith, λ v. more (n + m) (suc n + m - 1) 
 
 -- ---- posting
 
-posted : (s : Style) (w : Wiring) (code : ℕ) (block : List ℕ) → Within (length block + 7) (posting (post_steps s) w code block)
-posted Headed w code block = stored 8 block _ 7 (omega arith, (omega arith, λ v. (omega arith, (omega arith, tt))))
-posted Joined3 w code block = stored 8 block _ 7 (omega arith, λ v. (omega arith, (omega arith, λ v. (omega arith, (omega arith, tt)))))
-posted Separate3 w code block = stored 8 block _ 7 (omega arith, λ v. (omega arith, (omega arith, λ v. (omega arith, (omega arith, λ v. (omega arith, (omega arith, tt)))))))
-posted Joined4 w code block = stored 8 block _ 7 (omega arith, λ v. (omega arith, (omega arith, tt)))
-posted Separate4 w code block = stored 8 block _ 7 (omega arith, λ v. (omega arith, (omega arith, tt)))
-posted Reduced5 w code block = stored 8 block _ 7 (omega arith, λ v. (omega arith, (omega arith, λ v. (omega arith, (omega arith, tt)))))
+posted : (s : Style) (w : Wiring) (code : ℕ) (block old : List ℕ) → Within (length block + 7) (posting (post_steps s) w code block old)
+posted Headed w code block old = stored 8 block old _ 7 (omega arith, (omega arith, λ v. (omega arith, (omega arith, tt))))
+posted Joined3 w code block old = stored 8 block old _ 7 (omega arith, λ v. (omega arith, (omega arith, λ v. (omega arith, (omega arith, tt)))))
+posted Separate3 w code block old = stored 8 block old _ 7 (omega arith, λ v. (omega arith, (omega arith, λ v. (omega arith, (omega arith, λ v. (omega arith, (omega arith, tt)))))))
+posted Joined4 w code block old = stored 8 block old _ 7 (omega arith, λ v. (omega arith, (omega arith, tt)))
+posted Separate4 w code block old = stored 8 block old _ 7 (omega arith, λ v. (omega arith, (omega arith, tt)))
+posted Reduced5 w code block old = stored 8 block old _ 7 (omega arith, λ v. (omega arith, (omega arith, λ v. (omega arith, (omega arith, tt)))))
 
 pub posts_within : PostsWithin
-posts_within w code block e = subst (λ (n : ℕ). Within (n + 7) (post_run w code block)) e (posted (style_of w) w code block)
+posts_within w code block old e = subst (λ (n : ℕ). Within (n + 7) (post_run w code block old)) e (posted (style_of w) w code block old)
 
 -- ---- looking
 
@@ -88,7 +90,7 @@ executed : (s : Style) (m : ℕ) (tells rings : Bool) (w : Wiring) (g : Got) →
     → Within (block_of w + m) (answering (executes_command ∷ replies_space ∷ replied s tells rings) w g)
 executed s m tells rings w g long h = λ bad reply e. let k : ℕ = heads_of (style_of w) in let a = length-bytes_of (drop k g.block) in let d = length-drop k g.block in let q = length-words_of reply in let f : length reply ≡ length (bytes_of (drop k g.block)) = e in
     let small : length (words_of reply) ≤ block_of w = omega (arith, a, d, q, f) in
-    more (length (words_of reply) + m) (block_of w + m) _ (omega arith) (stored (8 + k) (words_of reply) (answering (replied s tells rings) w (record g { bad = bad; reply = reply })) m (h (record g { bad = bad; reply = reply })))
+    more (length (words_of reply) + m) (block_of w + m) _ (omega arith) (stored (8 + k) (words_of reply) (drop k g.block) (answering (replied s tells rings) w (record g { bad = bad; reply = reply })) m (h (record g { bad = bad; reply = reply })))
 
 took_block : (s : Style) (m : ℕ) (tells rings : Bool) (w : Wiring) (g : Got) → ((g : Got) → Within m (answering (replied s tells rings) w g))
     → Within (block_of w + (block_of w + m)) (load_words 8 (block_of w) [] (λ b. answering (executes_command ∷ replies_space ∷ replied s tells rings) w (record g { block = b })))

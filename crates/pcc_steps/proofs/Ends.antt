@@ -1,6 +1,8 @@
 -- Where runs end, and how their steps are counted.
 use Rattle.std.specs.Prelude.{Option, None, cond, ltb}
 use Rattle.std.proofs.Common.{◌≡◌, ◌≢◌, ℕ, ◌+◌, ◌-◌, ◌^◌, ◌<◌, ◌≤◌, Bool, true, false, eqb, List, [], ◌∷◌, length, refl, ap, subst, arith}
+use Rattle.pcc_steps.specs.declared.wiring.Wiring.{Wiring}
+use Rattle.pcc_steps.specs.Changes.{next_changed}
 use borrow.Author.Tests.{ltb-true, ltb-false}
 use Rattle.pcc_steps.specs.declared.wiring.Style.{Style}
 use Rattle.pcc_steps.specs.declared.wiring.Style.TheVariants.{Headed, Joined3, Separate3, Joined4, Separate4, Reduced5}
@@ -12,7 +14,7 @@ use Rattle.pcc_steps.specs.declared.answer.AnswerStage.TheVariants.{AnswerRest, 
 use Rattle.pcc_steps.specs.Wires.{style_of, sees_done, tells_error, acknowledges, four_by}
 use Rattle.pcc_steps.specs.Runs.{Within}
 use Rattle.pcc_steps.specs.Walk.{ask_left, ask_after}
-use Rattle.pcc_steps.specs.Asking.{Ask, has_more, ask_fed_at, ask_told_at, ask_next, ask_fed, ask_told, rose, after_block, after_update, after_mark, after_bell, after_look, look_on, look_told, read_on, read_told, block_on, end_told, line_on, line_told, lowered_on, store_on}
+use Rattle.pcc_steps.specs.Asking.{Ask, has_more, ask_fed_at, ask_told_at, ask_next, ask_fed, ask_told, rose, after_block, after_update, after_mark, after_bell, after_look, look_on, look_told, read_on, read_told, block_on, end_told, line_on, line_told, lowered_on, post_on}
 use Rattle.pcc_steps.specs.Answering.{Answer, answer_fed_at, answer_told_at, answer_fed, take_on, take_told, load_on, reply_on, served_at, after_ack, after_take, after_error, after_reply, after_close, after_update as updated_stage, done_stage, asks_notify, ran_with}
 use Rattle.pcc_steps.specs.Laws.{AskTellsEnds, AnswerTellsEnds, AskStepsCount, AnswerStepsCount, CountRises, ask_ran, AskCountWithin, AskStepWithin, Event, finds, replies, answer_came, word_steps, AnswerCountWithin}
 use Rattle.pcc_steps.proofs.AskWalks.{asks_by_table}
@@ -45,9 +47,9 @@ look_runs : (b : Bool) → after_look b ≢ AskRest
 look_runs true e = cc
 look_runs false e = cc
 
-stored : (b : Bool) (j : ℕ) (a : Ask) → (store_on b j a).stage ≢ AskRest
-stored true j a e = cc
-stored false j a e = block_runs (style_of a.wiring) e
+stored : (b : Bool) (n : ℕ) (s : Style) → post_on b n s ≢ AskRest
+stored true n s e = cc
+stored false n s e = block_runs s e
 
 looked : (b : Bool) (v : ℕ) (a : Ask) → look_told b ≡ None → (look_on b v a).stage ≢ AskRest
 looked true v a n e = look_runs (tells_error a.wiring) e
@@ -71,7 +73,7 @@ lowered false e a n r = cc
 
 goes_on : (st : AskStage) (a : Ask) (v : ℕ) → st ≢ AskRest → ask_told_at st a v ≡ None → (ask_fed_at st a v).stage ≢ AskRest
 goes_on AskRest a v runs n = absurd (runs refl)
-goes_on (PostBlock j) a v runs n = stored (has_more j a.wiring) j a
+goes_on (PostBlock j) a v runs n = let m : ℕ = next_changed (j + 1) a.sent a.shown in stored (ltb m (length a.sent)) m (style_of a.wiring)
 goes_on PostHeader a v runs n = λ e. cc
 goes_on PostUpdateLoad a v runs n = λ e. cc
 goes_on PostUpdateStore a v runs n = update_runs (style_of a.wiring)
@@ -119,9 +121,9 @@ reply_runs : (b : Bool) (s : Style) → after_reply b s ≢ AnswerRest
 reply_runs true s e = cc
 reply_runs false s e = error_runs s e
 
-replied : (b : Bool) (j : ℕ) (a : Answer) → (reply_on b j a).stage ≢ AnswerRest
-replied true j a e = cc
-replied false j a e = reply_runs (tells_error a.wiring) (style_of a.wiring) e
+replied : (b : Bool) (n : ℕ) (w : Wiring) → reply_on b n w ≢ AnswerRest
+replied true n w e = cc
+replied false n w e = reply_runs (tells_error w) (style_of w) e
 
 served : (st : AnswerStage) → served_at st ≡ None → st ≢ AnswerRest
 served AnswerRest n e = cc
@@ -136,7 +138,7 @@ goes_on' TakeAckStore a v runs n = ack_runs (style_of a.wiring)
 goes_on' TakeHeader a v runs n = λ e. cc
 goes_on' (TakeBlock j) a v runs n = loaded (has_more j a.wiring) j v a
 goes_on' RunDevice a v runs n = absurd (runs.1 refl)
-goes_on' (ReplyBlock j) a v runs n = replied (has_more j a.wiring) j a
+goes_on' (ReplyBlock j) a v runs n = let m : ℕ = next_changed (j + 1) a.out a.loaded in replied (ltb m (length a.out)) m a.wiring
 goes_on' ReplyError a v runs n = error_runs (style_of a.wiring)
 goes_on' ReplyHeader a v runs n = served (done_stage a) n
 goes_on' ReplyUpdateLoad a v runs n = λ e. cc

@@ -1,4 +1,7 @@
 pub mod Lists
+pub mod Changes
+pub mod PostStages
+pub mod ReplyStages
 pub mod Bits
 pub mod Spaces
 pub mod Legality

@@ -1,5 +1,5 @@
 -- Facts on lists of words.
-use Rattle.std.proofs.Common.{◌≡◌, ℕ, zero, suc, ◌+◌, ◌<◌, List, [], ◌∷◌, ◌++◌, length, get_or, set, take, refl, sym, ap, ◌∙◌, subst, arith, add-one, length-append}
+use Rattle.std.proofs.Common.{◌≡◌, ℕ, zero, suc, ◌+◌, ◌<◌, ◌≤◌, List, [], ◌∷◌, ◌++◌, length, get_or, set, take, drop, refl, sym, ap, ◌∙◌, subst, arith, add-one, length-append}
 use Rattle.std.proofs.lemmas.List.{take_more_set}
 use Rattle.std.proofs.Math.Seq.{take-suc}
 use Rattle.pcc_steps.specs.Agree.{mix}
@@ -42,6 +42,34 @@ set_block c o j v = ap (λ (n : ℕ). set (listed c o) n v) (eight j)
 
 pub get_block : (c : Core) (o : Others) (j : ℕ) → get_or (listed c o) (8 + j) 0 ≡ get_or c.block j 0
 get_block c o j = ap (λ (n : ℕ). get_or (listed c o) n 0) (eight j)
+
+-- ---- fronts and rests
+
+pub dropped : (j : ℕ) (l : List ℕ) → j < length l → drop j l ≡ get_or l j 0 ∷ drop (j + 1) l
+dropped j [] h = absurd (omega arith)
+dropped zero (x ∷ xs) h = refl
+dropped (suc j) (x ∷ xs) h = dropped j xs (omega arith) ∙ ap (λ (n : ℕ). get_or xs j 0 ∷ drop n (x ∷ xs)) (let e : suc (j + 1) ≡ suc j + 1 = omega arith in e)
+
+pub none_left : (j : ℕ) (l : List ℕ) → length l ≤ j → drop j l ≡ []
+none_left zero [] h = refl
+none_left (suc j) [] h = refl
+none_left zero (x ∷ xs) h = absurd (omega arith)
+none_left (suc j) (x ∷ xs) h = none_left j xs (omega arith)
+
+pub all_taken : (n : ℕ) (l : List ℕ) → length l ≤ n → take n l ≡ l
+all_taken zero [] h = refl
+all_taken (suc n) [] h = refl
+all_taken zero (x ∷ xs) h = absurd (omega arith)
+all_taken (suc n) (x ∷ xs) h = ap (λ (l : List ℕ). x ∷ l) (all_taken n xs (omega arith))
+
+pub next_place : (j : ℕ) → 8 + (j + 1) ≡ 8 + j + 1
+next_place j = omega arith
+
+-- a word that stands there is found with any default
+pub get_there : (l : List ℕ) (j x y : ℕ) → j < length l → get_or l j x ≡ get_or l j y
+get_there [] j x y h = absurd (omega arith)
+get_there (w ∷ ws) zero x y h = refl
+get_there (w ∷ ws) (suc j) x y h = get_there ws j x y (omega arith)
 
 -- ---- lengths
 

@@ -2,22 +2,18 @@
 use Rattle.std.proofs.Common.{◌≡◌, ℕ, Bool, true, false, eqb, refl, ap}
 use Rattle.pcc_steps.specs.declared.wiring.Wiring.{Wiring}
 use Rattle.pcc_steps.specs.declared.ask.AskStage.{AskStage}
-use Rattle.pcc_steps.specs.declared.ask.AskStage.TheVariants.{PostBlock, LookWord, LookBlock, LookLine, LookLineStore}
+use Rattle.pcc_steps.specs.declared.ask.AskStage.TheVariants.{LookWord, LookBlock, LookLine, LookLineStore}
 use Rattle.pcc_steps.specs.declared.answer.AnswerStage.{AnswerStage}
-use Rattle.pcc_steps.specs.declared.answer.AnswerStage.TheVariants.{TakeLine, TakeBlock, ReplyBlock}
+use Rattle.pcc_steps.specs.declared.answer.AnswerStage.TheVariants.{TakeLine, TakeBlock}
 use Rattle.pcc_steps.specs.Wires.{sees_done, acknowledges}
-use Rattle.pcc_steps.specs.Asking.{Ask, has_more, ask_fed_at, store_on, look_on, block_on, read_on, line_on, lowered_on}
-use Rattle.pcc_steps.specs.Answering.{Answer, answer_fed_at, take_on, load_on, reply_on}
+use Rattle.pcc_steps.specs.Asking.{Ask, has_more, ask_fed_at, look_on, block_on, read_on, line_on, lowered_on}
+use Rattle.pcc_steps.specs.Answering.{Answer, answer_fed_at, take_on, load_on}
 
 -- ---- the asking machine
 
 -- what no step changes by itself
 abbrev pub fixed : Ask → Wiring × ℕ
 fixed a = (a.wiring, a.steps)
-
-stored : (b : Bool) (j : ℕ) (a : Ask) → fixed (store_on b j a) ≡ fixed a
-stored true j a = refl
-stored false j a = refl
 
 looked : (b : Bool) (v : ℕ) (a : Ask) → fixed (look_on b v a) ≡ fixed a
 looked true v a = refl
@@ -40,7 +36,6 @@ lowered true a = refl
 lowered false a = refl
 
 pub ask_fixed : (st : AskStage) (a : Ask) (v : ℕ) → fixed (ask_fed_at st a v) ≡ fixed a
-ask_fixed (PostBlock j) a v = stored (has_more j a.wiring) j a
 ask_fixed LookWord a v = looked (sees_done a.wiring v) v a
 ask_fixed (LookBlock j) a v = read (has_more j a.wiring) j v a
 ask_fixed LookLine a v = lined (eqb v 0) a
@@ -63,14 +58,9 @@ loaded : (b : Bool) (j v : ℕ) (a : Answer) → fixed' (load_on b j v a) ≡ fi
 loaded true j v a = refl
 loaded false j v a = refl
 
-replied : (b : Bool) (j : ℕ) (a : Answer) → fixed' (reply_on b j a) ≡ fixed' a
-replied true j a = refl
-replied false j a = refl
-
 pub answer_fixed : (st : AnswerStage) (a : Answer) (v : ℕ) → fixed' (answer_fed_at st a v) ≡ fixed' a
 answer_fixed TakeLine a v = took (eqb v 0) a
 answer_fixed (TakeBlock j) a v = loaded (has_more j a.wiring) j v a
-answer_fixed (ReplyBlock j) a v = replied (has_more j a.wiring) j a
 answer_fixed _ a v = refl
 
 pub answer_wired : (st : AnswerStage) (a : Answer) (v : ℕ) → (answer_fed_at st a v).wiring ≡ a.wiring

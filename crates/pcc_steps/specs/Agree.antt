@@ -294,6 +294,7 @@ Told _ w word e = Shows w word e
 pub record IsReplying (f : Flight) (y : Answerer) (c : Core) (j : ℕ) : Type 0 where
   pub row : Row f.wiring f.code y.done c closed 0 (mix j y.m.out f.sent) (f.done ++ answered f (both f.wiring.reports y.m.bad) y.m.space ∷ [])
   pub header : HasHeader (TakeBlock 0) (style_of f.wiring) f.wiring f.code y.m.header
+  pub loaded : y.m.loaded ≡ f.sent
   pub out : y.m.out ≡ reply_block f y.m.space
   pub bytes : IsBytes y.m.space
   pub told : Told y.m.stage f.wiring c.error (both f.wiring.reports y.m.bad)

@@ -1,5 +1,5 @@
 -- The answering machine as data, and what one word step makes of it.
-use Rattle.std.specs.Prelude.{◌≡◌, ◌≢◌, ℕ, ◌+◌, ◌^◌, ◌<◌, ◌≤◌, Bool, true, false, eqb, List, ◌++◌, length, get_or, set, take, drop, bit_or, Option, Some, None}
+use Rattle.std.specs.Prelude.{◌≡◌, ◌≢◌, ℕ, ◌+◌, ◌^◌, ◌<◌, ◌≤◌, Bool, true, false, eqb, ltb, List, ◌++◌, length, get_or, set, take, drop, bit_or, Option, Some, None}
 use Rattle.pcc_exec.specs.declared.executor.ExecStatus.{ExecStatus}
 use Rattle.pcc_steps.specs.declared.wiring.Wiring.{Wiring}
 use Rattle.pcc_steps.specs.declared.wiring.Style.{Style}
@@ -15,6 +15,7 @@ use Rattle.shmem_header.specs.HeaderBits.{with_status}
 use Rattle.shmem_header.specs.Spelling.{words_of, bytes_of}
 use Rattle.pcc_steps.specs.Wires.{style_of, heads_of, block_of, IsRight, status_of, tells_error, code_by, asks_by, four_by, masked_by, update_place}
 use Rattle.pcc_steps.specs.Runs.{error_word}
+use Rattle.pcc_steps.specs.Changes.{next_changed}
 use Rattle.pcc_steps.specs.Asking.{has_more, rose}
 
 pub record Answer : Type 0 where
@@ -90,6 +91,15 @@ abbrev pub after_reply : Bool → Style → AnswerStage
 after_reply true s = ReplyError
 after_reply false s = after_error s
 
+-- has a word of the space changed, at the place n?
+abbrev pub reply_on : Bool → ℕ → Wiring → AnswerStage
+reply_on true n w = ReplyBlock n
+reply_on false n w = after_reply (tells_error w) (style_of w)
+
+-- the next word of the block that is stored, from the place j on, is the first that differs from the one that was loaded
+abbrev pub reply_stage : ℕ → Wiring → List ℕ → List ℕ → AnswerStage
+reply_stage j w out loaded = let n : ℕ = next_changed j out loaded in reply_on (ltb n (length out)) n w
+
 -- was a notification asked for?
 abbrev pub after_close : Bool → AnswerStage
 after_close true = CloseLine
@@ -127,11 +137,6 @@ abbrev pub load_on : Bool → ℕ → ℕ → Answer → Answer
 load_on true j v a = record a { stage = TakeBlock (j + 1); loaded = set a.loaded j v }
 load_on false j v a = record a { stage = RunDevice; loaded = set a.loaded j v; space = bytes_of (drop (heads_of (style_of a.wiring)) (set a.loaded j v)) }
 
--- a word of the block was stored: are there more?
-abbrev pub reply_on : Bool → ℕ → Answer → Answer
-reply_on true j a = record a { stage = ReplyBlock (j + 1) }
-reply_on false j a = record a { stage = after_reply (tells_error a.wiring) (style_of a.wiring) }
-
 abbrev pub answer_fed_at : AnswerStage → Answer → ℕ → Answer
 answer_fed_at AnswerRest a v = a
 answer_fed_at TakeLine a v = take_on (eqb v 0) a
@@ -140,7 +145,7 @@ answer_fed_at TakeAckStore a v = record a { stage = after_ack (style_of a.wiring
 answer_fed_at TakeHeader a v = record a { stage = TakeBlock 0; header = v }
 answer_fed_at (TakeBlock j) a v = load_on (has_more j a.wiring) j v a
 answer_fed_at RunDevice a v = a
-answer_fed_at (ReplyBlock j) a v = reply_on (has_more j a.wiring) j a
+answer_fed_at (ReplyBlock j) a v = record a { stage = reply_stage (j + 1) a.wiring a.out a.loaded }
 answer_fed_at ReplyError a v = record a { stage = after_error (style_of a.wiring) }
 answer_fed_at ReplyHeader a v = record a { stage = done_stage a }
 answer_fed_at ReplyUpdateLoad a v = record a { stage = ReplyUpdateStore; kept = v }
@@ -187,11 +192,10 @@ answer_begun a = record a { stage = TakeLine; header = 0 }
 
 -- the device left its reply in the space
 abbrev pub ran_with : Answer → Bool → Answer
-ran_with a bad = record a {
-  stage = ReplyBlock (heads_of (style_of a.wiring));
+ran_with a bad = let heads : ℕ = heads_of (style_of a.wiring) in let out : List ℕ = take heads a.loaded ++ words_of a.space in record a {
+  stage = reply_stage heads a.wiring out a.loaded;
   bad = bad;
-  out = take (heads_of (style_of a.wiring)) a.loaded
-      ++ words_of a.space;
+  out = out;
 }
 
 abbrev pub answer_ran : Answer → ExecStatus → Answer

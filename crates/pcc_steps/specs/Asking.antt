@@ -11,6 +11,7 @@ use Rattle.pcc_steps.specs.declared.ask.AskStage.TheVariants.{AskRest, PostBlock
 use Rattle.pcc_steps.specs.declared.ask.AskOutcome.{AskOutcome}
 use Rattle.pcc_steps.specs.declared.ask.AskOutcome.TheVariants.{Posted, Clear, Drained}
 use Rattle.shmem_header.specs.Spelling.{words_of, bytes_of}
+use Rattle.pcc_steps.specs.Changes.{next_changed}
 use Rattle.pcc_steps.specs.Wires.{style_of, heads_of, block_of, IsRight, sent_header, block_header, opening_header, meets, sees_done, tells_error, header_error, acknowledges, masked_by, without, update_place}
 
 pub record Ask : Type 0 where
@@ -99,12 +100,16 @@ abbrev pub after_look : Bool → AskStage
 after_look true = LookError
 after_look false = LookBlock 0
 
--- ---- what a step leaves
+-- has a word of the block changed, at the place n?
+abbrev pub post_on : Bool → ℕ → Style → AskStage
+post_on true n s = PostBlock n
+post_on false n s = after_block s
 
--- a word of the block was stored: are there more?
-abbrev pub store_on : Bool → ℕ → Ask → Ask
-store_on true j a = record a { stage = PostBlock (j + 1) }
-store_on false j a = record a { stage = after_block (style_of a.wiring) }
+-- the next word of the block that is stored, from the place j on, is the first that differs from the old one
+abbrev pub block_stage : ℕ → Wiring → List ℕ → List ℕ → AskStage
+block_stage j w block old = let n : ℕ = next_changed j block old in post_on (ltb n (length block)) n (style_of w)
+
+-- ---- what a step leaves
 
 -- word 0 was loaded: does it say that the command is complete?
 abbrev pub look_on : Bool → ℕ → Ask → Ask
@@ -137,7 +142,7 @@ lowered_on false a = drained a
 
 abbrev pub ask_fed_at : AskStage → Ask → ℕ → Ask
 ask_fed_at AskRest a v = a
-ask_fed_at (PostBlock j) a v = store_on (has_more j a.wiring) j a
+ask_fed_at (PostBlock j) a v = record a { stage = block_stage (j + 1) a.wiring a.sent a.shown }
 ask_fed_at PostHeader a v = record a { stage = PostBellLoad }
 ask_fed_at PostUpdateLoad a v = record a { stage = PostUpdateStore; kept = v }
 ask_fed_at PostUpdateStore a v = record a { stage = after_update (style_of a.wiring) }
@@ -198,12 +203,11 @@ ask_told a v = ask_told_at a.stage a v
 
 -- the bytes are laid over the front of the space
 abbrev pub ask_begun : Ask → ℕ → List ℕ → Ask
-ask_begun a code bytes = record a {
-  stage = PostBlock 0;
+ask_begun a code bytes = let sent : List ℕ = block_header (style_of a.wiring) a.wiring code (length bytes) ++ words_of (over a.space bytes) in record a {
+  stage = block_stage 0 a.wiring sent a.shown;
   code = code;
   input = over a.space bytes;
-  sent = block_header
-      (style_of a.wiring) a.wiring code (length bytes) ++ words_of (over a.space bytes);
+  sent = sent;
 }
 
 abbrev pub ask_looking : Ask → Ask

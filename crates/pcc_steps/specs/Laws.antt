@@ -121,10 +121,11 @@ DeviceRests = (exec : Device) (y : Answerer) (v : ℕ) → (answer_fed y.m v).st
 
 -- ---- the machines and their tables
 
--- a run that posts begins as its table does, with the header words and the space with the bytes laid over its front
+-- a run that posts begins as its table does, with the header words and the space with the bytes laid over its front, and with the block as it was
+-- last loaded
 abbrev pub PostsByTable : Type 0
 PostsByTable = (a : Ask) (code : ℕ) (bytes : List ℕ) → ask_left (ask_begun a code bytes) ≡ post_run a.wiring code
-    (block_header (style_of a.wiring) a.wiring code (length bytes) ++ words_of (over a.space bytes))
+    (block_header (style_of a.wiring) a.wiring code (length bytes) ++ words_of (over a.space bytes)) a.shown
 
 -- a look begins as its table does
 abbrev pub LooksByTable : Type 0
@@ -171,7 +172,7 @@ abbrev pub CountRises : Type 0
 CountRises = (n : ℕ) → (n < 2 ^ 64 - 1 → rose n ≡ n + 1) × (2 ^ 64 - 1 ≤ n → rose n ≡ n)
 
 abbrev pub PostsWithin : Type 0
-PostsWithin = (w : Wiring) (code : ℕ) (block : List ℕ) → length block ≡ block_of w → Within (block_of w + 7) (post_run w code block)
+PostsWithin = (w : Wiring) (code : ℕ) (block old : List ℕ) → length block ≡ block_of w → Within (block_of w + 7) (post_run w code block old)
 
 abbrev pub LooksWithin : Type 0
 LooksWithin = (w : Wiring) → Within (block_of w + 6) (look_run w)

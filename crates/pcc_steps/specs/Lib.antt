@@ -1,4 +1,5 @@
 pub mod Kinds
+pub mod Changes
 pub mod Wires
 pub mod Runs
 pub mod Asking

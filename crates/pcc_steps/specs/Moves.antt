@@ -1,4 +1,4 @@
--- Word steps of a run, one after the other, and how many of them move words of the block before its last one.
+-- Word steps of a run, one after the other.
 use Rattle.std.specs.Prelude.{◌≡◌, ◌≢◌, ℕ, zero, suc, ◌+◌, ◌-◌, ◌^◌, ◌<◌, List, get_or, set, None}
 use Rattle.pcc_steps.specs.declared.wiring.Wiring.{Wiring}
 use Rattle.pcc_steps.specs.declared.ask.AskStage.{AskStage}
@@ -10,13 +10,15 @@ use Rattle.pcc_steps.specs.Asking.{Ask, AskOk, IsAskRunning, ask_next, ask_fed, 
 use Rattle.pcc_steps.specs.Answering.{Answer, AnswerOk, IsAnswerStepping, answer_next, answer_fed, answer_told}
 use Rattle.pcc_steps.specs.Agree.{act, found}
 
--- ---- single steps
-
 -- n word steps of the asking end on these words, none of which ends its run
 abbrev pub AskMoves : ℕ → List ℕ → Ask → List ℕ → Ask → Type 0
 AskMoves zero ws a ws' a' = (ws' ≡ ws) × (a' ≡ a)
 AskMoves (suc n) ws a ws' a' = let v = found (ask_next a) ws in AskOk a × IsAskRunning a × (v < 2 ^ 64) × (ask_told a v ≡ None)
     × AskMoves n (act (ask_next a) ws) (ask_fed a v) ws' a'
+
+-- some word steps of the asking end, none of which ends its run
+abbrev pub AskMoved : List ℕ → Ask → List ℕ → Ask → Type 0
+AskMoved ws a ws' a' = (n : ℕ) × AskMoves n ws a ws' a'
 
 -- n word steps of the answering end, none of which ends its run or loads the last word of a command
 abbrev pub AnswerMoves : ℕ → List ℕ → Answer → List ℕ → Answer → Type 0
@@ -24,30 +26,11 @@ AnswerMoves zero ws b ws' b' = (ws' ≡ ws) × (b' ≡ b)
 AnswerMoves (suc n) ws b ws' b' = let v = found (answer_next b) ws in AnswerOk b × IsAnswerStepping b × (v < 2 ^ 64) × (answer_told b v ≡ None)
     × AnswerOk (answer_fed b v) × ((answer_fed b v).stage ≢ RunDevice) × AnswerMoves n (act (answer_next b) ws) (answer_fed b v) ws' b'
 
--- ---- how many
-
--- the words from this one on, without the last one of the block
-abbrev pub before_last : ℕ → Wiring → ℕ
-before_last j w = block_of w - 1 - j
-
--- the words that the asking end stores or loads before the last one of the block
-abbrev pub ask_moves : AskStage → Wiring → ℕ
-ask_moves (PostBlock j) w = before_last j w
-ask_moves (LookBlock j) w = before_last j w
-ask_moves _ w = 0
-
--- the words that the answering end loads or stores before the last one of the block
-abbrev pub answer_moves : AnswerStage → Wiring → ℕ
-answer_moves (TakeBlock j) w = before_last j w
-answer_moves (ReplyBlock j) w = before_last j w
-answer_moves _ w = 0
+-- some word steps of the answering end, none of which ends its run or loads the last word of a command
+abbrev pub AnswerMoved : List ℕ → Answer → List ℕ → Answer → Type 0
+AnswerMoved ws b ws' b' = (n : ℕ) × AnswerMoves n ws b ws' b'
 
 -- ---- what they leave
-
--- the words after n words of the block were stored, from the word j on
-abbrev pub with_stored : ℕ → ℕ → List ℕ → List ℕ → List ℕ
-with_stored zero j block ws = ws
-with_stored (suc n) j block ws = with_stored n (j + 1) block (set ws (8 + j) (get_or block j 0))
 
 -- the block after n of its words were loaded, from the word j on
 abbrev pub with_loaded : ℕ → ℕ → List ℕ → List ℕ → List ℕ

@@ -20,10 +20,13 @@ pub data Run (E : Type 0) : Type 0 where
   -- the device gets a code and a space, and gives whether the command is bad, and a space
   executes : ℕ → List ℕ → (Bool → List ℕ → Run E) → Run E
 
--- the words from a place on are stored in rising order
-abbrev pub store_words : {E : Type 0} → ℕ → List ℕ → Run E → Run E
-store_words p [] k = k
-store_words p (w ∷ ws) k = stores p w (store_words (p + 1) ws k)
+-- the words from a place on that differ from the old ones are stored in rising order
+abbrev pub store_changed : {E : Type 0} → ℕ → List ℕ → List ℕ → Run E → Run E
+store_changed p [] old k = k
+store_changed p (w ∷ ws) [] k = stores p w (store_changed (p + 1) ws [] k)
+store_changed p (w ∷ ws) (o ∷ os) k =
+    if w == o then store_changed (p + 1) ws os k
+    else stores p w (store_changed (p + 1) ws os k)
 
 -- n words from a place on are loaded in rising order, after those that were found before
 abbrev pub load_words : {E : Type 0} → ℕ → ℕ → List ℕ → (List ℕ → Run E) → Run E
@@ -72,21 +75,22 @@ pub data AskEnd : Type 0 where
   -- the error and the words of the block
   drains : Bool → List ℕ → AskEnd
 
-abbrev pub post_step : PostStep → Wiring → ℕ → List ℕ → Run AskEnd → Run AskEnd
-post_step stores_block w code block k = store_words 8 block k
-post_step stores_header w code block k = stores 0 (sent_header w code 0) k
-post_step writes_update w code block k = masked_write (update_place (style_of w)) w.update k
-post_step clears_completion w code block k = loads 0 (λ v. stores 0 (without w.check_mask v) k)
-post_step writes_bell w code block k = masked_write 1 w.bell k
-post_step raises_bell w code block k = stores 2 1 k
+-- for a code, the words of the block, and the block as this side last stored or loaded it, at first the opening content
+abbrev pub post_step : PostStep → Wiring → ℕ → List ℕ → List ℕ → Run AskEnd → Run AskEnd
+post_step stores_block w code block old k = store_changed 8 block old k
+post_step stores_header w code block old k = stores 0 (sent_header w code 0) k
+post_step writes_update w code block old k = masked_write (update_place (style_of w)) w.update k
+post_step clears_completion w code block old k = loads 0 (λ v. stores 0 (without w.check_mask v) k)
+post_step writes_bell w code block old k = masked_write 1 w.bell k
+post_step raises_bell w code block old k = stores 2 1 k
 
-abbrev pub posting : List PostStep → Wiring → ℕ → List ℕ → Run AskEnd
-posting [] w code block = ends posts
-posting (s ∷ ss) w code block = post_step s w code block (posting ss w code block)
+abbrev pub posting : List PostStep → Wiring → ℕ → List ℕ → List ℕ → Run AskEnd
+posting [] w code block old = ends posts
+posting (s ∷ ss) w code block old = post_step s w code block old (posting ss w code block old)
 
--- the whole run, for a code and the words of the block
-abbrev pub post_run : Wiring → ℕ → List ℕ → Run AskEnd
-post_run w code block = posting (post_steps (style_of w)) w code block
+-- the whole run
+abbrev pub post_run : Wiring → ℕ → List ℕ → List ℕ → Run AskEnd
+post_run w code block old = posting (post_steps (style_of w)) w code block old
 
 -- ---- the run that looks for completion
 
@@ -182,7 +186,8 @@ answer_step takes_header w g k = loads 0 (λ v. k (record g { header = v }))
 answer_step takes_block w g k = load_words 8 (block_of w) [] (λ b. k (record g { block = b }))
 answer_step executes_command w g k = executes (code_by (style_of w) g.header g.block) (bytes_of (drop (heads_of (style_of w)) g.block))
     (λ bad reply. k (record g { bad = bad; reply = reply }))
-answer_step replies_space w g k = store_words (8 + heads_of (style_of w)) (words_of g.reply) (k g)
+-- the reply is compared with what this run loaded; the header words stay
+answer_step replies_space w g k = store_changed (8 + heads_of (style_of w)) (words_of g.reply) (drop (heads_of (style_of w)) g.block) (k g)
 answer_step replies_error w g k = stores 3 (error_word w g.bad) (k g)
 answer_step replies_status w g k = stores 0 (with_status g.header (status_of g.bad)) (k g)
 answer_step replies_update w g k = masked_write (update_place (style_of w)) w.update (k g)

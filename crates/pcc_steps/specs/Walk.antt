@@ -1,5 +1,5 @@
 -- The machines as cursors over their runs: what is left of the run at each stage.
-use Rattle.std.specs.Prelude.{◌≡◌, ℕ, bit_or, ◌+◌, ◌-◌, ◌==◌, Bool, false, if◌then◌else◌, List, [], ◌∷◌, take, drop, Option, Some, None}
+use Rattle.std.specs.Prelude.{◌≡◌, ℕ, bit_or, ◌+◌, ◌-◌, ◌==◌, Bool, false, if◌then◌else◌, List, [], ◌∷◌, get_or, take, drop, Option, Some, None}
 use Rattle.pcc_steps.specs.declared.wiring.Action.{Action}
 use Rattle.pcc_steps.specs.declared.wiring.Action.TheVariants.{Load, Store, Swap, Execute}
 use Rattle.pcc_steps.specs.declared.ask.AskStage.{AskStage}
@@ -11,7 +11,7 @@ use Rattle.pcc_steps.specs.declared.answer.AnswerStage.TheVariants.{AnswerRest, 
 use Rattle.pcc_steps.specs.declared.answer.AnswerOutcome.{AnswerOutcome}
 use Rattle.pcc_steps.specs.declared.answer.AnswerOutcome.TheVariants.{Idle, Served}
 use Rattle.pcc_steps.specs.Wires.{style_of, block_of, masked_by, without, update_place}
-use Rattle.pcc_steps.specs.Runs.{Run, ends, loads, stores, swaps, executes, store_words, load_words, masked_write, PostStep, stores_block, stores_header, writes_update, clears_completion, writes_bell, raises_bell, post_steps, posting, AskEnd, posts, sees_clear, drains, LookStep, looks_at_completion, looks_at_error, looks_at_block, lowers_interrupt, look_steps, looking, acknowledging, AnswerStep, takes_bell, acknowledges_bell, takes_header, takes_block, executes_command, replies_space, replies_error, replies_status, replies_update, replies_completion, rings_bell, raises_interrupt, answer_steps, answering, AnswerEnd, finds_none, serves, Got}
+use Rattle.pcc_steps.specs.Runs.{Run, ends, loads, stores, swaps, executes, store_changed, load_words, masked_write, PostStep, stores_block, stores_header, writes_update, clears_completion, writes_bell, raises_bell, post_steps, posting, AskEnd, posts, sees_clear, drains, LookStep, looks_at_completion, looks_at_error, looks_at_block, lowers_interrupt, look_steps, looking, acknowledging, AnswerStep, takes_bell, acknowledges_bell, takes_header, takes_block, executes_command, replies_space, replies_error, replies_status, replies_update, replies_completion, rings_bell, raises_interrupt, answer_steps, answering, AnswerEnd, finds_none, serves, Got}
 use Rattle.pcc_steps.specs.Asking.{Ask}
 use Rattle.pcc_steps.specs.Answering.{Answer}
 
@@ -58,16 +58,17 @@ behind number n ss = drop 1 (from number n ss)
 module _ (post : List PostStep) (look : List LookStep) where
   abbrev pub ask_left_by : AskStage → Ask → Run AskEnd
   ask_left_by AskRest a = ends posts
-  ask_left_by (PostBlock j) a = store_words (8 + j) (drop j a.sent) (posting (behind post_number 0 post) a.wiring a.code a.sent)
-  ask_left_by PostHeader a = posting (from post_number 1 post) a.wiring a.code a.sent
-  ask_left_by PostUpdateLoad a = posting (from post_number 2 post) a.wiring a.code a.sent
+  ask_left_by (PostBlock j) a = stores (8 + j) (get_or a.sent j 0) (store_changed (8 + j + 1) (drop (j + 1) a.sent) (drop (j + 1) a.shown)
+      (posting (behind post_number 0 post) a.wiring a.code a.sent a.shown))
+  ask_left_by PostHeader a = posting (from post_number 1 post) a.wiring a.code a.sent a.shown
+  ask_left_by PostUpdateLoad a = posting (from post_number 2 post) a.wiring a.code a.sent a.shown
   ask_left_by PostUpdateStore a = stores (update_place (style_of a.wiring)) (masked_by a.wiring.update a.kept)
-      (posting (behind post_number 2 post) a.wiring a.code a.sent)
-  ask_left_by PostMarkLoad a = posting (from post_number 3 post) a.wiring a.code a.sent
-  ask_left_by PostMarkStore a = stores 0 (without a.wiring.check_mask a.kept) (posting (behind post_number 3 post) a.wiring a.code a.sent)
-  ask_left_by PostBellLoad a = posting (from post_number 4 post) a.wiring a.code a.sent
-  ask_left_by PostBellStore a = stores 1 (masked_by a.wiring.bell a.kept) (posting (behind post_number 4 post) a.wiring a.code a.sent)
-  ask_left_by PostLine a = posting (from post_number 5 post) a.wiring a.code a.sent
+      (posting (behind post_number 2 post) a.wiring a.code a.sent a.shown)
+  ask_left_by PostMarkLoad a = posting (from post_number 3 post) a.wiring a.code a.sent a.shown
+  ask_left_by PostMarkStore a = stores 0 (without a.wiring.check_mask a.kept) (posting (behind post_number 3 post) a.wiring a.code a.sent a.shown)
+  ask_left_by PostBellLoad a = posting (from post_number 4 post) a.wiring a.code a.sent a.shown
+  ask_left_by PostBellStore a = stores 1 (masked_by a.wiring.bell a.kept) (posting (behind post_number 4 post) a.wiring a.code a.sent a.shown)
+  ask_left_by PostLine a = posting (from post_number 5 post) a.wiring a.code a.sent a.shown
   ask_left_by LookWord a = looking (from look_number 0 look) a.wiring (record { error = false; block = [] })
   ask_left_by LookError a = looking (from look_number 1 look) a.wiring (record { error = a.error; block = [] })
   ask_left_by (LookBlock j) a = load_words (8 + j) (block_of a.wiring - j) (take j a.loaded)
@@ -114,7 +115,8 @@ module _ (steps : List AnswerStep) where
   answer_left_by (TakeBlock j) a = load_words (8 + j) (block_of a.wiring - j) (take j a.loaded)
       (λ b. answering (behind answer_number 3 steps) a.wiring (record (got a) { block = b }))
   answer_left_by RunDevice a = answering (from answer_number 4 steps) a.wiring (got a)
-  answer_left_by (ReplyBlock j) a = store_words (8 + j) (drop j a.out) (answering (behind answer_number 5 steps) a.wiring (got a))
+  answer_left_by (ReplyBlock j) a = stores (8 + j) (get_or a.out j 0) (store_changed (8 + j + 1) (drop (j + 1) a.out) (drop (j + 1) a.loaded)
+      (answering (behind answer_number 5 steps) a.wiring (got a)))
   answer_left_by ReplyError a = answering (from answer_number 6 steps) a.wiring (got a)
   answer_left_by ReplyHeader a = answering (from answer_number 7 steps) a.wiring (got a)
   answer_left_by ReplyUpdateLoad a = answering (from answer_number 8 steps) a.wiring (got a)

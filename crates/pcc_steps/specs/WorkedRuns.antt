@@ -55,8 +55,9 @@ setting = record { preserve = 254; set = 1 }
 abbrev pub separate : Masks
 separate = record { preserve = 240; set = 2 }
 
-abbrev pub posting : Wiring → List ℕ → List ℕ → Played AskEnd
-posting w block found = played false [] (post_run w 65 block) found
+-- the words of the block, and those that were last stored or loaded
+abbrev pub posting : Wiring → List ℕ → List ℕ → List ℕ → Played AskEnd
+posting w block old found = played false [] (post_run w 65 block old) found
 
 abbrev pub looking : Wiring → List ℕ → Played AskEnd
 looking w found = played false [] (look_run w) found
@@ -65,48 +66,56 @@ looking w found = played false [] (look_run w) found
 abbrev pub answering : Bool → Wiring → List ℕ → Played AnswerEnd
 answering bad w found = played bad (9 ∷ 0 ∷ 0 ∷ 0 ∷ 0 ∷ 0 ∷ 0 ∷ 0 ∷ []) (answer_run w) found
 
--- ---- the block, then what clears completion and rings the doorbell, by type
+-- ---- the words of the block that changed, then what clears completion and rings the doorbell, by type
 
 abbrev pub post_headed : Type 0
-post_headed = posting (wired 2 false true true no_update) (7 ∷ []) (84 ∷ [])
+post_headed = posting (wired 2 false true true no_update) (7 ∷ []) (0 ∷ []) (84 ∷ [])
     ≡ record {
       actions = Store 8 7 ∷ Store 0 0x804150434301 ∷ Load 1 ∷ Store 1 85 ∷ Store 2 1 ∷ [];
       end = Some posts;
     }
 
-abbrev pub post_joined3 : Type 0
-post_joined3 = posting (wired 3 true true true clearing) (5 ∷ 6 ∷ 7 ∷ []) (255 ∷ 84 ∷ [])
+-- no word of the block changed
+abbrev pub post_headed_again : Type 0
+post_headed_again = posting (wired 2 false true true no_update) (7 ∷ []) (7 ∷ []) (84 ∷ [])
     ≡ record {
-      actions = Store 8 5 ∷ Store 9 6 ∷ Store 10 7 ∷ Load 0 ∷ Store 0 254 ∷ Load 1 ∷ Store 1 85 ∷ Store 2 1 ∷ [];
+      actions = Store 0 0x804150434301 ∷ Load 1 ∷ Store 1 85 ∷ Store 2 1 ∷ [];
+      end = Some posts;
+    }
+
+abbrev pub post_joined3 : Type 0
+post_joined3 = posting (wired 3 true true true clearing) (5 ∷ 6 ∷ 7 ∷ []) (5 ∷ 0 ∷ 8 ∷ []) (255 ∷ 84 ∷ [])
+    ≡ record {
+      actions = Store 9 6 ∷ Store 10 7 ∷ Load 0 ∷ Store 0 254 ∷ Load 1 ∷ Store 1 85 ∷ Store 2 1 ∷ [];
       end = Some posts;
     }
 
 abbrev pub post_separate3 : Type 0
-post_separate3 = posting (wired 3 false false false separate) (5 ∷ 6 ∷ 7 ∷ []) (255 ∷ 9 ∷ 84 ∷ [])
+post_separate3 = posting (wired 3 false false false separate) (5 ∷ 6 ∷ 7 ∷ []) (4 ∷ 6 ∷ 8 ∷ []) (255 ∷ 9 ∷ 84 ∷ [])
     ≡ record {
       actions =
-          Store 8 5 ∷ Store 9 6 ∷ Store 10 7 ∷ Load 6 ∷ Store 6 242 ∷ Load 0 ∷ Store 0 8 ∷ Load 1 ∷ Store 1 85 ∷ Store 2 1 ∷ [];
+          Store 8 5 ∷ Store 10 7 ∷ Load 6 ∷ Store 6 242 ∷ Load 0 ∷ Store 0 8 ∷ Load 1 ∷ Store 1 85 ∷ Store 2 1 ∷ [];
       end = Some posts;
     }
 
 abbrev pub post_joined4 : Type 0
-post_joined4 = posting (wired 4 true true true setting) (5 ∷ 6 ∷ 7 ∷ []) (9 ∷ [])
+post_joined4 = posting (wired 4 true true true setting) (5 ∷ 6 ∷ 7 ∷ []) (5 ∷ 6 ∷ 8 ∷ []) (9 ∷ [])
     ≡ record {
-      actions = Store 8 5 ∷ Store 9 6 ∷ Store 10 7 ∷ Load 0 ∷ Store 0 8 ∷ Store 2 1 ∷ [];
+      actions = Store 10 7 ∷ Load 0 ∷ Store 0 8 ∷ Store 2 1 ∷ [];
       end = Some posts;
     }
 
 abbrev pub post_separate4 : Type 0
-post_separate4 = posting (wired 4 false true false separate) (5 ∷ 6 ∷ 7 ∷ []) (9 ∷ [])
+post_separate4 = posting (wired 4 false true false separate) (5 ∷ 6 ∷ 7 ∷ []) (5 ∷ 6 ∷ 7 ∷ []) (9 ∷ [])
     ≡ record {
-      actions = Store 8 5 ∷ Store 9 6 ∷ Store 10 7 ∷ Load 0 ∷ Store 0 8 ∷ Store 2 1 ∷ [];
+      actions = Load 0 ∷ Store 0 8 ∷ Store 2 1 ∷ [];
       end = Some posts;
     }
 
 abbrev pub post_reduced5 : Type 0
-post_reduced5 = posting (wired 5 false true false no_update) (5 ∷ 7 ∷ []) (84 ∷ 9 ∷ [])
+post_reduced5 = posting (wired 5 false true false no_update) (5 ∷ 7 ∷ []) (5 ∷ 8 ∷ []) (84 ∷ 9 ∷ [])
     ≡ record {
-      actions = Store 8 5 ∷ Store 9 7 ∷ Load 1 ∷ Store 1 85 ∷ Load 0 ∷ Store 0 8 ∷ Store 2 1 ∷ [];
+      actions = Store 9 7 ∷ Load 1 ∷ Store 1 85 ∷ Load 0 ∷ Store 0 8 ∷ Store 2 1 ∷ [];
       end = Some posts;
     }
 
@@ -168,7 +177,7 @@ look_reduced5 = looking (wired 5 false true false no_update) (1 ∷ 4 ∷ 5 ∷ 
       end = Some (drains true (5 ∷ 7 ∷ []));
     }
 
--- ---- the doorbell line, what acknowledges it, the block, the reply, the error register, completion, the doorbell and the interrupt line
+-- ---- the doorbell line, what acknowledges it, the block, the words of the reply that differ from it, the error register, completion, the doorbell and the interrupt line
 
 abbrev pub answer_none : Type 0
 answer_none = answering false (wired 3 true true true clearing) (0 ∷ [])
@@ -193,9 +202,10 @@ answer_joined3 = answering true (wired 3 true true true clearing) (1 ∷ 0x10000
     }
 
 abbrev pub answer_separate3 : Type 0
-answer_separate3 = answering false (wired 3 false false false separate) (1 ∷ 0 ∷ 0x4100000000 ∷ 7 ∷ 8 ∷ [])
+-- the reply is what was loaded
+answer_separate3 = answering false (wired 3 false false false separate) (1 ∷ 0 ∷ 0x4100000000 ∷ 9 ∷ 8 ∷ [])
     ≡ record {
-      actions = Swap 2 0 ∷ Load 8 ∷ Load 9 ∷ Load 10 ∷ Execute 65 ∷ Store 10 9 ∷ Load 0 ∷ Store 0 9 ∷ [];
+      actions = Swap 2 0 ∷ Load 8 ∷ Load 9 ∷ Load 10 ∷ Execute 65 ∷ Load 0 ∷ Store 0 9 ∷ [];
       end = Some serves;
     }
 

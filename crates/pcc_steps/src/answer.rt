@@ -1,20 +1,20 @@
 //! The answering machine: it takes commands and answers them, one word step at a time (ACPI 6.5, 14.5).
 
-ghost use Rattle.std.specs.Prelude.{ℕ, ◌≡◌, ◌↔◌, ◌<◌, ◌+◌, ◌/◌, ◌%◌, ◌^◌, ◌++◌, length, take, IfOk, Some};
+ghost use Rattle.std.specs.Prelude.{ℕ, ◌≡◌, ◌↔◌, ◌<◌, ◌≤◌, ◌+◌, ◌/◌, ◌%◌, ◌^◌, ◌++◌, length, take, IfOk, Some};
 ghost use Rattle.std.specs.Borrow.{sem};
 ghost use Rattle.shmem_header.specs.Spelling.{words_of};
 ghost use Rattle.pcc_steps.specs.declared.answer.AnswerStage.TheVariants.{AnswerRest, TakeLine, TakeBlock, RunDevice, ReplyBlock};
 ghost use Rattle.pcc_steps.specs.declared.answer.AnswerOutcome.TheVariants.{Idle};
 ghost use Rattle.pcc_steps.specs.declared.wiring.Action.TheVariants.{Rest};
 ghost use Rattle.pcc_steps.specs.Asking.{IsWithin};
-ghost use Rattle.pcc_steps.specs.Wires.{IsRight, style_of, block_of, status_of, code_by, asks_by, four_by};
-ghost use Rattle.pcc_steps.specs.Moves.{AnswerMoves, answer_moves, before_last};
+ghost use Rattle.pcc_steps.specs.Wires.{IsRight, style_of, heads_of, block_of, status_of, code_by, asks_by, four_by};
+ghost use Rattle.pcc_steps.specs.Moves.{AnswerMoved};
 ghost use Rattle.pcc_steps.specs.Runs.{error_word};
-ghost use Rattle.pcc_steps.specs.Answering.{Answer, AnswerOk, IsNewAnswer, IsAnswerStepping, IsTaking, IsReplying, IsCompleting, answer_fed_at, answer_told_at, IsExecute, answer_next, answer_fed, answer_told, answer_begun, answer_ran, ran_with, answer_code, served_at, after_ack, after_take, after_error, after_reply, after_close, after_done, done_stage, asks_notify, update_stage, AnswerPlace};
+ghost use Rattle.pcc_steps.specs.Answering.{Answer, AnswerOk, IsNewAnswer, IsAnswerStepping, IsTaking, IsReplying, IsCompleting, answer_fed_at, answer_told_at, IsExecute, answer_next, answer_fed, answer_told, answer_begun, answer_ran, ran_with, answer_code, served_at, after_ack, after_take, after_error, after_reply, reply_stage, after_close, after_done, done_stage, asks_notify, update_stage, AnswerPlace};
 ghost use Rattle.pcc_exec.specs.Execution.{is_bad};
 ghost use Rattle.pcc_steps.specs.Lending.{LendsSpace};
 
-use crate::block::{fill, load_words, store_words};
+use crate::block::{FIRST, fill, load_words, next_changed};
 use crate::counts::{rose, rose_by};
 use crate::registers::{tells_error, update_place};
 use crate::wiring::{Action, Style, Wiring, place};
@@ -224,12 +224,12 @@ pub fn answer_feed(answer: &mut AnswerState, value: u64) -> Option<AnswerOutcome
     told
 }
 
-/// Moves the words of the block before its last one at once, where the run loads a command or stores its reply: as many word
-/// steps, of which none ends the run or calls for the device. At another stage it does nothing.
+/// Moves the words of the block but the last one at once, where the run loads a command or stores what changed in its reply: so
+/// many word steps, of which none ends the run or calls for the device. At another stage it does nothing.
 #[inline(always)]
 pub fn answer_block(words: &mut [u64], answer: &mut AnswerState)
     requires { length words.old ≡ 8 + block_of answer.old.wiring }
-    ensures { AnswerMoves (answer_moves answer.old.stage answer.old.wiring) words.old answer.old words.new answer.new }
+    ensures { AnswerMoved words.old answer.old words.new answer.new }
 {
     match answer.stage {
         AnswerStage::TakeBlock(from) => take_block(words, answer, from),
@@ -242,7 +242,7 @@ pub fn answer_block(words: &mut [u64], answer: &mut AnswerState)
 fn take_block(words: &[u64], answer: &mut AnswerState, from: u32)
     requires stage { answer.old.stage ≡ TakeBlock from }
     requires long { length words.now ≡ 8 + block_of answer.old.wiring }
-    ensures { AnswerMoves (before_last from answer.old.wiring) words.now answer.old words.now answer.new }
+    ensures { AnswerMoved words.now answer.old words.now answer.new }
 {
     let last = answer.wiring.block() - 1;
     load_words(words, from as usize, last as usize, &mut answer.loaded);
@@ -250,16 +250,23 @@ fn take_block(words: &[u64], answer: &mut AnswerState, from: u32)
     answer.steps = rose_by(answer.steps, last - from);
 }
 
-// Stores the words of the block before its last one.
+// Stores the words that changed, but the last of them.
 fn reply_block(words: &mut [u64], answer: &mut AnswerState, from: u32)
     requires stage { answer.old.stage ≡ ReplyBlock from }
     requires long { length words.old ≡ 8 + block_of answer.old.wiring }
-    ensures { AnswerMoves (before_last from answer.old.wiring) words.old answer.old words.new answer.new }
+    ensures { AnswerMoved words.old answer.old words.new answer.new }
 {
-    let last = answer.wiring.block() - 1;
-    store_words(&answer.out, from as usize, last as usize, words);
-    answer.stage = AnswerStage::ReplyBlock(last);
-    answer.steps = rose_by(answer.steps, last - from);
+    let mut at = from as usize;
+    let mut steps = answer.steps;
+    for next in at + 1..answer.out.len() {
+        if answer.out[next] != answer.loaded[next] {
+            words[FIRST + at] = answer.out[at];
+            steps = rose(steps);
+            at = next;
+        }
+    }
+    answer.stage = AnswerStage::ReplyBlock(at as u32);
+    answer.steps = steps;
 }
 
 #[inline(always)]
@@ -329,11 +336,12 @@ fn feed_reply(answer: &mut AnswerState) -> Option<AnswerOutcome>
     let style = answer.wiring.style();
     match answer.stage {
         AnswerStage::ReplyBlock(at) => {
-            answer.stage = if at + 1 < answer.wiring.block() {
-                AnswerStage::ReplyBlock(at + 1)
-            } else {
-                after_reply(tells_error(&answer.wiring), style)
-            };
+            answer.stage = reply_stage(
+                at as usize + 1,
+                &answer.wiring,
+                &answer.out,
+                &answer.loaded,
+            );
         }
         AnswerStage::ReplyError => answer.stage = after_error(style),
         _ => unreachable!(),
@@ -398,7 +406,7 @@ pub fn answer_ran(answer: &mut AnswerState, status: ExecStatus)
     let heads = answer.wiring.style().heads() as usize;
     reply_words(&answer.loaded, heads, &answer.space, &mut answer.out);
     answer.bad = is_bad(status);
-    answer.stage = AnswerStage::ReplyBlock(heads as u32);
+    answer.stage = reply_stage(heads, &answer.wiring, &answer.out, &answer.loaded);
 }
 
 /// Runs the device on the space, and takes its status.
@@ -538,6 +546,24 @@ fn after_reply(tells: bool, style: Style) -> AnswerStage
         AnswerStage::ReplyError
     } else {
         after_error(style)
+    }
+}
+
+// The stage that stores the next word that changed, or the one after the block.
+fn reply_stage(from: usize, wiring: &Wiring, out: &[u64], loaded: &[u64]) -> AnswerStage
+    requires order { from ≤ length out.now }
+    requires same { length out.now ≡ length loaded.now }
+    requires most { length out.now < 2 ^ 32 }
+    requires block { length out.now ≡ block_of wiring.now }
+    requires heads { heads_of (style_of wiring.now) ≤ from }
+    ensures place { AnswerPlace result wiring.now }
+    ensures stage { result ≡ reply_stage from wiring.now out.now loaded.now }
+{
+    let next = next_changed(from, out, loaded);
+    if next < out.len() {
+        AnswerStage::ReplyBlock(next as u32)
+    } else {
+        after_reply(tells_error(wiring), wiring.style())
     }
 }
 

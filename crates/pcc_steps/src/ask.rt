@@ -7,10 +7,10 @@ ghost use Rattle.pcc_steps.specs.declared.wiring.Action.TheVariants.{Rest};
 ghost use Rattle.pcc_steps.specs.declared.ask.AskOutcome.TheVariants.{Clear, Drained};
 ghost use Rattle.pcc_steps.specs.Kinds.{IsHeaded};
 ghost use Rattle.pcc_steps.specs.Wires.{IsRight, block_of, sees_done, sent_header};
-ghost use Rattle.pcc_steps.specs.Moves.{AskMoves, ask_moves, before_last};
-ghost use Rattle.pcc_steps.specs.Asking.{Ask, AskOk, IsNewAsk, IsAskRunning, IsPosting, IsReading, IsWithin, ask_fed_at, ask_told_at, ask_next, ask_fed, ask_told, ask_begun, ask_looking, ask_budgeted, drained, after_block, after_update, after_mark, after_bell, after_look};
+ghost use Rattle.pcc_steps.specs.Moves.{AskMoved};
+ghost use Rattle.pcc_steps.specs.Asking.{Ask, AskOk, IsNewAsk, IsAskRunning, IsPosting, IsReading, IsWithin, ask_fed_at, ask_told_at, ask_next, ask_fed, ask_told, ask_begun, ask_looking, ask_budgeted, drained, after_block, block_stage, after_update, after_mark, after_bell, after_look};
 
-use crate::block::{fill_block, fill_opening, lay, load_words, store_words};
+use crate::block::{FIRST, fill_block, fill_opening, lay, load_words, next_changed};
 use crate::counts::{rose, rose_by};
 use crate::registers::{acknowledges, header_error, meets, sees_done, tells_error, update_place};
 use crate::wiring::{Action, Style, Wiring, place};
@@ -271,7 +271,7 @@ pub fn ask_budget(ask: &mut AskState, polls: u32)
 
 /// Begins a run that posts a command: its code, and the bytes that are laid over the front of the space. The code is
 /// at most 255 for types 0 to 2.
-#[tactic(auto, using(crate::proofs::AskBegins::begun_ok, crate::proofs::Bits::code_fits, crate::proofs::Headers::over_long, crate::proofs::AskBegins::looks_rest))]
+#[tactic(auto, using(crate::proofs::Bits::code_fits, crate::proofs::Headers::over_long, crate::proofs::AskBegins::looks_rest))]
 pub fn ask_begin(ask: &mut AskState, code: u32, bytes: &[u8])
     requires rests { ask.old.stage ≡ AskRest }
     requires free { ask.old.in_flight ≡ false }
@@ -289,7 +289,7 @@ pub fn ask_begin(ask: &mut AskState, code: u32, bytes: &[u8])
         &mut ask.sent,
     );
     ask.code = code;
-    ask.stage = AskStage::PostBlock(0);
+    ask.stage = block_stage(0, &ask.wiring, &ask.sent, &ask.shown);
 }
 
 /// Begins a run that looks for completion.
@@ -317,12 +317,12 @@ pub fn ask_feed(ask: &mut AskState, value: u64) -> Option<AskOutcome>
     told
 }
 
-/// Moves the words of the block before its last one at once, where the run stores or loads the block: as many word steps, of
-/// which none ends the run. At another stage it does nothing.
+/// Moves the words of the block but the last one at once, where the run stores what changed or loads the block: so many word
+/// steps, of which none ends the run. At another stage it does nothing.
 #[inline(always)]
 pub fn ask_block(words: &mut [u64], ask: &mut AskState)
     requires { length words.old ≡ 8 + block_of ask.old.wiring }
-    ensures { AskMoves (ask_moves ask.old.stage ask.old.wiring) words.old ask.old words.new ask.new }
+    ensures { AskMoved words.old ask.old words.new ask.new }
 {
     match ask.stage {
         AskStage::PostBlock(from) => post_block(words, ask, from),
@@ -331,23 +331,30 @@ pub fn ask_block(words: &mut [u64], ask: &mut AskState)
     }
 }
 
-// Stores the words of the block before its last one.
+// Stores the words that changed, but the last of them.
 fn post_block(words: &mut [u64], ask: &mut AskState, from: u32)
     requires stage { ask.old.stage ≡ PostBlock from }
     requires long { length words.old ≡ 8 + block_of ask.old.wiring }
-    ensures { AskMoves (before_last from ask.old.wiring) words.old ask.old words.new ask.new }
+    ensures { AskMoved words.old ask.old words.new ask.new }
 {
-    let last = ask.wiring.block() - 1;
-    store_words(&ask.sent, from as usize, last as usize, words);
-    ask.stage = AskStage::PostBlock(last);
-    ask.steps = rose_by(ask.steps, last - from);
+    let mut at = from as usize;
+    let mut steps = ask.steps;
+    for next in at + 1..ask.sent.len() {
+        if ask.sent[next] != ask.shown[next] {
+            words[FIRST + at] = ask.sent[at];
+            steps = rose(steps);
+            at = next;
+        }
+    }
+    ask.stage = AskStage::PostBlock(at as u32);
+    ask.steps = steps;
 }
 
 // Loads the words of the block before its last one.
 fn look_block(words: &[u64], ask: &mut AskState, from: u32)
     requires stage { ask.old.stage ≡ LookBlock from }
     requires long { length words.now ≡ 8 + block_of ask.old.wiring }
-    ensures { AskMoves (before_last from ask.old.wiring) words.now ask.old words.now ask.new }
+    ensures { AskMoved words.now ask.old words.now ask.new }
 {
     let last = ask.wiring.block() - 1;
     load_words(words, from as usize, last as usize, &mut ask.loaded);
@@ -383,11 +390,7 @@ fn feed_post(ask: &mut AskState, value: u64) -> Option<AskOutcome>
     let style = ask.wiring.style();
     match ask.stage {
         AskStage::PostBlock(at) => {
-            ask.stage = if at + 1 < ask.wiring.block() {
-                AskStage::PostBlock(at + 1)
-            } else {
-                after_block(style)
-            };
+            ask.stage = block_stage(at as usize + 1, &ask.wiring, &ask.sent, &ask.shown);
         }
         AskStage::PostHeader => ask.stage = AskStage::PostBellLoad,
         AskStage::PostUpdateLoad => {
@@ -497,6 +500,21 @@ fn header_of(wiring: &Wiring, code: u32) -> u64
     ensures { result ≡ sent_header wiring.now code 0 }
 {
     header_word(code as u8, wiring.notify, 0, wiring.id)
+}
+
+// The stage that stores the next word that changed, or the one after the block.
+fn block_stage(from: usize, wiring: &Wiring, block: &[u64], old: &[u64]) -> AskStage
+    requires order { from ≤ length block.now }
+    requires same { length block.now ≡ length old.now }
+    requires most { length block.now < 2 ^ 32 }
+    ensures { result ≡ block_stage from wiring.now block.now old.now }
+{
+    let next = next_changed(from, block, old);
+    if next < block.len() {
+        AskStage::PostBlock(next as u32)
+    } else {
+        after_block(wiring.style())
+    }
 }
 
 fn after_block(style: Style) -> AskStage

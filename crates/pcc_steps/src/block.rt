@@ -2,7 +2,8 @@
 ghost use Rattle.std.specs.Prelude.{◌≡◌, ◌≤◌, ◌+◌, ◌-◌, ◌/◌, ◌%◌, ◌++◌, length};
 ghost use Rattle.pcc_history.specs.Channel.{over};
 ghost use Rattle.shmem_header.specs.Spelling.{words_of};
-ghost use Rattle.pcc_steps.specs.Moves.{with_loaded, with_stored};
+ghost use Rattle.pcc_steps.specs.Changes.{next_changed};
+ghost use Rattle.pcc_steps.specs.Moves.{with_loaded};
 ghost use Rattle.pcc_steps.specs.Wires.{block_header, block_of, opening_header, style_of};
 
 use crate::wiring::{Style, Wiring, place};
@@ -85,19 +86,22 @@ pub(crate) fn fill_opening(wiring: &Wiring, space: &[u8], block: &mut [u64])
 }
 
 /// The place of the block's first word.
-const FIRST: usize = place::BLOCK as usize;
+pub(crate) const FIRST: usize = place::BLOCK as usize;
 
-// Words of the block are stored at their places, from the word `from` on and before the word `to`.
-#[tactic(auto, using(crate::proofs::BlockMoves::stored_more, crate::proofs::BlockMoves::stored_done))]
-pub(crate) fn store_words(block: &[u64], from: usize, to: usize, words: &mut [u64])
-    requires order { from ≤ to }
-    requires most { to ≤ length block.now }
-    requires long { length words.old ≡ 8 + length block.now }
-    ensures { words.new ≡ with_stored (to - from) from block.now words.old }
+// The first word from the word `from` on that differs from the old one, or the number of words where none does.
+#[tactic(auto, using(crate::proofs::Changes::next_same, crate::proofs::Changes::next_other, crate::proofs::Changes::next_none))]
+pub(crate) fn next_changed(from: usize, block: &[u64], old: &[u64]) -> usize
+    requires order { from ≤ length block.now }
+    requires same { length block.now ≡ length old.now }
+    ensures order { from ≤ result }
+    ensures next { result ≡ next_changed from block.now old.now }
 {
-    for at in from..to {
-        words[FIRST + at] = block[at];
+    for at in from..block.len() {
+        if block[at] != old[at] {
+            return at;
+        }
     }
+    block.len()
 }
 
 // Words of the block are loaded from their places, from the word `from` on and before the word `to`.

@@ -7,6 +7,10 @@ pub returns-clause-post_headed : goal.returns-clause-post_headed
 unfolding header_word word_of word_bytes
 returns-clause-post_headed c = refl
 
+pub returns-clause-post_headed_again : goal.returns-clause-post_headed_again
+unfolding header_word word_of word_bytes
+returns-clause-post_headed_again c = refl
+
 pub returns-clause-post_joined3 : goal.returns-clause-post_joined3
 unfolding header_word word_of word_bytes
 returns-clause-post_joined3 c = refl

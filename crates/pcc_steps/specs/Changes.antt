@@ -1,0 +1,12 @@
+-- Which words of a block changed: no other ones are stored.
+use Rattle.std.specs.Prelude.{ℕ, ◌+◌, ◌==◌, if◌then◌else◌, List, [], ◌∷◌, drop}
+
+-- the place of the first word that differs from the old one, for words from the place j on; the place after them where none differs
+abbrev pub first_changed : ℕ → List ℕ → List ℕ → ℕ
+first_changed j [] old = j
+first_changed j (w ∷ ws) [] = j
+first_changed j (w ∷ ws) (o ∷ os) = if w == o then first_changed (j + 1) ws os else j
+
+-- the place of the first word of a block, from the place j on, that differs from the old one
+abbrev pub next_changed : ℕ → List ℕ → List ℕ → ℕ
+next_changed j new old = first_changed j (drop j new) (drop j old)
