@@ -1,5 +1,5 @@
 -- The answering machine's word steps, one after the other, with the device's turn.
-use Rattle.std.proofs.Common.{◌≡◌, ◌≢◌, ℕ, zero, suc, ◌+◌, ◌-◌, ◌*◌, ◌/◌, ◌%◌, ◌^◌, ◌<◌, ◌≤◌, Bool, true, false, eqb, List, [], ◌++◌, length, drop, refl, sym, ap, ◌∙◌, subst, arith, length-drop}
+use Rattle.std.proofs.Common.{◌≡◌, ◌≢◌, ℕ, zero, suc, ◌+◌, ◌-◌, ◌*◌, ◌/◌, ◌%◌, ◌^◌, ◌<◌, ◌≤◌, Bool, true, false, eqb, ltb, List, [], ◌++◌, length, drop, refl, sym, ap, ◌∙◌, subst, arith, length-drop}
 use Rattle.std.specs.Prelude.{Option, Some, None}
 use Rattle.std.proofs.lemmas.List.{append-nil}
 use Rattle.pcc_history.specs.Devices.{Device}
@@ -14,6 +14,7 @@ use Rattle.pcc_steps.specs.declared.answer.AnswerStage.{AnswerStage}
 use Rattle.pcc_steps.specs.declared.answer.AnswerStage.TheVariants.{AnswerRest, TakeLine, TakeAckLoad, TakeAckStore, TakeHeader, TakeBlock, RunDevice, ReplyBlock, ReplyError, ReplyHeader, ReplyUpdateLoad, ReplyUpdateStore, ReplyMarkLoad, ReplyMarkStore, CloseBellLoad, CloseBellStore, CloseLine}
 use Rattle.pcc_steps.specs.declared.answer.AnswerOutcome.{AnswerOutcome}
 use Rattle.pcc_steps.specs.declared.answer.AnswerOutcome.TheVariants.{Idle, Served}
+use Rattle.pcc_steps.specs.Changes.{next_changed}
 use Rattle.pcc_steps.specs.Wires.{style_of, heads_of, block_of, tells_error, four_by}
 use Rattle.pcc_steps.specs.Runs.{Run, ends, loads, stores, swaps, executes, Within, AnswerEnd}
 use Rattle.pcc_steps.specs.Walk.{answer_left, answer_after, Gives}
@@ -27,7 +28,7 @@ use Rattle.pcc_steps.proofs.Bounds.{answers_within}
 use Rattle.pcc_steps.proofs.Nexts.{idle_told}
 use Rattle.pcc_steps.proofs.Wired.{answer_wired}
 use Rattle.pcc_steps.proofs.WordSteps.{long_act, finds_found}
-use Rattle.pcc_steps.proofs.AnswerFeeds.{counted, framed, is_rest, is_run, rest_is, run_is, not_rest, not_run, ends_run, fed_rests, unsettled, settled_wired}
+use Rattle.pcc_steps.proofs.AnswerFeeds.{counted, framed, is_rest, is_run, rest_is, run_is, not_rest, not_run, ends_run, fed_rests, reply_rests, unsettled, settled_wired}
 use Rattle.pcc_steps.proofs.Lists.{one_more}
 use Rattle.channel_turns.specs.WordRuns.{AnswerStep, AnswerStride, AnswerKeeps, HasExecuted, HistoryIs}
 use Rattle.pcc_steps.proofs.Lengths.{one_less}
@@ -132,9 +133,9 @@ reply_walks : (b : Bool) (s : Style) → is_run (after_reply b s) ≡ false
 reply_walks true s = refl
 reply_walks false s = error_walks s
 
-replies_walk : (b : Bool) (j : ℕ) (a : Answer) → is_run (reply_on b j a).stage ≡ false
-replies_walk true j a = refl
-replies_walk false j a = reply_walks (tells_error a.wiring) (style_of a.wiring)
+replies_walk : (b : Bool) (n : ℕ) (w : Wiring) → is_run (reply_on b n w) ≡ false
+replies_walk true n w = refl
+replies_walk false n w = reply_walks (tells_error w) (style_of w)
 
 close_walks : (b : Bool) → is_run (after_close b) ≡ false
 close_walks true = refl
@@ -152,6 +153,21 @@ update_walks Separate3 st e = e
 update_walks Joined4 st e = e
 update_walks Reduced5 st e = e
 
+-- a reply that is under way is not closed
+error_executed : (s : Style) (hp ha : ℕ) → HasExecuted (after_error s) hp ha
+error_executed Headed hp ha = tt
+error_executed Joined4 hp ha = tt
+error_executed Separate4 hp ha = tt
+error_executed _ hp ha = tt
+
+reply_executed : (b : Bool) (s : Style) (hp ha : ℕ) → HasExecuted (after_reply b s) hp ha
+reply_executed true s hp ha = tt
+reply_executed false s hp ha = error_executed s hp ha
+
+replied_executed : (b : Bool) (n : ℕ) (w : Wiring) (hp ha : ℕ) → HasExecuted (reply_on b n w) hp ha
+replied_executed true n w hp ha = tt
+replied_executed false n w hp ha = reply_executed (tells_error w) (style_of w) hp ha
+
 -- the device runs once
 once : (st : AnswerStage) (a : Answer) (v : ℕ) → is_past st ≡ true → is_run (answer_fed_at st a v).stage ≡ false
 once AnswerRest a v e = absurd (cc e)
@@ -161,7 +177,7 @@ once TakeAckStore a v e = absurd (cc e)
 once TakeHeader a v e = absurd (cc e)
 once (TakeBlock j) a v e = absurd (cc e)
 once RunDevice a v e = absurd (cc e)
-once (ReplyBlock j) a v e = replies_walk (has_more j a.wiring) j a
+once (ReplyBlock j) a v e = let n : ℕ = next_changed (j + 1) a.out a.loaded in replies_walk (ltb n (length a.out)) n a.wiring
 once ReplyError a v e = error_walks (style_of a.wiring)
 once ReplyHeader a v e = done_walks (four_by (style_of a.wiring) a.wiring.has_bell) (asks_notify a)
 once ReplyUpdateLoad a v e = refl
@@ -209,9 +225,9 @@ behind_reply : (b : Bool) (s : Style) → is_line (after_reply b s) ≡ false
 behind_reply true s = refl
 behind_reply false s = behind_error s
 
-replies_behind : (b : Bool) (j : ℕ) (a : Answer) → is_line (reply_on b j a).stage ≡ false
-replies_behind true j a = refl
-replies_behind false j a = behind_reply (tells_error a.wiring) (style_of a.wiring)
+replies_behind : (b : Bool) (n : ℕ) (w : Wiring) → is_line (reply_on b n w) ≡ false
+replies_behind true n w = refl
+replies_behind false n w = behind_reply (tells_error w) (style_of w)
 
 behind_close : (b : Bool) → is_line (after_close b) ≡ false
 behind_close true = refl
@@ -237,7 +253,7 @@ behind_at TakeAckStore a v e f = behind_ack (style_of a.wiring)
 behind_at TakeHeader a v e f = refl
 behind_at (TakeBlock j) a v e f = loads_behind (has_more j a.wiring) j v a
 behind_at RunDevice a v e f = absurd (cc f)
-behind_at (ReplyBlock j) a v e f = replies_behind (has_more j a.wiring) j a
+behind_at (ReplyBlock j) a v e f = let n : ℕ = next_changed (j + 1) a.out a.loaded in replies_behind (ltb n (length a.out)) n a.wiring
 behind_at ReplyError a v e f = behind_error (style_of a.wiring)
 behind_at ReplyHeader a v e f = behind_done (four_by (style_of a.wiring) a.wiring.has_bell) (asks_notify a)
 behind_at ReplyUpdateLoad a v e f = refl
@@ -338,9 +354,10 @@ module _ (exec : Device) where
   -- ---- the device's turn
 
   -- the stage behind the device's turn: a stage by itself, but where the device ran
-  settled_stage : (P : AnswerStage → Type 0) (st : AnswerStage) (y : Answerer) → y.m.stage ≡ st → (st ≢ RunDevice → P st) → ((j : ℕ) → P (ReplyBlock j))
+  settled_stage : (P : AnswerStage → Type 0) (st : AnswerStage) (y : Answerer) → y.m.stage ≡ st → (st ≢ RunDevice → P st) → ((b : Bool) (n : ℕ) (w : Wiring) → P (reply_on b n w))
       → P (settle_at exec st y).m.stage
-  settled_stage P RunDevice y e h k = k (heads_of (style_of y.m.wiring))
+  settled_stage P RunDevice y e h k = let w = y.m.wiring in let out : List ℕ = (settle_at exec RunDevice y).m.out in let n : ℕ = next_changed (heads_of (style_of w)) out y.m.loaded in
+      k (ltb n (length out)) n w
   settled_stage P AnswerRest y e h k = subst P (sym e) (h (λ q. cc))
   settled_stage P TakeLine y e h k = subst P (sym e) (h (λ q. cc))
   settled_stage P TakeAckLoad y e h k = subst P (sym e) (h (λ q. cc))
@@ -400,7 +417,7 @@ module _ (exec : Device) where
       by_past true None e t = executed_more (behind b d v).m.stage _ _ (late (has_more_by b.stage start ws x y refl e g h) (once b.stage b v e))
       by_past true (Some Idle) e t = still (rest_still t)
       by_past true (Some Served) e t = late (has_more_by b.stage start ws x y refl e g h) (once b.stage b v e)
-      by_past false None e t = settled_stage (λ (s : AnswerStage). HasExecuted s (length (done ++ (behind b d v).done)) (length x.done)) m.stage from refl (λ q. executed_early m.stage _ _ (early b.stage b v e rests runs)) (λ j. tt)
+      by_past false None e t = settled_stage (λ (s : AnswerStage). HasExecuted s (length (done ++ (behind b d v).done)) (length x.done)) m.stage from refl (λ q. executed_early m.stage _ _ (early b.stage b v e rests runs)) (λ t n w. replied_executed t n w (length (done ++ (behind b d v).done)) (length x.done))
       by_past false (Some Idle) e t = still (rest_still t)
       by_past false (Some Served) e t = absurd (unserved b.stage b v e (sym t))
 
@@ -498,7 +515,7 @@ module _ (exec : Device) where
     goes_on b d v runs e = let m : Answer = answer_fed b v in
         settled_stage (λ (s : AnswerStage). (s ≢ AnswerRest) × (s ≢ RunDevice) × (s ≢ TakeLine)) m.stage (record { m = m; device = d; done = [] }) refl
         (λ q. (λ r. not_false (is_rest m.stage) (ap is_rest r) (fed_rests b.stage b v (not_rest b.stage runs.0) (not_run b.stage runs.1) ∙ ap ends_run e), q, λ r. not_false (is_line m.stage) (ap is_line r) (behind_at b.stage b v (not_rest b.stage runs.0) (not_run b.stage runs.1))))
-        (λ j. (λ q. cc, λ q. cc, λ q. cc))
+        (λ t n w. (λ r. not_false (is_rest (reply_on t n w)) (ap is_rest r) (reply_rests t n w), λ r. not_false (is_run (reply_on t n w)) (ap is_run r) (replies_walk t n w), λ r. not_false (is_line (reply_on t n w)) (ap is_line r) (replies_behind t n w)))
 
     going_more : AnswerStepAgrees exec is_state room_of
         → (ws : List ℕ) (b : Answer) (d : List ℕ) (most i : ℕ) (ws1 ws2 : List ℕ) (b1 b2 : Answer) (d1 d2 : List ℕ) → AnswerGoing ws b d most i ws1 b1 d1

@@ -1,5 +1,5 @@
 -- The asking machine's word steps, one after the other.
-use Rattle.std.proofs.Common.{◌≡◌, ◌≢◌, ℕ, zero, suc, ◌+◌, ◌-◌, ◌^◌, ◌<◌, ◌≤◌, Bool, true, false, List, length, refl, sym, ap, ◌∙◌, subst, arith}
+use Rattle.std.proofs.Common.{◌≡◌, ◌≢◌, ℕ, zero, suc, ◌+◌, ◌-◌, ◌^◌, ◌<◌, ◌≤◌, Bool, true, false, ltb, List, length, refl, sym, ap, ◌∙◌, subst, arith}
 use Rattle.std.specs.Prelude.{Option, Some, None, get_or}
 use Rattle.pcc_history.specs.Channel.{Exchange}
 use Rattle.pcc_steps.specs.declared.wiring.Wiring.{Wiring}
@@ -9,14 +9,16 @@ use Rattle.pcc_steps.specs.declared.ask.AskStage.{AskStage}
 use Rattle.pcc_steps.specs.declared.ask.AskStage.TheVariants.{AskRest, PostBlock, PostHeader, PostUpdateLoad, PostUpdateStore, PostMarkLoad, PostMarkStore, PostBellLoad, PostBellStore, PostLine, LookWord, LookError, LookBlock, LookLine, LookLineStore, LookAckLoad, LookAckStore}
 use Rattle.pcc_steps.specs.declared.ask.AskOutcome.{AskOutcome}
 use Rattle.pcc_steps.specs.declared.ask.AskOutcome.TheVariants.{Posted, Clear, Drained}
+use Rattle.pcc_steps.specs.Changes.{next_changed}
 use Rattle.pcc_steps.specs.Wires.{style_of, block_of, sees_done, tells_error, acknowledges}
 use Rattle.pcc_steps.specs.Runs.{Within}
 use Rattle.pcc_steps.specs.Walk.{ask_left, ask_after}
-use Rattle.pcc_steps.specs.Asking.{Ask, AskOk, Flies, PostsLeft, ask_stepped, look_told, IsAskRunning, ask_begun, ask_looking, ask_next, ask_fed, ask_told, ask_fed_at, has_more, after_block, after_update, after_mark, after_bell, after_look, store_on, look_on, read_on, block_on, line_on, lowered_on}
+use Rattle.pcc_steps.specs.Asking.{Ask, AskOk, Flies, PostsLeft, ask_stepped, look_told, IsAskRunning, ask_begun, ask_looking, ask_next, ask_fed, ask_told, ask_fed_at, has_more, after_block, after_update, after_mark, after_bell, after_look, post_on, look_on, read_on, block_on, line_on, lowered_on}
 use Rattle.pcc_steps.specs.Moves.{AskMoves}
 use Rattle.pcc_steps.specs.Agree.{act, found, Finds, Agree, clears_after}
 use Rattle.pcc_steps.proofs.Agreement.{ask_step_agrees}
 use Rattle.pcc_steps.proofs.AskWalks.{asks_by_table, looks_by_table, posts_by_table}
+use Rattle.pcc_steps.proofs.PostStages.{post_stage}
 use Rattle.pcc_steps.proofs.Bounds.{looks_within, posts_within}
 use Rattle.pcc_steps.proofs.Nexts.{clear_told}
 use Rattle.pcc_steps.proofs.Wired.{ask_wired}
@@ -147,9 +149,9 @@ behind_look : (b : Bool) → is_look (after_look b) ≡ false
 behind_look true = refl
 behind_look false = refl
 
-stored : (b : Bool) (j : ℕ) (a : Ask) → is_look (store_on b j a).stage ≡ false
-stored true j a = refl
-stored false j a = behind_block (style_of a.wiring)
+stored : (b : Bool) (n : ℕ) (s : Style) → is_look (post_on b n s) ≡ false
+stored true n s = refl
+stored false n s = behind_block s
 
 looked : (b : Bool) (v : ℕ) (a : Ask) → is_look (look_on b v a).stage ≡ false
 looked true v a = behind_look (tells_error a.wiring)
@@ -173,7 +175,7 @@ lowers false a = refl
 
 behind_at : (st : AskStage) (a : Ask) (v : ℕ) → st ≢ AskRest → is_look (ask_fed_at st a v).stage ≡ false
 behind_at AskRest a v runs = absurd (runs refl)
-behind_at (PostBlock j) a v runs = stored (has_more j a.wiring) j a
+behind_at (PostBlock j) a v runs = let n : ℕ = next_changed (j + 1) a.sent a.shown in stored (ltb n (length a.sent)) n (style_of a.wiring)
 behind_at PostHeader a v runs = refl
 behind_at PostUpdateLoad a v runs = refl
 behind_at PostUpdateStore a v runs = behind_update (style_of a.wiring)
@@ -305,10 +307,38 @@ went_stops ws a most i ws' b h ok le = going_stops ws a most h.taken ws' b h.goi
 
 -- ---- whole runs
 
+-- a post that is begun is under way, and is no look
+block_runs : (s : Style) → after_block s ≢ AskRest
+block_runs Headed e = cc
+block_runs Joined3 e = cc
+block_runs Separate3 e = cc
+block_runs Joined4 e = cc
+block_runs Separate4 e = cc
+block_runs Reduced5 e = cc
+
+block_posts : (s : Style) → after_block s ≢ LookWord
+block_posts Headed e = cc
+block_posts Joined3 e = cc
+block_posts Separate3 e = cc
+block_posts Joined4 e = cc
+block_posts Separate4 e = cc
+block_posts Reduced5 e = cc
+
+begun_stage : (P : AskStage → Type 0) (a b : Ask) (code : ℕ) (bytes : List ℕ) → b ≡ ask_begun a code bytes → ((n : ℕ) → P (PostBlock n))
+    → ((s : Style) → P (after_block s)) → P b.stage
+begun_stage P a b code bytes e h k = let x : Ask = ask_begun a code bytes in let n : ℕ = next_changed 0 x.sent a.shown in
+    subst (λ (z : Ask). P z.stage) (sym e) (post_stage P (ltb n (length x.sent)) n (style_of a.wiring) (h n) (k (style_of a.wiring)))
+
+pub begun_runs : (a b : Ask) (code : ℕ) (bytes : List ℕ) → b ≡ ask_begun a code bytes → b.stage ≢ AskRest
+begun_runs a b code bytes e = begun_stage (λ (st : AskStage). st ≢ AskRest) a b code bytes e (λ n q. cc) block_runs
+
+pub begun_posts : (a b : Ask) (code : ℕ) (bytes : List ℕ) → b ≡ ask_begun a code bytes → b.stage ≢ LookWord
+begun_posts a b code bytes e = begun_stage (λ (st : AskStage). st ≢ LookWord) a b code bytes e (λ n q. cc) block_posts
+
 pub post_within : (a b : Ask) (code : ℕ) (bytes : List ℕ) (n : ℕ) → b ≡ ask_begun a code bytes → n ≡ block_of b.wiring → AskOk b → Within (n + 7) (ask_left b)
 post_within a b code bytes n e k ok = let x : Ask = ask_begun a code bytes in
     subst (λ (z : ℕ × Ask). Within z.0 (ask_left z.1)) (λ i. (ap (λ (m : ℕ). m + 7) (sym (k ∙ ap (λ (z : Ask). block_of z.wiring) e)) i, sym e i))
-    (subst (Within (block_of a.wiring + 7)) (sym (posts_by_table a code bytes)) (posts_within a.wiring code x.sent ((subst AskOk e ok).sized.sent)))
+    (subst (Within (block_of a.wiring + 7)) (sym (posts_by_table a code bytes)) (posts_within a.wiring code x.sent a.shown ((subst AskOk e ok).sized.sent)))
 
 -- the load of completion, with which a look begins
 pub first_steps : (a b c : Ask) (ws : List ℕ) (v : ℕ) (o : Option AskOutcome) → b ≡ ask_looking a → a.in_flight ≡ true → v ≡ get_or ws 0 0 → v < 2 ^ 64

@@ -38,7 +38,7 @@ fn ask_step(words: &mut [u64], ask: &mut AskState) -> Option<AskOutcome>
     ask_feed(ask, value)
 }
 
-// The words of the block before its last one at once, and then the next word step.
+// Words of the block but the last one at once, and then the next word step.
 #[inline(always)]
 fn ask_stride(words: &mut [u64], ask: &mut AskState) -> Option<AskOutcome>
     requires runs { IsAskRunning ask.old }
@@ -144,7 +144,7 @@ fn answer_step<E: Executor>(
     told
 }
 
-// The words of the block before its last one at once, and then the next word step, with the device's turn.
+// Words of the block but the last one at once, and then the next word step, with the device's turn.
 #[inline(always)]
 fn answer_stride<E: Executor>(
     words: &mut [u64],

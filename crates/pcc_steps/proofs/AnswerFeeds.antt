@@ -123,7 +123,7 @@ load_rests : (b : Bool) (j v : ℕ) (a : Answer) → is_rest (load_on b j v a).s
 load_rests true j v a = refl
 load_rests false j v a = refl
 
-reply_rests : (b : Bool) (n : ℕ) (w : Wiring) → is_rest (reply_on b n w) ≡ false
+pub reply_rests : (b : Bool) (n : ℕ) (w : Wiring) → is_rest (reply_on b n w) ≡ false
 reply_rests true n w = refl
 reply_rests false n w = reply_goes (tells_error w) (style_of w)
 

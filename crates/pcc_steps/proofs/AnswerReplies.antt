@@ -14,8 +14,8 @@ use Rattle.pcc_steps.specs.Changes.{next_changed}
 use Rattle.pcc_steps.specs.Wires.{style_of, heads_of, block_of, status_of, four_by, masked_by, update_place}
 use Rattle.pcc_steps.specs.Runs.{error_word}
 use Rattle.pcc_steps.specs.Asking.{CodeFits}
-use Rattle.pcc_steps.specs.Answering.{Answer, AnswerPlace, AnswerUpdates, AnswerSets, answer_next_at, reply_stage, after_error, after_close, after_done, asks_notify, done_stage, after_update}
-use Rattle.pcc_steps.specs.Agree.{Core, act, Finds, mix, Asker, Answerer, settle_at, settle, answerer_fed_at, Pose, free, writing, cleared, waiting, reading, pose, Turn, quiet, replying, turn_at, closed, finished, Marked, Row, flight, HasHeader, Shows, Told, IsReplying, IsDone, Fits, IsBetween, Agreed, Agree}
+use Rattle.pcc_steps.specs.Answering.{Answer, AnswerUpdates, AnswerSets, answer_next_at, reply_stage, after_error, after_close, after_done, asks_notify, done_stage, after_update}
+use Rattle.pcc_steps.specs.Agree.{Core, act, Finds, Asker, Answerer, settle_at, answerer_fed_at, Pose, free, writing, cleared, waiting, reading, pose, Turn, quiet, replying, turn_at, closed, finished, Marked, Row, flight, HasHeader, Shows, IsReplying, IsDone, Fits, IsBetween, Agreed, Agree}
 use Rattle.pcc_steps.proofs.Lists.{mix_more, mix_all, set_block}
 use Rattle.pcc_steps.proofs.Bits.{reports_headed, status_seen, sets_mark, sets_update, shows_stored}
 use Rattle.pcc_steps.proofs.ReplyStages.{place_error, between_error, told_error, turn_error, settled_error, replied_settled, replied_place, replied_between, replied_turn, replied_told, mix_loaded}

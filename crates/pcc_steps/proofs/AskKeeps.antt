@@ -1,13 +1,13 @@
 -- Each step of the asking end keeps the relation.
-use Rattle.std.proofs.Common.{◌≡◌, ◌≢◌, ℕ, ◌+◌, ◌^◌, ◌<◌, ◌≤◌, Bool, true, false, List, length, get_or, set, refl, sym, ap, ◌∙◌, subst, inl, arith}
+use Rattle.std.proofs.Common.{◌≡◌, ◌≢◌, ℕ, ◌+◌, ◌^◌, ◌<◌, Bool, false, List, length, get_or, set, refl, sym, ap, ◌∙◌, subst, inl, arith}
 use Rattle.pcc_history.specs.Devices.{Device}
 use Rattle.pcc_steps.specs.declared.wiring.Style.{Style}
 use Rattle.pcc_steps.specs.declared.wiring.Style.TheVariants.{Headed, Joined3, Separate3, Joined4, Separate4, Reduced5}
 use Rattle.pcc_steps.specs.declared.ask.AskStage.{AskStage}
 use Rattle.pcc_steps.specs.declared.ask.AskStage.TheVariants.{PostBlock, PostHeader, PostUpdateLoad, PostUpdateStore, PostMarkLoad, PostMarkStore, PostBellLoad, PostBellStore, PostLine}
 use Rattle.pcc_steps.specs.Wires.{style_of, block_of, sent_header, masked_by, without, update_place}
-use Rattle.pcc_steps.specs.Asking.{Ask, AskOk, AskPlace, AskUpdates, AskClears, AskRings, ask_next_at, block_stage, after_update, after_mark, after_bell}
-use Rattle.pcc_steps.specs.Agree.{Core, act, Finds, mix, Asker, Answerer, asker_fed_at, Pose, writing, cleared, bell_pose, pose_at, pose, Turn, turn, closed, Marked, flight, Waits, Fits, flying, trail, is_pending_at, Agreed, Agree}
+use Rattle.pcc_steps.specs.Asking.{Ask, AskOk, AskUpdates, AskClears, AskRings, ask_next_at, block_stage, after_update, after_mark, after_bell}
+use Rattle.pcc_steps.specs.Agree.{Core, act, Finds, mix, Asker, Answerer, asker_fed_at, Pose, cleared, bell_pose, pose_at, pose, Turn, turn, closed, Marked, flight, Waits, Fits, flying, trail, is_pending_at, Agreed, Agree}
 use Rattle.pcc_steps.proofs.Lists.{mix_more, mix_all, set_block}
 use Rattle.pcc_steps.proofs.Changes.{mix_next}
 use Rattle.pcc_steps.proofs.PostStages.{steps_on, posted_ok, posted_pose, posted_pends}

@@ -1,5 +1,5 @@
 -- The stage of the answering machine once words of the reply are stored: another word changed, or none did.
-use Rattle.std.proofs.Common.{◌≡◌, ◌≢◌, ℕ, ◌+◌, ◌<◌, ◌≤◌, Bool, true, false, ltb, List, length, refl, sym, ap, ◌∙◌, subst, arith}
+use Rattle.std.proofs.Common.{◌≡◌, ℕ, ◌<◌, ◌≤◌, Bool, true, false, ltb, List, length, refl, sym, ap, ◌∙◌, subst, arith}
 use borrow.Author.Tests.{ltb-true}
 use Rattle.pcc_history.specs.Devices.{Device}
 use Rattle.pcc_history.specs.Channel.{both}
@@ -11,7 +11,7 @@ use Rattle.pcc_steps.specs.declared.answer.AnswerStage.TheVariants.{ReplyBlock}
 use Rattle.pcc_steps.specs.Changes.{next_changed}
 use Rattle.pcc_steps.specs.Wires.{style_of, heads_of, block_of, tells_error}
 use Rattle.pcc_steps.specs.Answering.{Answer, AnswerPlace, AnswerUpdates, AnswerSets, after_error, after_reply, reply_on, reply_stage}
-use Rattle.pcc_steps.specs.Agree.{Answerer, settle_at, Turn, replying, turn_at, mix, Shows, Told, IsBetween}
+use Rattle.pcc_steps.specs.Agree.{Answerer, settle_at, replying, turn_at, mix, Shows, Told, IsBetween}
 use Rattle.pcc_steps.proofs.Bits.{shows_none}
 use Rattle.pcc_steps.proofs.Changes.{next_from, next_end, mix_next}
 

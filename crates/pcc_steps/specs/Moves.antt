@@ -1,11 +1,6 @@
 -- Word steps of a run, one after the other.
-use Rattle.std.specs.Prelude.{◌≡◌, ◌≢◌, ℕ, zero, suc, ◌+◌, ◌-◌, ◌^◌, ◌<◌, List, get_or, set, None}
-use Rattle.pcc_steps.specs.declared.wiring.Wiring.{Wiring}
-use Rattle.pcc_steps.specs.declared.ask.AskStage.{AskStage}
-use Rattle.pcc_steps.specs.declared.ask.AskStage.TheVariants.{PostBlock, LookBlock}
-use Rattle.pcc_steps.specs.declared.answer.AnswerStage.{AnswerStage}
-use Rattle.pcc_steps.specs.declared.answer.AnswerStage.TheVariants.{RunDevice, TakeBlock, ReplyBlock}
-use Rattle.pcc_steps.specs.Wires.{block_of}
+use Rattle.std.specs.Prelude.{◌≡◌, ◌≢◌, ℕ, zero, suc, ◌+◌, ◌^◌, ◌<◌, List, get_or, set, None}
+use Rattle.pcc_steps.specs.declared.answer.AnswerStage.TheVariants.{RunDevice}
 use Rattle.pcc_steps.specs.Asking.{Ask, AskOk, IsAskRunning, ask_next, ask_fed, ask_told, rose}
 use Rattle.pcc_steps.specs.Answering.{Answer, AnswerOk, IsAnswerStepping, answer_next, answer_fed, answer_told}
 use Rattle.pcc_steps.specs.Agree.{act, found}
