@@ -286,11 +286,10 @@ type_three_joined = woven (swap_call 0 (1 ∷ 2 ∷ []) 3 ∷ [])
 -- type 3 with an update register of its own; the command is bad, and the first look is too early
 abbrev pub type_three_separate : Type 0
 type_three_separate = woven (record { caller = 0; code = 18; bytes = 1 ∷ []; polls = 2 } ∷ [])
-    (replicate 11 System ++ replicate 8 Platform ++ replicate 5 System)
+    (replicate 10 System ++ replicate 7 Platform ++ replicate 5 System)
     0 (fresh (by_registers 3 false false apart)) ≡ record {
       trace =
-          line System (Store 8 1346585344) 0 Open
-          ∷ line System (Store 9 77309411333) 0 Open
+          line System (Store 9 77309411333) 0 Open
           ∷ line System (Store 10 1) 0 Open
           ∷ line System (Load 6) 0 Open
           ∷ line System (Store 6 3) 0 Open
@@ -304,7 +303,6 @@ type_three_separate = woven (record { caller = 0; code = 18; bytes = 1 ∷ []; p
           ∷ line Platform (Load 8) 1346585344 Open
           ∷ line Platform (Load 9) 77309411333 Open
           ∷ line Platform (Load 10) 1 Open
-          ∷ line Platform (Store 10 1) 0 Open
           ∷ line Platform (Store 3 2) 0 Open
           ∷ line Platform (Load 0) 0 Open
           ∷ line Platform (Store 0 1) 0 Served
@@ -321,11 +319,10 @@ type_three_separate = woven (record { caller = 0; code = 18; bytes = 1 ∷ []; p
 -- type 4 whose update register is the check register: it sets completion; the platform asks
 abbrev pub type_four_joined : Type 0
 type_four_joined = woven (record { caller = 0; code = 16; bytes = 1 ∷ []; polls = 3 } ∷ [])
-    (replicate 6 Platform ++ replicate 7 System ++ replicate 4 Platform)
+    (replicate 5 Platform ++ replicate 7 System ++ replicate 4 Platform)
     0 (fresh (bare (by_registers 4 true false (record { preserve = 4294967294; set = 1 })))) ≡ record {
       trace =
-          line Platform (Store 8 1346585344) 0 Open
-          ∷ line Platform (Store 9 68719476741) 0 Open
+          line Platform (Store 9 68719476741) 0 Open
           ∷ line Platform (Store 10 1) 0 Open
           ∷ line Platform (Load 0) 1 Open
           ∷ line Platform (Store 0 0) 0 Open
@@ -349,12 +346,11 @@ type_four_joined = woven (record { caller = 0; code = 16; bytes = 1 ∷ []; poll
 -- type 4 with an update register of its own, an acknowledge register and a doorbell, which belong to the answering side here
 abbrev pub type_four_separate : Type 0
 type_four_separate = woven (record { caller = 0; code = 17; bytes = []; polls = 1 } ∷ [])
-    (replicate 6 Platform ++ replicate 15 System ++ replicate 7 Platform)
+    (replicate 5 Platform ++ replicate 14 System ++ replicate 7 Platform)
     0 (fresh (by_registers 4 false true apart)) ≡ record {
       trace =
           line Platform (Store 8 5641552640) 0 Open
           ∷ line Platform (Store 9 73014444036) 0 Open
-          ∷ line Platform (Store 10 0) 0 Open
           ∷ line Platform (Load 0) 1 Open
           ∷ line Platform (Store 0 0) 0 Open
           ∷ line Platform (Store 2 1) 0 Posted
@@ -364,7 +360,6 @@ type_four_separate = woven (record { caller = 0; code = 17; bytes = []; polls = 
           ∷ line System (Load 8) 5641552640 Open
           ∷ line System (Load 9) 73014444036 Open
           ∷ line System (Load 10) 0 Open
-          ∷ line System (Store 10 0) 0 Open
           ∷ line System (Store 3 0) 0 Open
           ∷ line System (Load 6) 0 Open
           ∷ line System (Store 6 3) 0 Open
@@ -388,7 +383,7 @@ type_four_separate = woven (record { caller = 0; code = 17; bytes = []; polls = 
 -- type 5, whose doorbell comes before completion is cleared; the command is bad
 abbrev pub type_five : Type 0
 type_five = woven (record { caller = 0; code = 18; bytes = 1 ∷ []; polls = 1 } ∷ [])
-    (replicate 7 System ++ replicate 7 Platform ++ replicate 4 System)
+    (replicate 7 System ++ replicate 6 Platform ++ replicate 4 System)
     0 (fresh (by_registers 5 false false (record { preserve = 0; set = 0 }))) ≡ record {
       trace =
           line System (Store 8 78655996672) 0 Open
@@ -401,7 +396,6 @@ type_five = woven (record { caller = 0; code = 18; bytes = 1 ∷ []; polls = 1 }
           ∷ line Platform (Swap 2 0) 1 Open
           ∷ line Platform (Load 8) 78655996672 Open
           ∷ line Platform (Load 9) 1 Open
-          ∷ line Platform (Store 9 1) 0 Open
           ∷ line Platform (Store 3 2) 0 Open
           ∷ line Platform (Load 0) 0 Open
           ∷ line Platform (Store 0 1) 0 Served

@@ -222,11 +222,7 @@ fn a_type_two_subspace_acknowledges_and_tells_errors(rt: HostRuntime) {
             ExecStatus::Bad
         )
     );
-    let served = [
-        (Store(8, 1), 0),
-        (Store(0, 0x0005_8012_5043_4300), 0),
-        (Store(4, 1), 0),
-    ];
+    let served = [(Store(0, 0x0005_8012_5043_4300), 0), (Store(4, 1), 0)];
     assert!(rt; answer_along(&mut answer, &served) == Some(AnswerOutcome::Served));
     if answer_next(&answer) != Action::Rest {
         panic!(rt; "a run can begin");

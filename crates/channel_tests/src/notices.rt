@@ -70,8 +70,7 @@ fn woven(
     })
 }
 
-const JOINED: &[u8] = b"p store 8 0000000050434300\n\
-p store 9 0000001000000005\n\
+const JOINED: &[u8] = b"p store 9 0000001000000005\n\
 p store 10 0000000000000001\n\
 p load 0 0000000000000001\n\
 p store 0 0000000000000000\n\
@@ -100,7 +99,7 @@ fn a_command_of_the_platform_is_handled(rt: HostRuntime) {
             alloc,
             responder(true, update),
             &[call(alloc, 0, 16, &[1], 3)?],
-            b"ppppppooooooopppp",
+            b"pppppooooooopppp",
             Side::Platform,
         )
     }
@@ -119,8 +118,7 @@ fn a_command_of_the_platform_is_handled(rt: HostRuntime) {
 }
 
 // The first command as above, with the update register beside the check register; the second one is handled, and its reply isn't there yet.
-const SEPARATE: &[u8] = b"p store 8 0000000050434300\n\
-p store 9 0000001000000005\n\
+const SEPARATE: &[u8] = b"p store 9 0000001000000005\n\
 p store 10 0000000000000001\n\
 p load 0 0000000000000001\n\
 p store 0 0000000000000000\n\
@@ -138,8 +136,6 @@ p load 0 0000000000000001\n\
 p load 8 0000000050434300\n\
 p load 9 0000001000000005\n\
 p load 10 0000000000000000 -> done ok\n\
-p store 8 0000000050434300\n\
-p store 9 0000001000000005\n\
 p store 10 0000000000000002\n\
 p load 0 0000000000000001\n\
 p store 0 0000000000000000\n\
@@ -161,7 +157,7 @@ fn a_handled_command_is_in_flight(rt: HostRuntime) {
             alloc,
             responder(false, update),
             &[call(alloc, 0, 16, &[1], 3)?, call(alloc, 1, 16, &[2], 3)?],
-            b"ppppppoooooooooppppppppppoooo",
+            b"pppppoooooooooppppppppoooo",
             Side::System,
         )
     }

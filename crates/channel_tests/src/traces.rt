@@ -198,7 +198,6 @@ fn given_up_kept_waiting_drained_late(rt: HostRuntime) {
 
 const CALLS_WITHOUT_A_STEP: &[u8] = b"o bad code 256\n\
 o too long 9 8\n\
-o store 8 0000000000000000\n\
 o store 0 0000001150434300\n\
 o load 1 0000000000000000\n\
 o store 1 0000000000000001\n\
@@ -206,7 +205,6 @@ o store 2 0000000000000001 -> posted\n\
 p swap 2 0000000000000000 0000000000000001\n\
 p load 0 0000001150434300\n\
 p load 8 0000000000000000\n\
-p store 8 0000000000000000\n\
 p store 0 0001001150434300 -> served\n\
 p swap 2 0000000000000000 0000000000000000 -> idle\n\
 o load 0 0001001150434300\n\
@@ -233,7 +231,7 @@ fn calls_without_a_step(rt: HostRuntime) {
             wired(0, 8, false, false),
             limits,
             &calls,
-            b"oooooooppppppoooo",
+            b"oooooopppppoooo",
         )
     }
     assert!(rt; text(rt.alloc()).expect(&rt, "memory").as_slice() == CALLS_WITHOUT_A_STEP);

@@ -20,8 +20,7 @@ two_posts = bare (by_registers 4 false false apart)
 -- The first command is posted, handled and drained.
 abbrev pub first_trace : List TraceLine
 first_trace =
-    line Platform (Store 8 1346585344) 0 Open
-    ∷ line Platform (Store 9 68719476741) 0 Open
+    line Platform (Store 9 68719476741) 0 Open
     ∷ line Platform (Store 10 1) 0 Open
     ∷ line Platform (Load 0) 1 Open
     ∷ line Platform (Store 0 0) 0 Open
@@ -43,9 +42,7 @@ first_trace =
 -- The second one is posted up to its last step, which is to raise the line.
 abbrev pub cut_trace : List TraceLine
 cut_trace =
-    line Platform (Store 8 1346585344) 0 Open
-    ∷ line Platform (Store 9 68719476741) 0 Open
-    ∷ line Platform (Store 10 2) 0 Open
+    line Platform (Store 10 2) 0 Open
     ∷ line Platform (Load 0) 1 Open
     ∷ line Platform (Store 0 0) 0 Open ∷ []
 
@@ -73,7 +70,7 @@ second_pending = record { caller = 1; code = 16; input = two_bytes; post = 20 }
 -- both commands, pick by pick
 abbrev pub separate_without_registers : Type 0
 separate_without_registers = woven (swap_call 0 (1 ∷ []) 3 ∷ swap_call 1 (2 ∷ []) 3 ∷ [])
-    (replicate 6 Platform ++ replicate 9 System ++ replicate 10 Platform ++ replicate 4 System) 0 (fresh two_posts) ≡ record {
+    (replicate 5 Platform ++ replicate 9 System ++ replicate 8 Platform ++ replicate 4 System) 0 (fresh two_posts) ≡ record {
       trace = first_trace ++ cut_trace ++ handled_trace;
       records = record { caller = 0; code = 16; input = one_byte; error = false; output = no_bytes; post = 0; done = 10; late = false } ∷ [];
       notes = note_at 0 1 0 ∷ [];
@@ -99,7 +96,6 @@ bad_trace =
     ∷ line System (Load 8) 5641552640 Open
     ∷ line System (Load 9) 77309411333 Open
     ∷ line System (Load 10) 1 Open
-    ∷ line System (Store 10 1) 0 Open
     ∷ line System (Store 3 2) 0 Open
     ∷ line System (Load 0) 0 Open
     ∷ line System (Store 0 1) 0 Open
@@ -117,7 +113,7 @@ bad_trace =
 -- a bad command, pick by pick
 abbrev pub joined_with_registers : Type 0
 joined_with_registers = woven (record { caller = 0; code = 18; bytes = 1 ∷ []; polls = 1 } ∷ [])
-    (replicate 6 Platform ++ replicate 13 System ++ replicate 7 Platform) 0 (fresh all_registers) ≡ record {
+    (replicate 6 Platform ++ replicate 12 System ++ replicate 7 Platform) 0 (fresh all_registers) ≡ record {
       trace = bad_trace;
       records = record { caller = 0; code = 18; input = one_byte; error = true; output = one_byte; post = 0; done = 10; late = false } ∷ [];
       notes = note_at 0 1 0 ∷ [];

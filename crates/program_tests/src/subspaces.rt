@@ -55,7 +55,7 @@ const WOVEN: &[u8] =
     b"o store 8 0000001250434300\no store 9 0000000000000001\no load 1 0000000000000000\no store 1 0000000000000001\n\
 o load 0 0000000000000001\no store 0 0000000000000000\no store 2 0000000000000001 -> posted\n\
 p swap 2 0000000000000000 0000000000000001\np load 8 0000001250434300\np load 9 0000000000000001\n\
-p store 9 0000000000000001\np store 3 0000000000000002\np load 0 0000000000000000\n\
+p store 3 0000000000000002\np load 0 0000000000000000\n\
 p store 0 0000000000000001 -> served\no load 0 0000000000000001\no load 3 0000000000000002\n\
 o load 8 0000001250434300\no load 9 0000000000000001 -> done error\n\
 journal 0 type 5 bank room 8 turnaround 0 rate 0 errors yes\n\
@@ -77,7 +77,7 @@ record 0 caller 0 code 18 error post 0 done 10 timely in 0100000000000000 out 01
         (
             "weave",
             HARDWARE_REGISTERS,
-            b"pick ooooooopppppppoooo\n",
+            b"pick oooooooppppppoooo\n",
             WOVEN,
             0,
         ),
@@ -124,7 +124,7 @@ const NEVER_SETS: &[u8] =
 
 // The platform asks for a swap, and the operating system answers.
 const ANSWERED: &[u8] =
-    b"p store 8 0000000050434300\np store 9 0000001000000005\np store 10 0000000000000001\np load 0 0000000000000001\n\
+    b"p store 9 0000001000000005\np store 10 0000000000000001\np load 0 0000000000000001\n\
 p store 0 0000000000000000\np store 2 0000000000000001 -> posted\no swap 2 0000000000000000 0000000000000001\n\
 o load 8 0000000050434300\no load 9 0000001000000005\no load 10 0000000000000001\no store 10 0000000000000000\n\
 o load 0 0000000000000000\no store 0 0000000000000001 -> served\np load 0 0000000000000001\n\
@@ -139,7 +139,7 @@ fn the_platform_asks_on_type_four(rt: HostRuntime) -> Result<(), Fail> {
         (
             "weave",
             PLATFORM_ASKS,
-            b"\nclock 0 10\nopen 0 bank\ncall 0 0 16 01 3 0\npick ppppppooooooopppp\n",
+            b"\nclock 0 10\nopen 0 bank\ncall 0 0 16 01 3 0\npick pppppooooooopppp\n",
             ANSWERED,
             0,
         ),

@@ -80,3 +80,30 @@ fn a_trace_with_the_platform_interrupt(rt: HostRuntime) -> Result<(), Fail> {
     assert_eq!(rt; status_of_long(alloc, "weave", &script, NOTIFIED)?, Some(0));
     Ok(())
 }
+
+const NOTHING_CHANGED: &[u8] =
+    b"o store 0 0000001150434300\no load 1 0000000000000000\no store 1 0000000000000001\n\
+o store 2 0000000000000001 -> posted\n\
+p swap 2 0000000000000000 0000000000000001\np load 0 0000001150434300\np load 8 0000000000000000\n\
+p store 0 0001001150434300 -> served\no load 0 0001001150434300\no load 8 0000000000000000 -> done ok\n\
+journal 0 type 0 bank room 8 turnaround 0 rate 0 errors yes\n\
+record 0 caller 0 code 17 ok post 0 done 10 timely in 0000000000000000 out 0000000000000000\nend 0\n";
+
+// A command without bytes, whose reply is its input: neither side stores a word of the space.
+#[test]
+fn a_trace_without_a_changed_word(rt: HostRuntime) -> Result<(), Fail> {
+    let alloc = rt.alloc();
+    let table = changed(alloc, &ONE_GENERIC_SUBSPACE, &[(64, 0x10), (9, 0x76)])?;
+    let mut script = Vec::from_slice(alloc, b"table ")?;
+    put_hex(&mut script, &table)?;
+    put(
+        &mut script,
+        b"\nclock 0 10\nopen 0 bank\ncall 0 0 17 - 1 0\n",
+    )?;
+    put(&mut script, b"pick ooooppppoo\n")?;
+    assert_eq!(rt;
+        status_of_long(alloc, "weave", &script, NOTHING_CHANGED)?,
+        Some(0)
+    );
+    Ok(())
+}
