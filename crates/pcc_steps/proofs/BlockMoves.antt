@@ -7,13 +7,13 @@ use Rattle.pcc_steps.specs.declared.ask.AskStage.{AskStage}
 use Rattle.pcc_steps.specs.declared.ask.AskStage.TheVariants.{PostBlock, LookBlock}
 use Rattle.pcc_steps.specs.declared.answer.AnswerStage.{AnswerStage}
 use Rattle.pcc_steps.specs.declared.answer.AnswerStage.TheVariants.{RunDevice, TakeBlock, ReplyBlock}
-use Rattle.pcc_steps.specs.Changes.{next_changed}
+use Rattle.pcc_steps.specs.Changes.{next_changed, changes_from}
 use Rattle.pcc_steps.specs.Wires.{style_of, block_of}
 use Rattle.pcc_steps.specs.Asking.{Ask, AskOk, IsAskRunning, has_more, rose, ask_next, ask_fed, ask_told, ask_stepped, post_on, block_stage, read_on, read_told}
 use Rattle.pcc_steps.specs.Answering.{Answer, AnswerOk, IsAnswerStepping, answer_next, answer_fed, answer_told, answer_stepped, load_on, reply_on, reply_stage}
 use Rattle.pcc_steps.specs.Agree.{act, found}
-use Rattle.pcc_steps.specs.Moves.{AskMoves, AskMoved, AnswerMoves, AnswerMoved, with_loaded, risen}
-use Rattle.pcc_steps.proofs.Changes.{next_same, next_other}
+use Rattle.pcc_steps.specs.Moves.{AskMoves, AnswerMoves, with_loaded, risen}
+use Rattle.pcc_steps.proofs.Changes.{next_same, next_other, changes_same, changes_other, changes_none}
 use Rattle.pcc_steps.proofs.Ends.{count_rises}
 
 -- ---- loops
@@ -58,16 +58,21 @@ asks_more zero ws ws1 a b h ok runs small told = subst (λ (z : List ℕ × Ask)
 asks_more (suc n) ws ws1 a b h ok runs small told = let v : ℕ = found (ask_next a) ws in (h.0, h.1, h.2, h.3, asks_more n (act (ask_next a) ws) ws1 (ask_fed a v) b h.4 ok runs small told)
 
 -- the words that changed before the place `next` are stored, but for the last of them
-pub record Posts (ws0 : List ℕ) (a : Ask) (ws : List ℕ) (at steps next : ℕ) : Type 0 where
-  pub moves : AskMoved ws0 a ws (record a { stage = PostBlock at; steps = steps })
+pub record Posts (from : ℕ) (ws0 : List ℕ) (a : Ask) (ws : List ℕ) (at steps next : ℕ) : Type 0 where
+  pub count : ℕ
+  pub moves : AskMoves count ws0 a ws (record a { stage = PostBlock at; steps = steps })
+  -- with those that are left
+  pub all : count + changes_from next a.sent a.shown ≡ changes_from (from + 1) a.sent a.shown
   pub right : AskOk (record a { stage = PostBlock at; steps = steps })
   pub past : at < next
   pub same : next_changed next a.sent a.shown ≡ next_changed (at + 1) a.sent a.shown
   pub long : length ws ≡ length ws0
 
-pub posts_start : (ws : List ℕ) (a : Ask) (from : ℕ) → AskOk a → a.stage ≡ PostBlock from → Posts ws a ws from a.steps (from + 1)
+pub posts_start : (ws : List ℕ) (a : Ask) (from : ℕ) → AskOk a → a.stage ≡ PostBlock from → Posts from ws a ws from a.steps (from + 1)
 posts_start ws a from ok e = record {
-  moves = (0, (refl, ap (λ (st : AskStage). record a { stage = st }) (sym e)));
+  count = 0;
+  moves = (refl, ap (λ (st : AskStage). record a { stage = st }) (sym e));
+  all = omega arith;
   right = subst (λ (st : AskStage). AskOk (record a { stage = st })) e ok;
   past = omega arith;
   same = refl;
@@ -75,10 +80,12 @@ posts_start ws a from ok e = record {
 }
 
 -- a word that did not change is passed over
-pub posts_over : (ws0 ws : List ℕ) (a : Ask) (at steps next : ℕ) → AskOk a → Posts ws0 a ws at steps next → next < length a.sent
-    → get_or a.sent next 0 ≡ get_or a.shown next 0 → Posts ws0 a ws at steps (next + 1)
-posts_over ws0 ws a at steps next ok h here e = record {
+pub posts_over : (from : ℕ) (ws0 ws : List ℕ) (a : Ask) (at steps next : ℕ) → AskOk a → Posts from ws0 a ws at steps next → next < length a.sent
+    → get_or a.sent next 0 ≡ get_or a.shown next 0 → Posts from ws0 a ws at steps (next + 1)
+posts_over from ws0 ws a at steps next ok h here e = record {
+  count = h.count;
   moves = h.moves;
+  all = ap (λ (n : ℕ). h.count + n) (sym (changes_same next a.sent a.shown here (ok.sized.sent ∙ sym ok.sized.shown) e)) ∙ h.all;
   right = h.right;
   past = let p = h.past in omega (arith, p);
   same = sym (next_same next a.sent a.shown here (ok.sized.sent ∙ sym ok.sized.shown) e) ∙ h.same;
@@ -86,16 +93,15 @@ posts_over ws0 ws a at steps next ok h here e = record {
 }
 
 -- at another word that changed, the one before is stored
-pub posts_on : (ws0 ws : List ℕ) (a : Ask) (at steps next : ℕ) → AskOk a → Posts ws0 a ws at steps next → next < length a.sent
-    → get_or a.sent next 0 ≢ get_or a.shown next 0 → Posts ws0 a (set ws (8 + at) (get_or a.sent at 0)) next (rose steps) (next + 1)
-posts_on ws0 ws a at steps next ok h here e = let b : Ask = record a { stage = PostBlock at; steps = steps } in let long : length a.sent ≡ length a.shown = ok.sized.sent ∙ sym ok.sized.shown in
+pub posts_on : (from : ℕ) (ws0 ws : List ℕ) (a : Ask) (at steps next : ℕ) → AskOk a → Posts from ws0 a ws at steps next → next < length a.sent
+    → get_or a.sent next 0 ≢ get_or a.shown next 0 → Posts from ws0 a (set ws (8 + at) (get_or a.sent at 0)) next (rose steps) (next + 1)
+posts_on from ws0 ws a at steps next ok h here e = let b : Ask = record a { stage = PostBlock at; steps = steps } in let long : length a.sent ≡ length a.shown = ok.sized.sent ∙ sym ok.sized.shown in
     let is : next_changed (at + 1) a.sent a.shown ≡ next = sym h.same ∙ next_other next a.sent a.shown here long e in
     let fed : block_stage (at + 1) a.wiring a.sent a.shown ≡ PostBlock next = ap (λ (n : ℕ). post_on (ltb n (length a.sent)) n (style_of a.wiring)) is ∙ ap (λ (m : Bool). post_on m next (style_of a.wiring)) (lt-ltb next (length a.sent) here) in record {
-      moves = (
-        suc h.moves.0,
-        subst (λ (st : AskStage). AskMoves (suc h.moves.0) ws0 a (set ws (8 + at) (get_or a.sent at 0)) (record a { stage = st; steps = rose steps })) fed
-            (asks_more h.moves.0 ws0 ws a b h.moves.1 h.right (λ q. cc) (omega arith) refl),
-      );
+      count = suc h.count;
+      moves = subst (λ (st : AskStage). AskMoves (suc h.count) ws0 a (set ws (8 + at) (get_or a.sent at 0)) (record a { stage = st; steps = rose steps })) fed
+          (asks_more h.count ws0 ws a b h.moves h.right (λ q. cc) (omega arith) refl);
+      all = let m = changes_other next a.sent a.shown here long e in let l = h.all in omega (arith, m, l);
       right = let r = h.right in record { wired = r.wired; sized = r.sized; place = (let s = ok.sized.sent in omega (arith, here, s)); flies = r.flies; looks = r.looks; posts = r.posts; kept = r.kept; mask = r.mask; id = r.id; code = r.code };
       past = omega arith;
       same = refl;
@@ -149,13 +155,19 @@ looks_move j ws a small ok e = let n : ℕ = before_last j a.wiring in
     (loads n j a.steps ws a.loaded a small ok' ok.sized.loaded (omega (arith, h)))
 
 -- a turn of the loop
-pub posts_same : (ws0 ws ws' : List ℕ) (a : Ask) (at at' steps steps' next : ℕ) → AskOk a → Posts ws0 a ws at steps next → next < length a.sent
-    → get_or a.sent next 0 ≡ get_or a.shown next 0 → ws' ≡ ws → at' ≡ at → steps' ≡ steps → Posts ws0 a ws' at' steps' (next + 1)
-posts_same ws0 ws ws' a at at' steps steps' next ok h here e w p n = subst (λ (z : List ℕ × ℕ × ℕ). Posts ws0 a z.0 z.1 z.2 (next + 1)) (λ i. (sym w i, sym p i, sym n i)) (posts_over ws0 ws a at steps next ok h here e)
+pub posts_same : (from : ℕ) (ws0 ws ws' : List ℕ) (a : Ask) (at at' steps steps' next : ℕ) → AskOk a → Posts from ws0 a ws at steps next → next < length a.sent
+    → get_or a.sent next 0 ≡ get_or a.shown next 0 → ws' ≡ ws → at' ≡ at → steps' ≡ steps → Posts from ws0 a ws' at' steps' (next + 1)
+posts_same from ws0 ws ws' a at at' steps steps' next ok h here e w p n = subst (λ (z : List ℕ × ℕ × ℕ). Posts from ws0 a z.0 z.1 z.2 (next + 1)) (λ i. (sym w i, sym p i, sym n i)) (posts_over from ws0 ws a at steps next ok h here e)
 
-pub posts_other : (ws0 ws ws' : List ℕ) (a : Ask) (at at' steps steps' next : ℕ) → AskOk a → Posts ws0 a ws at steps next → next < length a.sent
-    → get_or a.sent next 0 ≢ get_or a.shown next 0 → ws' ≡ set ws (8 + at) (get_or a.sent at 0) → at' ≡ next → steps' ≡ rose steps → Posts ws0 a ws' at' steps' (next + 1)
-posts_other ws0 ws ws' a at at' steps steps' next ok h here e w p n = subst (λ (z : List ℕ × ℕ × ℕ). Posts ws0 a z.0 z.1 z.2 (next + 1)) (λ i. (sym w i, sym p i, sym n i)) (posts_on ws0 ws a at steps next ok h here e)
+pub posts_other : (from : ℕ) (ws0 ws ws' : List ℕ) (a : Ask) (at at' steps steps' next : ℕ) → AskOk a → Posts from ws0 a ws at steps next → next < length a.sent
+    → get_or a.sent next 0 ≢ get_or a.shown next 0 → ws' ≡ set ws (8 + at) (get_or a.sent at 0) → at' ≡ next → steps' ≡ rose steps → Posts from ws0 a ws' at' steps' (next + 1)
+posts_other from ws0 ws ws' a at at' steps steps' next ok h here e w p n = subst (λ (z : List ℕ × ℕ × ℕ). Posts from ws0 a z.0 z.1 z.2 (next + 1)) (λ i. (sym w i, sym p i, sym n i)) (posts_on from ws0 ws a at steps next ok h here e)
+
+-- at the end of the loop
+pub posts_done : (from : ℕ) (ws0 ws : List ℕ) (a b : Ask) (at steps next : ℕ) → Posts from ws0 a ws at steps next → length a.sent ≤ next
+    → b ≡ record a { stage = PostBlock at; steps = steps } → AskMoves (changes_from (from + 1) a.sent a.shown) ws0 a ws b
+posts_done from ws0 ws a b at steps next h end e = let none = changes_none next a.sent a.shown end in let l = h.all in let n : h.count ≡ changes_from (from + 1) a.sent a.shown = omega (arith, none, l) in
+    subst (λ (z : ℕ × Ask). AskMoves z.0 ws0 a ws z.1) (λ i. (n i, sym e i)) h.moves
 
 -- ---- the answering end
 
@@ -189,16 +201,21 @@ answers_more (suc n) ws ws1 a b h ok steps small told right goes = let v : ℕ =
     (h.0, h.1, h.2, h.3, h.4, h.5, answers_more n (act (answer_next a) ws) ws1 (answer_fed a v) b h.6 ok steps small told right goes)
 
 -- the words that changed before the place `next` are stored, but for the last of them
-pub record Replies (ws0 : List ℕ) (a : Answer) (ws : List ℕ) (at steps next : ℕ) : Type 0 where
-  pub moves : AnswerMoved ws0 a ws (record a { stage = ReplyBlock at; steps = steps })
+pub record Replies (from : ℕ) (ws0 : List ℕ) (a : Answer) (ws : List ℕ) (at steps next : ℕ) : Type 0 where
+  pub count : ℕ
+  pub moves : AnswerMoves count ws0 a ws (record a { stage = ReplyBlock at; steps = steps })
+  -- with those that are left
+  pub all : count + changes_from next a.out a.loaded ≡ changes_from (from + 1) a.out a.loaded
   pub right : AnswerOk (record a { stage = ReplyBlock at; steps = steps })
   pub past : at < next
   pub same : next_changed next a.out a.loaded ≡ next_changed (at + 1) a.out a.loaded
   pub long : length ws ≡ length ws0
 
-pub replies_start : (ws : List ℕ) (a : Answer) (from : ℕ) → AnswerOk a → a.stage ≡ ReplyBlock from → Replies ws a ws from a.steps (from + 1)
+pub replies_start : (ws : List ℕ) (a : Answer) (from : ℕ) → AnswerOk a → a.stage ≡ ReplyBlock from → Replies from ws a ws from a.steps (from + 1)
 replies_start ws a from ok e = record {
-  moves = (0, (refl, ap (λ (st : AnswerStage). record a { stage = st }) (sym e)));
+  count = 0;
+  moves = (refl, ap (λ (st : AnswerStage). record a { stage = st }) (sym e));
+  all = omega arith;
   right = subst (λ (st : AnswerStage). AnswerOk (record a { stage = st })) e ok;
   past = omega arith;
   same = refl;
@@ -206,10 +223,12 @@ replies_start ws a from ok e = record {
 }
 
 -- a word that did not change is passed over
-pub replies_over : (ws0 ws : List ℕ) (a : Answer) (at steps next : ℕ) → AnswerOk a → Replies ws0 a ws at steps next → next < length a.out
-    → get_or a.out next 0 ≡ get_or a.loaded next 0 → Replies ws0 a ws at steps (next + 1)
-replies_over ws0 ws a at steps next ok h here e = record {
+pub replies_over : (from : ℕ) (ws0 ws : List ℕ) (a : Answer) (at steps next : ℕ) → AnswerOk a → Replies from ws0 a ws at steps next → next < length a.out
+    → get_or a.out next 0 ≡ get_or a.loaded next 0 → Replies from ws0 a ws at steps (next + 1)
+replies_over from ws0 ws a at steps next ok h here e = record {
+  count = h.count;
   moves = h.moves;
+  all = ap (λ (n : ℕ). h.count + n) (sym (changes_same next a.out a.loaded here (ok.sized.out ∙ sym ok.sized.loaded) e)) ∙ h.all;
   right = h.right;
   past = let p = h.past in omega (arith, p);
   same = sym (next_same next a.out a.loaded here (ok.sized.out ∙ sym ok.sized.loaded) e) ∙ h.same;
@@ -217,18 +236,17 @@ replies_over ws0 ws a at steps next ok h here e = record {
 }
 
 -- at another word that changed, the one before is stored
-pub replies_on : (ws0 ws : List ℕ) (a : Answer) (at steps next : ℕ) → AnswerOk a → Replies ws0 a ws at steps next → next < length a.out
-    → get_or a.out next 0 ≢ get_or a.loaded next 0 → Replies ws0 a (set ws (8 + at) (get_or a.out at 0)) next (rose steps) (next + 1)
-replies_on ws0 ws a at steps next ok h here e = let b : Answer = record a { stage = ReplyBlock at; steps = steps } in let long : length a.out ≡ length a.loaded = ok.sized.out ∙ sym ok.sized.loaded in
+pub replies_on : (from : ℕ) (ws0 ws : List ℕ) (a : Answer) (at steps next : ℕ) → AnswerOk a → Replies from ws0 a ws at steps next → next < length a.out
+    → get_or a.out next 0 ≢ get_or a.loaded next 0 → Replies from ws0 a (set ws (8 + at) (get_or a.out at 0)) next (rose steps) (next + 1)
+replies_on from ws0 ws a at steps next ok h here e = let b : Answer = record a { stage = ReplyBlock at; steps = steps } in let long : length a.out ≡ length a.loaded = ok.sized.out ∙ sym ok.sized.loaded in
     let is : next_changed (at + 1) a.out a.loaded ≡ next = sym h.same ∙ next_other next a.out a.loaded here long e in
     let fed : reply_stage (at + 1) a.wiring a.out a.loaded ≡ ReplyBlock next = ap (λ (n : ℕ). reply_on (ltb n (length a.out)) n a.wiring) is ∙ ap (λ (m : Bool). reply_on m next a.wiring) (lt-ltb next (length a.out) here) in
     let r = h.right in let right : AnswerOk (record a { stage = ReplyBlock next; steps = rose steps }) = record { wired = r.wired; sized = r.sized; place = (let p = r.place.0 in let q = h.past in omega (arith, p, q), let s = ok.sized.out in omega (arith, here, s)); kept = r.kept; header = r.header } in record {
-      moves = (
-        suc h.moves.0,
-        subst (λ (st : AnswerStage). AnswerMoves (suc h.moves.0) ws0 a (set ws (8 + at) (get_or a.out at 0)) (record a { stage = st; steps = rose steps })) fed
-            (answers_more h.moves.0 ws0 ws a b h.moves.1 h.right (λ q. cc, λ q. cc) (omega arith) refl
-            (subst (λ (st : AnswerStage). AnswerOk (record a { stage = st; steps = rose steps })) (sym fed) right) (subst (λ (st : AnswerStage). st ≢ RunDevice) (sym fed) (λ q. cc))),
-      );
+      count = suc h.count;
+      moves = subst (λ (st : AnswerStage). AnswerMoves (suc h.count) ws0 a (set ws (8 + at) (get_or a.out at 0)) (record a { stage = st; steps = rose steps })) fed
+          (answers_more h.count ws0 ws a b h.moves h.right (λ q. cc, λ q. cc) (omega arith) refl
+          (subst (λ (st : AnswerStage). AnswerOk (record a { stage = st; steps = rose steps })) (sym fed) right) (subst (λ (st : AnswerStage). st ≢ RunDevice) (sym fed) (λ q. cc)));
+      all = let m = changes_other next a.out a.loaded here long e in let l = h.all in omega (arith, m, l);
       right = right;
       past = omega arith;
       same = refl;
@@ -236,13 +254,19 @@ replies_on ws0 ws a at steps next ok h here e = let b : Answer = record a { stag
     }
 
 -- a turn of the loop
-pub replies_same : (ws0 ws ws' : List ℕ) (a : Answer) (at at' steps steps' next : ℕ) → AnswerOk a → Replies ws0 a ws at steps next → next < length a.out
-    → get_or a.out next 0 ≡ get_or a.loaded next 0 → ws' ≡ ws → at' ≡ at → steps' ≡ steps → Replies ws0 a ws' at' steps' (next + 1)
-replies_same ws0 ws ws' a at at' steps steps' next ok h here e w p n = subst (λ (z : List ℕ × ℕ × ℕ). Replies ws0 a z.0 z.1 z.2 (next + 1)) (λ i. (sym w i, sym p i, sym n i)) (replies_over ws0 ws a at steps next ok h here e)
+pub replies_same : (from : ℕ) (ws0 ws ws' : List ℕ) (a : Answer) (at at' steps steps' next : ℕ) → AnswerOk a → Replies from ws0 a ws at steps next → next < length a.out
+    → get_or a.out next 0 ≡ get_or a.loaded next 0 → ws' ≡ ws → at' ≡ at → steps' ≡ steps → Replies from ws0 a ws' at' steps' (next + 1)
+replies_same from ws0 ws ws' a at at' steps steps' next ok h here e w p n = subst (λ (z : List ℕ × ℕ × ℕ). Replies from ws0 a z.0 z.1 z.2 (next + 1)) (λ i. (sym w i, sym p i, sym n i)) (replies_over from ws0 ws a at steps next ok h here e)
 
-pub replies_other : (ws0 ws ws' : List ℕ) (a : Answer) (at at' steps steps' next : ℕ) → AnswerOk a → Replies ws0 a ws at steps next → next < length a.out
-    → get_or a.out next 0 ≢ get_or a.loaded next 0 → ws' ≡ set ws (8 + at) (get_or a.out at 0) → at' ≡ next → steps' ≡ rose steps → Replies ws0 a ws' at' steps' (next + 1)
-replies_other ws0 ws ws' a at at' steps steps' next ok h here e w p n = subst (λ (z : List ℕ × ℕ × ℕ). Replies ws0 a z.0 z.1 z.2 (next + 1)) (λ i. (sym w i, sym p i, sym n i)) (replies_on ws0 ws a at steps next ok h here e)
+pub replies_other : (from : ℕ) (ws0 ws ws' : List ℕ) (a : Answer) (at at' steps steps' next : ℕ) → AnswerOk a → Replies from ws0 a ws at steps next → next < length a.out
+    → get_or a.out next 0 ≢ get_or a.loaded next 0 → ws' ≡ set ws (8 + at) (get_or a.out at 0) → at' ≡ next → steps' ≡ rose steps → Replies from ws0 a ws' at' steps' (next + 1)
+replies_other from ws0 ws ws' a at at' steps steps' next ok h here e w p n = subst (λ (z : List ℕ × ℕ × ℕ). Replies from ws0 a z.0 z.1 z.2 (next + 1)) (λ i. (sym w i, sym p i, sym n i)) (replies_on from ws0 ws a at steps next ok h here e)
+
+-- at the end of the loop
+pub replies_done : (from : ℕ) (ws0 ws : List ℕ) (a b : Answer) (at steps next : ℕ) → Replies from ws0 a ws at steps next → length a.out ≤ next
+    → b ≡ record a { stage = ReplyBlock at; steps = steps } → AnswerMoves (changes_from (from + 1) a.out a.loaded) ws0 a ws b
+replies_done from ws0 ws a b at steps next h end e = let none = changes_none next a.out a.loaded end in let l = h.all in let n : h.count ≡ changes_from (from + 1) a.out a.loaded = omega (arith, none, l) in
+    subst (λ (z : ℕ × Answer). AnswerMoves z.0 ws0 a ws z.1) (λ i. (n i, sym e i)) h.moves
 
 pub takes_move : (j : ℕ) (ws : List ℕ) (b : Answer) → ((p : ℕ) → get_or ws p 0 < 2 ^ 64) → AnswerOk b → b.stage ≡ TakeBlock j
     → AnswerMoves (before_last j b.wiring) ws b ws (record b { stage = TakeBlock (block_of b.wiring - 1); loaded = with_loaded (before_last j b.wiring) j ws b.loaded; steps = risen (before_last j b.wiring) b.steps })
@@ -259,18 +283,18 @@ last_less j last w e = ap (λ (n : ℕ). n - j) e
 
 pub look_moved : (j last steps : ℕ) (ws block : List ℕ) (a b : Ask) → ((p : ℕ) → get_or ws p 0 < 2 ^ 64) → AskOk a → a.stage ≡ LookBlock j
     → last ≡ block_of a.wiring - 1 → block ≡ with_loaded (last - j) j ws a.loaded → steps ≡ risen (last - j) a.steps
-    → b ≡ record a { stage = LookBlock last; loaded = block; steps = steps } → AskMoved ws a ws b
+    → b ≡ record a { stage = LookBlock last; loaded = block; steps = steps } → AskMoves (before_last j a.wiring) ws a ws b
 look_moved j last steps ws block a b small ok st e el es eb = let n : ℕ = before_last j a.wiring in let k : last - j ≡ n = last_less j last a.wiring e in
     let l : block ≡ with_loaded n j ws a.loaded = el ∙ ap (λ (m : ℕ). with_loaded m j ws a.loaded) k in
     let s : steps ≡ risen n a.steps = es ∙ ap (λ (m : ℕ). risen m a.steps) k in
     let x : b ≡ record a { stage = LookBlock (block_of a.wiring - 1); loaded = with_loaded n j ws a.loaded; steps = risen n a.steps } = eb ∙ (λ i. record a { stage = LookBlock (e i); loaded = l i; steps = s i }) in
-    (n, subst (λ (z : Ask). AskMoves n ws a ws z) (sym x) (looks_move j ws a small ok st))
+    subst (λ (z : Ask). AskMoves n ws a ws z) (sym x) (looks_move j ws a small ok st)
 
 pub take_moved : (j last steps : ℕ) (ws block : List ℕ) (a b : Answer) → ((p : ℕ) → get_or ws p 0 < 2 ^ 64) → AnswerOk a → a.stage ≡ TakeBlock j
     → last ≡ block_of a.wiring - 1 → block ≡ with_loaded (last - j) j ws a.loaded → steps ≡ risen (last - j) a.steps
-    → b ≡ record a { stage = TakeBlock last; loaded = block; steps = steps } → AnswerMoved ws a ws b
+    → b ≡ record a { stage = TakeBlock last; loaded = block; steps = steps } → AnswerMoves (before_last j a.wiring) ws a ws b
 take_moved j last steps ws block a b small ok st e el es eb = let n : ℕ = before_last j a.wiring in let k : last - j ≡ n = last_less j last a.wiring e in
     let l : block ≡ with_loaded n j ws a.loaded = el ∙ ap (λ (m : ℕ). with_loaded m j ws a.loaded) k in
     let s : steps ≡ risen n a.steps = es ∙ ap (λ (m : ℕ). risen m a.steps) k in
     let x : b ≡ record a { stage = TakeBlock (block_of a.wiring - 1); loaded = with_loaded n j ws a.loaded; steps = risen n a.steps } = eb ∙ (λ i. record a { stage = TakeBlock (e i); loaded = l i; steps = s i }) in
-    (n, subst (λ (z : Answer). AnswerMoves n ws a ws z) (sym x) (takes_move j ws a small ok st))
+    subst (λ (z : Answer). AnswerMoves n ws a ws z) (sym x) (takes_move j ws a small ok st)

@@ -5,8 +5,8 @@ use Rattle.std.proofs.lemmas.Bool.{lt-ltb, le-ltb}
 use borrow.Author.Tests.{ltb-true, ltb-false, eqb-true, eqb-false}
 use Rattle.pcc_steps.specs.Runs.{Run, stores, store_changed}
 use Rattle.pcc_steps.specs.Agree.{mix}
-use Rattle.pcc_steps.specs.Changes.{first_changed, next_changed}
-use Rattle.pcc_steps.proofs.Lists.{none_left}
+use Rattle.pcc_steps.specs.Changes.{first_changed, next_changed, changes, changes_from}
+use Rattle.pcc_steps.proofs.Lists.{none_left, dropped}
 
 -- a choice is told from both of its cases
 pub chosen : {A : Type 0} (b : Bool) (x y z : A) → (b ≡ true → x ≡ z) → (b ≡ false → y ≡ z) → (if b then x else y) ≡ z
@@ -51,6 +51,25 @@ next_other (suc j) (x ∷ xs) (y ∷ ys) h e other = next_suc j x y xs ys ∙ ap
 
 pub next_none : (j : ℕ) (new old : List ℕ) → length new ≤ j → next_changed j new old ≡ j
 next_none j new old h = ap (λ (l : List ℕ). first_changed j l (drop j old)) (none_left j new h)
+
+-- ---- how many words changed, by the word that stands there
+
+there : (j : ℕ) (new old : List ℕ) → j < length new → length new ≡ length old
+    → changes_from j new old ≡ (let n = changes_from (j + 1) new old in if get_or new j 0 == get_or old j 0 then n else n + 1)
+there j new old h e = let p = dropped j new h in let q = dropped j old (omega arith) in λ i. changes (p i) (q i)
+
+pub changes_same : (j : ℕ) (new old : List ℕ) → j < length new → length new ≡ length old → get_or new j 0 ≡ get_or old j 0
+    → changes_from j new old ≡ changes_from (j + 1) new old
+changes_same j new old h e same = let n : ℕ = changes_from (j + 1) new old in there j new old h e
+    ∙ chosen (get_or new j 0 == get_or old j 0) n (n + 1) n (λ q. refl) (λ q. absurd (eqb-false (get_or new j 0) (get_or old j 0) q same))
+
+pub changes_other : (j : ℕ) (new old : List ℕ) → j < length new → length new ≡ length old → get_or new j 0 ≢ get_or old j 0
+    → changes_from j new old ≡ changes_from (j + 1) new old + 1
+changes_other j new old h e other = let n : ℕ = changes_from (j + 1) new old in there j new old h e
+    ∙ chosen (get_or new j 0 == get_or old j 0) n (n + 1) (n + 1) (λ q. absurd (other (eqb-true (get_or new j 0) (get_or old j 0) q))) (λ q. refl)
+
+pub changes_none : (j : ℕ) (new old : List ℕ) → length new ≤ j → changes_from j new old ≡ 0
+changes_none j new old h = ap (λ (l : List ℕ). changes l (drop j old)) (none_left j new h)
 
 -- ---- where it can be
 

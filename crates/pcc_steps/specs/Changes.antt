@@ -10,3 +10,13 @@ first_changed j (w ∷ ws) (o ∷ os) = if w == o then first_changed (j + 1) ws 
 -- the place of the first word of a block, from the place j on, that differs from the old one
 abbrev pub next_changed : ℕ → List ℕ → List ℕ → ℕ
 next_changed j new old = first_changed j (drop j new) (drop j old)
+
+-- how many of the words differ from the old ones
+abbrev pub changes : List ℕ → List ℕ → ℕ
+changes [] old = 0
+changes (w ∷ ws) [] = changes ws [] + 1
+changes (w ∷ ws) (o ∷ os) = if w == o then changes ws os else changes ws os + 1
+
+-- how many words of a block differ from the old ones, from the place j on
+abbrev pub changes_from : ℕ → List ℕ → List ℕ → ℕ
+changes_from j new old = changes (drop j new) (drop j old)

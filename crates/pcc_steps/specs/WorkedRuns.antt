@@ -177,7 +177,8 @@ look_reduced5 = looking (wired 5 false true false no_update) (1 ∷ 4 ∷ 5 ∷ 
       end = Some (drains true (5 ∷ 7 ∷ []));
     }
 
--- ---- the doorbell line, what acknowledges it, the block, the words of the reply that differ from it, the error register, completion, the doorbell and the interrupt line
+-- ---- the doorbell line, what acknowledges it, the block, the words of the reply that differ from it, the error register, completion, the
+-- doorbell and the interrupt line
 
 abbrev pub answer_none : Type 0
 answer_none = answering false (wired 3 true true true clearing) (0 ∷ [])

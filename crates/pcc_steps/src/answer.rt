@@ -1,6 +1,6 @@
 //! The answering machine: it takes commands and answers them, one word step at a time (ACPI 6.5, 14.5).
 
-ghost use Rattle.std.specs.Prelude.{ℕ, ◌≡◌, ◌↔◌, ◌<◌, ◌≤◌, ◌+◌, ◌/◌, ◌%◌, ◌^◌, ◌++◌, length, take, IfOk, Some};
+ghost use Rattle.std.specs.Prelude.{ℕ, ◌≡◌, ◌↔◌, ◌<◌, ◌≤◌, ◌+◌, ◌-◌, ◌/◌, ◌%◌, ◌^◌, ◌++◌, length, take, IfOk, Some};
 ghost use Rattle.std.specs.Borrow.{sem};
 ghost use Rattle.shmem_header.specs.Spelling.{words_of};
 ghost use Rattle.pcc_steps.specs.declared.answer.AnswerStage.TheVariants.{AnswerRest, TakeLine, TakeBlock, RunDevice, ReplyBlock};
@@ -8,7 +8,8 @@ ghost use Rattle.pcc_steps.specs.declared.answer.AnswerOutcome.TheVariants.{Idle
 ghost use Rattle.pcc_steps.specs.declared.wiring.Action.TheVariants.{Rest};
 ghost use Rattle.pcc_steps.specs.Asking.{IsWithin};
 ghost use Rattle.pcc_steps.specs.Wires.{IsRight, style_of, heads_of, block_of, status_of, code_by, asks_by, four_by};
-ghost use Rattle.pcc_steps.specs.Moves.{AnswerMoved};
+ghost use Rattle.pcc_steps.specs.Changes.{changes_from};
+ghost use Rattle.pcc_steps.specs.Moves.{AnswerMoves, answer_moves};
 ghost use Rattle.pcc_steps.specs.Runs.{error_word};
 ghost use Rattle.pcc_steps.specs.Answering.{Answer, AnswerOk, IsNewAnswer, IsAnswerStepping, IsTaking, IsReplying, IsCompleting, answer_fed_at, answer_told_at, IsExecute, answer_next, answer_fed, answer_told, answer_begun, answer_ran, ran_with, answer_code, served_at, after_ack, after_take, after_error, after_reply, reply_stage, after_close, after_done, done_stage, asks_notify, update_stage, AnswerPlace};
 ghost use Rattle.pcc_exec.specs.Execution.{is_bad};
@@ -229,7 +230,7 @@ pub fn answer_feed(answer: &mut AnswerState, value: u64) -> Option<AnswerOutcome
 #[inline(always)]
 pub fn answer_block(words: &mut [u64], answer: &mut AnswerState)
     requires { length words.old ≡ 8 + block_of answer.old.wiring }
-    ensures { AnswerMoved words.old answer.old words.new answer.new }
+    ensures { AnswerMoves (answer_moves answer.old.stage answer.old) words.old answer.old words.new answer.new }
 {
     match answer.stage {
         AnswerStage::TakeBlock(from) => take_block(words, answer, from),
@@ -242,7 +243,7 @@ pub fn answer_block(words: &mut [u64], answer: &mut AnswerState)
 fn take_block(words: &[u64], answer: &mut AnswerState, from: u32)
     requires stage { answer.old.stage ≡ TakeBlock from }
     requires long { length words.now ≡ 8 + block_of answer.old.wiring }
-    ensures { AnswerMoved words.now answer.old words.now answer.new }
+    ensures { AnswerMoves (block_of answer.old.wiring - 1 - from) words.now answer.old words.now answer.new }
 {
     let last = answer.wiring.block() - 1;
     load_words(words, from as usize, last as usize, &mut answer.loaded);
@@ -251,10 +252,11 @@ fn take_block(words: &[u64], answer: &mut AnswerState, from: u32)
 }
 
 // Stores the words that changed, but the last of them.
+#[tactic(auto, using(crate::proofs::BlockMoves::replies_done))]
 fn reply_block(words: &mut [u64], answer: &mut AnswerState, from: u32)
     requires stage { answer.old.stage ≡ ReplyBlock from }
     requires long { length words.old ≡ 8 + block_of answer.old.wiring }
-    ensures { AnswerMoved words.old answer.old words.new answer.new }
+    ensures { AnswerMoves (changes_from (from + 1) answer.old.out answer.old.loaded) words.old answer.old words.new answer.new }
 {
     let mut at = from as usize;
     let mut steps = answer.steps;

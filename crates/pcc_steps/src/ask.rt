@@ -1,13 +1,14 @@
 //! The asking machine: it posts commands, and looks for their completion, one word step at a time (ACPI 6.5, 14.5).
 
-ghost use Rattle.std.specs.Prelude.{◌≡◌, ◌↔◌, ◌<◌, ◌≤◌, ◌+◌, ◌/◌, ◌^◌, length, true, false, IfOk, Some};
+ghost use Rattle.std.specs.Prelude.{◌≡◌, ◌↔◌, ◌<◌, ◌≤◌, ◌+◌, ◌-◌, ◌/◌, ◌^◌, length, true, false, IfOk, Some};
 ghost use Rattle.pcc_history.specs.Channel.{over};
 ghost use Rattle.pcc_steps.specs.declared.ask.AskStage.TheVariants.{AskRest, PostBlock, LookWord, LookBlock};
 ghost use Rattle.pcc_steps.specs.declared.wiring.Action.TheVariants.{Rest};
 ghost use Rattle.pcc_steps.specs.declared.ask.AskOutcome.TheVariants.{Clear, Drained};
 ghost use Rattle.pcc_steps.specs.Kinds.{IsHeaded};
 ghost use Rattle.pcc_steps.specs.Wires.{IsRight, block_of, sees_done, sent_header};
-ghost use Rattle.pcc_steps.specs.Moves.{AskMoved};
+ghost use Rattle.pcc_steps.specs.Changes.{changes_from};
+ghost use Rattle.pcc_steps.specs.Moves.{AskMoves, ask_moves};
 ghost use Rattle.pcc_steps.specs.Asking.{Ask, AskOk, IsNewAsk, IsAskRunning, IsPosting, IsReading, IsWithin, ask_fed_at, ask_told_at, ask_next, ask_fed, ask_told, ask_begun, ask_looking, ask_budgeted, drained, after_block, block_stage, after_update, after_mark, after_bell, after_look};
 
 use crate::block::{FIRST, fill_block, fill_opening, lay, load_words, next_changed};
@@ -322,7 +323,7 @@ pub fn ask_feed(ask: &mut AskState, value: u64) -> Option<AskOutcome>
 #[inline(always)]
 pub fn ask_block(words: &mut [u64], ask: &mut AskState)
     requires { length words.old ≡ 8 + block_of ask.old.wiring }
-    ensures { AskMoved words.old ask.old words.new ask.new }
+    ensures { AskMoves (ask_moves ask.old.stage ask.old) words.old ask.old words.new ask.new }
 {
     match ask.stage {
         AskStage::PostBlock(from) => post_block(words, ask, from),
@@ -332,10 +333,11 @@ pub fn ask_block(words: &mut [u64], ask: &mut AskState)
 }
 
 // Stores the words that changed, but the last of them.
+#[tactic(auto, using(crate::proofs::BlockMoves::posts_done))]
 fn post_block(words: &mut [u64], ask: &mut AskState, from: u32)
     requires stage { ask.old.stage ≡ PostBlock from }
     requires long { length words.old ≡ 8 + block_of ask.old.wiring }
-    ensures { AskMoved words.old ask.old words.new ask.new }
+    ensures { AskMoves (changes_from (from + 1) ask.old.sent ask.old.shown) words.old ask.old words.new ask.new }
 {
     let mut at = from as usize;
     let mut steps = ask.steps;
@@ -354,7 +356,7 @@ fn post_block(words: &mut [u64], ask: &mut AskState, from: u32)
 fn look_block(words: &[u64], ask: &mut AskState, from: u32)
     requires stage { ask.old.stage ≡ LookBlock from }
     requires long { length words.now ≡ 8 + block_of ask.old.wiring }
-    ensures { AskMoved words.now ask.old words.now ask.new }
+    ensures { AskMoves (block_of ask.old.wiring - 1 - from) words.now ask.old words.now ask.new }
 {
     let last = ask.wiring.block() - 1;
     load_words(words, from as usize, last as usize, &mut ask.loaded);

@@ -1,5 +1,6 @@
 //! The tables of the runs, evaluated on worked runs of each type.
-ghost use Rattle.pcc_steps.specs.WorkedRuns.{post_headed, post_headed_again, post_joined3, post_separate3, post_joined4, post_separate4, post_reduced5};
+ghost use Rattle.pcc_steps.specs.WorkedRuns.{post_headed, post_headed_again};
+ghost use Rattle.pcc_steps.specs.WorkedRuns.{post_joined3, post_separate3, post_joined4, post_separate4, post_reduced5};
 ghost use Rattle.pcc_steps.specs.WorkedRuns.{look_clear, look_headed, look_headed_quietly, look_joined3, look_separate3, look_joined4, look_separate4, look_reduced5};
 ghost use Rattle.pcc_steps.specs.WorkedRuns.{answer_none, answer_headed, answer_joined3, answer_separate3, answer_joined4, answer_separate4, answer_reduced5};
 

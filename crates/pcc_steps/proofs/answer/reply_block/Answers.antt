@@ -21,6 +21,6 @@ loop-next-preserved c = let x = c.answer.inside in let a : Answer = record {
     let old : c.index-in-loop-next.result.now ≡ get_or a.loaded l.next 0 = c.index-in-loop-next.ensures ∙ get_there a.loaded l.next _ 0 (search rules) in
     elim m.branch [
       | then-index w ↦ let stored = w.words-is ∙ ap (λ (v : ℕ). set l.words (8 + l.at) v) (w.index-then-index.ensures ∙ get_there a.out l.at _ 0 (search rules)) in
-          replies_other c.args.words.now l.words m.words a l.at m.at l.steps m.steps l.next c.answer.invariant l.invariant (search rules) (λ e. w.if-index.true (new ∙ e ∙ sym old)) stored (search rules) (search rules)
-      | else-index w ↦ replies_same c.args.words.now l.words m.words a l.at m.at l.steps m.steps l.next c.answer.invariant l.invariant (search rules) (sym new ∙ w.if-index.false ∙ old) (search rules) (search rules) (search rules)
+          replies_other c.args.from c.args.words.now l.words m.words a l.at m.at l.steps m.steps l.next c.answer.invariant l.invariant (search rules) (λ e. w.if-index.true (new ∙ e ∙ sym old)) stored (search rules) (search rules)
+      | else-index w ↦ replies_same c.args.from c.args.words.now l.words m.words a l.at m.at l.steps m.steps l.next c.answer.invariant l.invariant (search rules) (sym new ∙ w.if-index.false ∙ old) (search rules) (search rules) (search rules)
     ]

@@ -14,4 +14,4 @@ invariant-loop-next l = let x = l.answer-inside in let a : Answer = record {
   space = x.space.items;
   steps = x.steps;
 } in
-    Replies l.initial.words a l.words l.at l.steps l.next
+    Replies l.from l.initial.words a l.words l.at l.steps l.next

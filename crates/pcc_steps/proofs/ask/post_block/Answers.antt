@@ -27,6 +27,6 @@ loop-next-preserved c = let x = c.ask.inside in let a : Ask = record {
     let old : c.index-in-loop-next.result.now ≡ get_or a.shown l.next 0 = c.index-in-loop-next.ensures ∙ get_there a.shown l.next _ 0 (search rules) in
     elim m.branch [
       | then-index w ↦ let stored = w.words-is ∙ ap (λ (v : ℕ). set l.words (8 + l.at) v) (w.index-then-index.ensures ∙ get_there a.sent l.at _ 0 (search rules)) in
-          posts_other c.args.words.now l.words m.words a l.at m.at l.steps m.steps l.next c.ask.invariant l.invariant (search rules) (λ e. w.if-index.true (new ∙ e ∙ sym old)) stored (search rules) (search rules)
-      | else-index w ↦ posts_same c.args.words.now l.words m.words a l.at m.at l.steps m.steps l.next c.ask.invariant l.invariant (search rules) (sym new ∙ w.if-index.false ∙ old) (search rules) (search rules) (search rules)
+          posts_other c.args.from c.args.words.now l.words m.words a l.at m.at l.steps m.steps l.next c.ask.invariant l.invariant (search rules) (λ e. w.if-index.true (new ∙ e ∙ sym old)) stored (search rules) (search rules)
+      | else-index w ↦ posts_same c.args.from c.args.words.now l.words m.words a l.at m.at l.steps m.steps l.next c.ask.invariant l.invariant (search rules) (sym new ∙ w.if-index.false ∙ old) (search rules) (search rules) (search rules)
     ]

@@ -20,4 +20,4 @@ invariant-loop-next l = let x = l.ask-inside in let a : Ask = record {
   posts = x.posts;
   steps = x.steps;
 } in
-    Posts l.initial.words a l.words l.at l.steps l.next
+    Posts l.from l.initial.words a l.words l.at l.steps l.next
