@@ -1,16 +1,17 @@
 //! Both machines along hand-made traces of words.
-ghost use Rattle.std.specs.Prelude.{◌≡◌};
+ghost use Rattle.std.specs.Prelude.{◌≡◌, ◌+◌, length, true};
+ghost use Rattle.pcc_steps.specs.Asking.{IsWithin};
 ghost use Rattle.pcc_steps.specs.Kinds.{IsHeaded};
-ghost use Rattle.pcc_steps.specs.Wires.{IsRight};
+ghost use Rattle.pcc_steps.specs.Wires.{IsRight, block_of};
 
 use crate::subspaces::wired;
 use Action::{Load, Store, Swap};
 use pcc_exec::ExecStatus;
 use pcc_gas::Masks;
 use pcc_steps::{
-    Action, AnswerOutcome, AnswerState, AskOutcome, AskState, Wiring, answer_feed, answer_next,
-    answer_ran, answer_space, answer_start, ask_begin, ask_block, ask_budget, ask_feed, ask_look,
-    ask_next, opening_words, perform,
+    Action, AnswerOutcome, AnswerState, AskOutcome, AskState, Wiring, answer_block, answer_feed,
+    answer_next, answer_ran, answer_space, answer_start, ask_begin, ask_block, ask_budget,
+    ask_feed, ask_look, ask_next, opening_words, perform,
 };
 
 // A subspace with a space of 8 bytes and an 8-bit doorbell.
@@ -71,7 +72,9 @@ fn executes(
     input: &[u8],
     reply: &[u8],
     status: ExecStatus,
-) -> bool {
+) -> bool
+    ensures { answer.new.wiring ≡ answer.old.wiring }
+{
     match answer_next(answer) {
         Action::Execute { code: next } => {
             if next != code {
@@ -258,17 +261,95 @@ fn word_steps_on_a_plain_list(rt: HostRuntime) {
     assert!(rt; perform(&mut words, Load(3)) == 8 && words == [5, 6, 0, 8]);
 }
 
-#[test]
-fn the_words_of_a_block_before_its_last_one_are_moved_at_once(rt: HostRuntime) {
-    let wiring = with_short_bell(wired(0, 24, false, false));
-    let mut ask = AskState::new(rt.alloc(), wiring, &[3; 24]).expect(&rt, "memory");
-    let mut words = [0; 11];
-    ask_begin(&mut ask, 16, &[1, 2]);
-    if words.len() != wiring.words() as usize {
-        panic!(rt; "a block of three words");
+// A space of five words: the bytes change the words 0, 2 and 3.
+const INPUT: [u8; 32] = [
+    1, 2, 3, 3, 3, 3, 3, 3, 3, 3, 3, 3, 3, 3, 3, 3, 4, 3, 3, 3, 3, 3, 3, 3, 3, 3, 3, 3, 3, 3, 3, 5,
+];
+
+// Is it a word step on one of these words?
+fn is_on(words: &[u64], action: Action) -> bool
+    ensures { result ≡ true → IsWithin (length words.now) action }
+{
+    match action {
+        Load(place) | Store(place, _) | Swap(place, _) => (place as usize) < words.len(),
+        Action::Execute { .. } | Action::Rest => false,
     }
-    ask_block(&mut words, &mut ask);
-    let moved = [
+}
+
+// Makes word steps until this one is next, or the run ends, and returns its outcome.
+fn ask_until(words: &mut [u64], ask: &mut AskState, last: Action) -> Option<AskOutcome> {
+    for _ in 0..40 {
+        let next = ask_next(ask);
+        if next == last || next == Action::Rest || !is_on(words, next) {
+            return None;
+        }
+        let value = perform(words, next);
+        let told = ask_feed(ask, value);
+        if told.is_some() {
+            return told;
+        }
+    }
+    None
+}
+
+// The same for the answering machine, or until the device is next.
+#[tactic(auto, using(pcc_steps::proofs::Wired::answer_wired))]
+fn answer_until(words: &mut [u64], answer: &mut AnswerState, last: Action) -> Option<AnswerOutcome>
+    ensures { answer.new.wiring ≡ answer.old.wiring }
+{
+    for _ in 0..40 {
+        let next = answer_next(answer);
+        match next {
+            Action::Rest | Action::Execute { .. } => return None,
+            _ => {
+                if next == last || !is_on(words, next) {
+                    return None;
+                }
+            }
+        }
+        let value = perform(words, next);
+        let told = answer_feed(answer, value);
+        if told.is_some() {
+            return told;
+        }
+    }
+    None
+}
+
+// Moves the words of the block at once, and returns the step that is next.
+fn ask_moved(words: &mut [u64], ask: &mut AskState) -> Action {
+    if words.len() != ask.wiring().words() as usize {
+        return Action::Rest;
+    }
+    ask_block(words, ask);
+    ask_next(ask)
+}
+
+#[tactic(auto, using(channel_turns::proofs::AnswerRuns::moves_wired))]
+fn answer_moved(words: &mut [u64], answer: &mut AnswerState) -> Action
+    requires { length words.old ≡ 8 + block_of answer.old.wiring }
+    ensures { answer.new.wiring ≡ answer.old.wiring }
+{
+    answer_block(words, answer);
+    answer_next(answer)
+}
+
+#[test]
+fn words_that_the_asking_machine_moves_at_once(rt: HostRuntime) {
+    let wiring = with_short_bell(wired(0, 40, false, false));
+    let mut ask = AskState::new(rt.alloc(), wiring, &[3; 40]).expect(&rt, "memory");
+    let mut stepped = AskState::new(rt.alloc(), wiring, &[3; 40]).expect(&rt, "memory");
+    let mut words = [0; 13];
+    let mut others = [0; 13];
+    ask_budget(&mut ask, 3);
+    ask_budget(&mut stepped, 3);
+    ask_begin(&mut ask, 16, &INPUT);
+    ask_begin(&mut stepped, 16, &INPUT);
+    let last = Store(11, 0x0503_0303_0303_0303);
+    assert!(rt; ask_moved(&mut words, &mut ask) == last);
+    assert!(rt; ask_until(&mut others, &mut stepped, last).is_none());
+    assert!(rt; ask_next(&stepped) == last && ask.steps() == 2 && stepped.steps() == 2);
+    let stored = [
         0,
         0,
         0,
@@ -278,9 +359,113 @@ fn the_words_of_a_block_before_its_last_one_are_moved_at_once(rt: HostRuntime) {
         0,
         0,
         0x0303_0303_0303_0201,
-        0x0303_0303_0303_0303,
+        0,
+        0x0303_0303_0303_0304,
+        0,
         0,
     ];
-    assert!(rt; words == moved && ask.steps() == 2);
-    assert!(rt; ask_next(&ask) == Store(10, 0x0303_0303_0303_0303));
+    assert!(rt; words == stored && others == stored);
+    assert!(rt; ask_until(&mut words, &mut ask, Action::Rest) == Some(AskOutcome::Posted));
+    assert!(rt; ask_until(&mut others, &mut stepped, Action::Rest) == Some(AskOutcome::Posted));
+    assert!(rt; words == others && ask.steps() == 7 && stepped.steps() == 7);
+    let reply = [0x0001_0010_5043_4300, 0, 0, 0, 0, 0, 0, 0, 5, 6, 7, 8, 9];
+    words = reply;
+    others = reply;
+    if !ask.in_flight() || ask.looks() >= ask.budget() || ask_next(&ask) != Action::Rest {
+        panic!(rt; "a look can begin");
+    }
+    ask_look(&mut ask);
+    if !stepped.in_flight()
+        || stepped.looks() >= stepped.budget()
+        || ask_next(&stepped) != Action::Rest
+    {
+        panic!(rt; "a look can begin");
+    }
+    ask_look(&mut stepped);
+    assert!(rt; ask_until(&mut words, &mut ask, Load(8)).is_none());
+    assert!(rt; ask_moved(&mut words, &mut ask) == Load(12));
+    assert!(rt; ask_until(&mut others, &mut stepped, Load(12)).is_none());
+    assert!(rt; ask_next(&stepped) == Load(12) && ask.steps() == 12 && stepped.steps() == 12);
+    let drained = AskOutcome::Drained { error: false };
+    assert!(rt; ask_until(&mut words, &mut ask, Action::Rest) == Some(drained));
+    assert!(rt; ask_until(&mut others, &mut stepped, Action::Rest) == Some(drained));
+    assert!(rt; words == reply && others == reply && ask.space() == stepped.space());
+    // what was loaded is what the next command is compared with
+    if ask.in_flight() || ask.posts() >= 4096 || ask_next(&ask) != Action::Rest {
+        panic!(rt; "a post can begin");
+    }
+    if ask.wiring().kind != 0 || ask.wiring().room != 40 {
+        panic!(rt; "the subspace stays");
+    }
+    ask_begin(&mut ask, 16, &[]);
+    assert!(rt; ask_next(&ask) == Store(0, 0x0000_0010_5043_4300));
+}
+
+// A reply of which the words 0, 2 and 3 differ from the input.
+const REPLY: [u8; 40] = [
+    9, 2, 3, 3, 3, 3, 3, 3, 3, 3, 3, 3, 3, 3, 3, 3, 3, 3, 3, 3, 3, 3, 3, 3, 3, 3, 3, 3, 3, 3, 3, 3,
+    3, 3, 3, 3, 3, 3, 3, 3,
+];
+
+#[test]
+fn words_that_the_answering_machine_moves_at_once(rt: HostRuntime) {
+    let wiring = with_short_bell(wired(0, 40, false, false));
+    let mut answer = AnswerState::new(rt.alloc(), wiring).expect(&rt, "memory");
+    let mut stepped = AnswerState::new(rt.alloc(), wiring).expect(&rt, "memory");
+    let command = [
+        0x0000_0010_5043_4300,
+        0,
+        1,
+        0,
+        0,
+        0,
+        0,
+        0,
+        0x0303_0303_0303_0201,
+        0x0303_0303_0303_0303,
+        0x0303_0303_0303_0304,
+        0x0503_0303_0303_0303,
+        0x0303_0303_0303_0303,
+    ];
+    let mut words = command;
+    let mut others = command;
+    if words.len() != wiring.words() as usize {
+        panic!(rt; "a block of five words");
+    }
+    answer_start(&mut answer);
+    answer_start(&mut stepped);
+    assert!(rt; answer_until(&mut words, &mut answer, Load(8)).is_none());
+    assert!(rt; answer_moved(&mut words, &mut answer) == Load(12));
+    assert!(rt; answer_until(&mut others, &mut stepped, Load(12)).is_none());
+    assert!(rt; answer_next(&stepped) == Load(12) && answer.steps() == 6 && stepped.steps() == 6);
+    assert!(rt; answer_until(&mut words, &mut answer, Action::Rest).is_none());
+    assert!(rt; answer_until(&mut others, &mut stepped, Action::Rest).is_none());
+    let mut input = [3; 40];
+    input[..32].copy_from_slice(&INPUT);
+    assert!(rt; executes(&mut answer, 16, &input, &REPLY, ExecStatus::Good));
+    assert!(rt; executes(&mut stepped, 16, &input, &REPLY, ExecStatus::Good));
+    let last = Store(11, 0x0303_0303_0303_0303);
+    assert!(rt; answer_moved(&mut words, &mut answer) == last);
+    assert!(rt; answer_until(&mut others, &mut stepped, last).is_none());
+    assert!(rt; answer_next(&stepped) == last && answer.steps() == 9 && stepped.steps() == 9);
+    let stored = [
+        0x0000_0010_5043_4300,
+        0,
+        0,
+        0,
+        0,
+        0,
+        0,
+        0,
+        0x0303_0303_0303_0209,
+        0x0303_0303_0303_0303,
+        0x0303_0303_0303_0303,
+        0x0503_0303_0303_0303,
+        0x0303_0303_0303_0303,
+    ];
+    assert!(rt; words == stored && others == stored);
+    let served = Some(AnswerOutcome::Served);
+    assert!(rt; answer_until(&mut words, &mut answer, Action::Rest) == served);
+    assert!(rt; answer_until(&mut others, &mut stepped, Action::Rest) == served);
+    assert!(rt; words == others && answer.steps() == 11 && stepped.steps() == 11);
 }
