@@ -1,5 +1,5 @@
 -- A pick of the answering side adds a step to the runs of a trace.
-use Rattle.std.proofs.Common.{◌≡◌, ℕ, ◌+◌, ◌/◌, ◌%◌, Bool, true, false, eqb, List, [], ◌∷◌, ◌++◌, length, drop, set, map, refl, sym, ap, ◌∙◌, subst, arith, length-set, length-drop}
+use Rattle.std.proofs.Common.{◌≡◌, ℕ, ◌+◌, ◌/◌, ◌%◌, Bool, true, false, eqb, ltb, List, [], ◌∷◌, ◌++◌, length, drop, set, map, refl, sym, ap, ◌∙◌, subst, arith, length-set, length-drop}
 use Rattle.std.specs.Prelude.{Option, Some, None}
 use Rattle.std.proofs.lemmas.List.{append-nil, append_assoc}
 use Rattle.pcc_history.specs.Devices.{Device, Executed}
@@ -16,11 +16,12 @@ use Rattle.pcc_steps.specs.declared.answer.AnswerStage.{AnswerStage}
 use Rattle.pcc_steps.specs.declared.answer.AnswerStage.TheVariants.{AnswerRest, TakeLine, TakeAckLoad, TakeAckStore, TakeHeader, TakeBlock, RunDevice, ReplyBlock, ReplyError, ReplyHeader, ReplyUpdateLoad, ReplyUpdateStore, ReplyMarkLoad, ReplyMarkStore, CloseBellLoad, CloseBellStore, CloseLine}
 use Rattle.pcc_steps.specs.declared.answer.AnswerOutcome.{AnswerOutcome}
 use Rattle.pcc_steps.specs.declared.answer.AnswerOutcome.TheVariants.{Idle, Served}
+use Rattle.pcc_steps.specs.Changes.{next_changed}
 use Rattle.pcc_steps.specs.Wires.{style_of, heads_of, block_of, tells_error, four_by}
 use Rattle.pcc_steps.specs.Runs.{Run, ends, loads, stores, swaps, executes, AnswerEnd, finds_none, serves, answer_run}
 use Rattle.pcc_steps.specs.Walk.{Takes, Gives, answer_left, answer_after}
 use Rattle.pcc_steps.specs.Asking.{has_more}
-use Rattle.pcc_steps.specs.Answering.{Answer, AnswerOk, answer_code, answer_next, answer_next_at, answer_fed, answer_fed_at, answer_told, answer_begun, after_ack, after_take, after_error, after_reply, after_close, after_done, after_update, done_stage, asks_notify, take_on, load_on, reply_on, ran_with}
+use Rattle.pcc_steps.specs.Answering.{Answer, AnswerOk, answer_code, answer_next, answer_next_at, answer_fed, answer_fed_at, answer_told, answer_begun, after_ack, after_take, after_error, after_reply, after_close, after_done, after_update, done_stage, asks_notify, take_on, load_on, reply_stage, ran_with}
 use Rattle.pcc_steps.specs.Agree.{act, Answerer, IsBetween, settle, settle_at, executed, found}
 use Rattle.pcc_steps.specs.Laws.{AnswersByTable, AnswerStepsByTable, ExecutesByTable}
 use Rattle.channel_core.specs.Executions.{command_by}
@@ -33,6 +34,7 @@ use Rattle.channel_plain.specs.WordRuns.{Answered, Answers, more, AnswerWalks, a
 use Rattle.channel_plain.proofs.Bools.{not_false}
 use Rattle.channel_plain.proofs.WordSteps.{takes_next, takes_rest}
 use Rattle.pcc_steps.proofs.AnswerFeeds.{ends_run, fed_rests, is_rest, is_run, run_is, unsettled}
+use Rattle.pcc_steps.proofs.ReplyStages.{reply_at}
 use Rattle.channel_plain.proofs.AnswerHolds.{stepping, after_step, fed_wiring, grown, same_settle}
 
 -- ---- the machine that has loaded a command
@@ -88,9 +90,23 @@ took_no : (b : Bool) (a : Answer) → NoRun (take_on b a).stage
 took_no true a = tt
 took_no false a = take_no (four_by (style_of a.wiring) a.wiring.has_ack) (style_of a.wiring)
 
-replied_no : (b : Bool) (j : ℕ) (a : Answer) → NoRun (reply_on b j a).stage
-replied_no true j a = tt
-replied_no false j a = reply_no (tells_error a.wiring) (style_of a.wiring)
+replied_no : (k : ℕ) (w : Wiring) (out old : List ℕ) → NoRun (reply_stage k w out old)
+replied_no k w out old = let n : ℕ = next_changed k out old in reply_at NoRun (ltb n (length out)) n w tt (reply_no (tells_error w) (style_of w))
+
+error_goes : (s : Style) → is_rest (after_error s) ≡ false
+error_goes Headed = refl
+error_goes Joined4 = refl
+error_goes Separate4 = refl
+error_goes _ = refl
+
+reply_goes : (b : Bool) (s : Style) → is_rest (after_reply b s) ≡ false
+reply_goes true s = refl
+reply_goes false s = error_goes s
+
+-- once the device ran, the run goes on
+replied_goes : (k : ℕ) (w : Wiring) (out old : List ℕ) → is_rest (reply_stage k w out old) ≡ false
+replied_goes k w out old = let n : ℕ = next_changed k out old in
+    reply_at (λ (st : AnswerStage). is_rest st ≡ false) (ltb n (length out)) n w refl (reply_goes (tells_error w) (style_of w))
 
 loaded_ok : (b : Bool) (j v n : ℕ) (a : Answer) → AnswerOk (record a { stage = TakeBlock j }) → let m : Answer = record (load_on b j v a) { steps = n } in HasLoaded m.stage m
 loaded_ok true j v n a ok = tt
@@ -108,7 +124,7 @@ has_loaded TakeAckStore a v n f ok e = no_run (after_ack (style_of a.wiring)) (r
 has_loaded TakeHeader a v n f ok e = tt
 has_loaded (TakeBlock j) a v n f ok e = loaded_ok (has_more j a.wiring) j v n a ok
 has_loaded RunDevice a v n f ok e = absurd (cc f)
-has_loaded (ReplyBlock j) a v n f ok e = no_run (reply_on (has_more j a.wiring) j a).stage (record (reply_on (has_more j a.wiring) j a) { steps = n }) (replied_no (has_more j a.wiring) j a)
+has_loaded (ReplyBlock j) a v n f ok e = let st : AnswerStage = reply_stage (j + 1) a.wiring a.out a.loaded in no_run st (record a { stage = st; steps = n }) (replied_no (j + 1) a.wiring a.out a.loaded)
 has_loaded ReplyError a v n f ok e = no_run (after_error (style_of a.wiring)) (record a { stage = after_error (style_of a.wiring); steps = n }) (error_no (style_of a.wiring))
 has_loaded ReplyHeader a v n f ok e = no_run (done_stage a) (record a { stage = done_stage a; steps = n }) (done_no (four_by (style_of a.wiring) a.wiring.has_bell) (asks_notify a))
 has_loaded ReplyUpdateLoad a v n f ok e = tt
@@ -235,7 +251,7 @@ module _ (exec : Device) (w : Wiring) where
           a_resting stops (subst (λ (x : Answered). Answers exec w start (past ++ (ls ++ l ∷ [])) x.device x.executed) on (more past ls l d es pre serves before walks n (ap (λ (x : Answered). x.run) on) refl))
 
   settle_rest : (st : AnswerStage) (y : Answerer) → y.m.stage ≡ st → is_rest (settle_at exec st y).m.stage ≡ is_rest st
-  settle_rest RunDevice y e = refl
+  settle_rest RunDevice y e = let m : Answer = (settle_at exec RunDevice y).m in replied_goes (heads_of (style_of y.m.wiring)) y.m.wiring m.out y.m.loaded
   settle_rest AnswerRest y e = ap is_rest e
   settle_rest TakeLine y e = ap is_rest e
   settle_rest TakeAckLoad y e = ap is_rest e

@@ -20,7 +20,7 @@ use Rattle.pcc_steps.specs.declared.ask.AskOutcome.{AskOutcome}
 use Rattle.pcc_steps.specs.Wires.{style_of, heads_of, block_header, sees_done, acknowledges}
 use Rattle.pcc_steps.specs.Runs.{Run, post_run, look_run}
 use Rattle.pcc_steps.specs.Walk.{ask_left, ask_after}
-use Rattle.pcc_steps.specs.Asking.{Ask, AskOk, Flies, LooksLeft, PostsLeft, after_block, has_more, store_on, look_on, read_on, block_on, line_on, lowered_on, ask_next, ask_fed, ask_told, ask_fed_at, ask_looking, ask_budgeted}
+use Rattle.pcc_steps.specs.Asking.{Ask, AskOk, LooksLeft, PostsLeft, ask_begun, ask_stepped as stepped_on, has_more, look_on, read_on, block_on, line_on, lowered_on, ask_next, ask_fed, ask_told, ask_fed_at, ask_looking, ask_budgeted}
 use Rattle.pcc_steps.specs.Agree.{act, flying, found}
 use Rattle.pcc_steps.specs.Laws.{PostsByTable, LooksByTable, AsksByTable}
 use Rattle.channel_core.specs.declared.sent.Sent.{Sent}
@@ -37,7 +37,10 @@ use Rattle.channel_plain.specs.WordRuns.{Calls, Serves, goes_on, begins as begin
 use Rattle.channel_core.specs.Readings.{count_of}
 use Rattle.channel_core.specs.Sendings.{count_flying}
 use Rattle.pcc_steps.proofs.AskFeeds.{Fed, fed, stepped, rest_is}
+use Rattle.pcc_steps.proofs.PostStages.{posted_ok}
 use Rattle.channel_plain.proofs.Blocks.{blocks_kept, blocks_stepped, shown_space}
+use Rattle.channel_plain.proofs.PostStages.{First, begun_first, begun_runs}
+use Rattle.channel_plain.proofs.Posts.{no_reading}
 use Rattle.channel_plain.proofs.Readied.{late_enough, soon_is}
 use Rattle.channel_plain.proofs.AskPicks.{running as runs_on}
 use Rattle.channel_plain.proofs.Bools.{not_false}
@@ -48,10 +51,6 @@ use Rattle.channel_plain.proofs.WordSteps.{AskTie, resting, running, Running, po
 look_left : (b : Bool) (v : ℕ) (a : Ask) → a.looks < a.budget → (look_on b v a).looks ≤ (look_on b v a).budget
 look_left true v a h = omega (arith, h)
 look_left false v a h = omega (arith, h)
-
-store_left : (b : Bool) (j : ℕ) (a : Ask) → a.looks ≤ a.budget → (store_on b j a).looks ≤ (store_on b j a).budget
-store_left true j a h = h
-store_left false j a h = h
 
 block_left : (n : Bool) (a : Ask) → a.looks ≤ a.budget → (block_on n a).looks ≤ (block_on n a).budget
 block_left true a h = h
@@ -74,7 +73,7 @@ none_left b = omega arith
 
 left_fed : (st : AskStage) (a : Ask) (v : ℕ) → is_rest st ≡ false → LooksLeft st a.looks a.budget → (ask_fed_at st a v).looks ≤ (ask_fed_at st a v).budget
 left_fed AskRest a v e h = h
-left_fed (PostBlock j) a v e h = store_left (has_more j a.wiring) j a h
+left_fed (PostBlock j) a v e h = h
 left_fed PostHeader a v e h = h
 left_fed PostUpdateLoad a v e h = h
 left_fed PostUpdateStore a v e h = h
@@ -93,38 +92,25 @@ left_fed LookAckStore a v e h = h
 
 -- ---- the machine that begins a post, by the machine after its first step
 
-block_flies : (s : Style) (f : Bool) → Flies (after_block s) f → f ≡ false
-block_flies Headed f h = h
-block_flies Joined3 f h = h
-block_flies Separate3 f h = h
-block_flies Joined4 f h = h
-block_flies Separate4 f h = h
-block_flies Reduced5 f h = h
-
-block_looks : (s : Style) (l b : ℕ) → LooksLeft (after_block s) l b → l ≤ b
-block_looks Headed l b h = h
-block_looks Joined3 l b h = h
-block_looks Separate3 l b h = h
-block_looks Joined4 l b h = h
-block_looks Separate4 l b h = h
-block_looks Reduced5 l b h = h
-
-block_posts : (s : Style) (n : ℕ) → PostsLeft (after_block s) n → n < 4096
-block_posts Headed n h = h
-block_posts Joined3 n h = h
-block_posts Separate3 n h = h
-block_posts Joined4 n h = h
-block_posts Separate4 n h = h
-block_posts Reduced5 n h = h
-
 some_block : (h r : ℕ) → 8 ≤ r → 0 < h + r / 8
 some_block h r l = omega (arith, l)
 
-begun_back : (m : Bool) (b : Ask) (n : ℕ) → b.stage ≡ PostBlock 0 → AskOk (record (store_on m 0 b) { steps = n }) → AskOk b
-begun_back true b n e ok = subst (λ (st : AskStage). AskOk (record b { stage = st })) (sym e)
-    (record { wired = ok.wired; sized = ok.sized; place = some_block (heads_of (style_of b.wiring)) b.wiring.room ok.wired.least; flies = ok.flies; looks = ok.looks; posts = ok.posts; kept = ok.kept; mask = ok.mask; id = ok.id; code = ok.code })
-begun_back false b n e ok = let s : Style = style_of b.wiring in subst (λ (st : AskStage). AskOk (record b { stage = st })) (sym e)
-    (record { wired = ok.wired; sized = ok.sized; place = some_block (heads_of s) b.wiring.room ok.wired.least; flies = block_flies s b.in_flight ok.flies; looks = block_looks s b.looks b.budget ok.looks; posts = block_posts s b.posts ok.posts; kept = ok.kept; mask = ok.mask; id = ok.id; code = ok.code })
+begun_back : (a : Ask) (code : ℕ) (bytes : List ℕ) (v : ℕ) → a.stage ≡ AskRest → a.in_flight ≡ false → AskOk a → AskOk (ask_fed (ask_begun a code bytes) v)
+    → AskOk (ask_begun a code bytes)
+begun_back a code bytes v rest free old ok = let b : Ask = ask_begun a code bytes in let f : First b.stage b v = begun_first a code bytes v in
+    let good : AskOk (stepped_on (record b { stage = f.next; kept = f.kept })) = subst AskOk (ap stepped_on f.fed) ok in
+    posted_ok 0 0 b (record {
+      wired = good.wired;
+      sized = good.sized;
+      place = some_block (heads_of (style_of a.wiring)) a.wiring.room old.wired.least;
+      flies = free;
+      looks = subst (λ (st : AskStage). LooksLeft st a.looks a.budget) rest old.looks;
+      posts = f.posts a.posts good.posts;
+      kept = old.kept;
+      mask = good.mask;
+      id = good.id;
+      code = good.code;
+    })
 
 looking_ok : (a : Ask) → a.stage ≡ AskRest → a.in_flight ≡ true → a.looks < a.budget → AskOk a → AskOk (ask_looking a)
 looking_ok a rest flies left ok = record { wired = ok.wired; sized = ok.sized; place = tt; flies = flies; looks = left; posts = subst (λ (st : AskStage). PostsLeft st a.posts) rest ok.posts; kept = ok.kept; mask = ok.mask; id = ok.id; code = ok.code }
@@ -166,25 +152,25 @@ module _ (w : Wiring) (limits : Limits) (calls : List Asked) where
   soon_tie : PostsByTable → AsksByTable → (o : Option TraceEnd) (s : PlainState) (side : Side) (r : ℕ) (c : Asked) (from x : Calls) (lines : List TraceLine)
       → soon_end r s.calls ≡ o → s.ask.stage ≡ AskRest → s.ask.in_flight ≡ false → s.calls.sent ≡ None → s.ask.wiring ≡ w → s.calls.limits ≡ limits
       → s.ask.budget ≡ c.polls
-      → s.calls.readings ≡ count_of (length x.readings) → replied w s.ask.shown ≡ s.ask.space → AskOk (post_or_soon o c r s).state.ask
+      → s.calls.readings ≡ count_of (length x.readings) → replied w s.ask.shown ≡ s.ask.space → AskOk s.ask → AskOk (post_or_soon o c r s).state.ask
       → Turns w limits calls from lines x → Serves w limits calls x c (calls_at s s.calls.sent x.readings)
       → AskTie w limits calls from (post_or_soon o c r s).state (lines ++ line_of side (post_or_soon o c r s) ∷ []) (x.readings ++ reading_of (post_or_soon o c r s).reads r)
-  soon_tie posts law (Some e) s side r c from x lines test rest free empty wired lim polls num spelled ok before sv =
+  soon_tie posts law (Some e) s side r c from x lines test rest free empty wired lim polls num spelled old ok before sv =
       let y : Calls = calls_at s s.calls.sent x.readings in let n : ℕ = earliest_of s.calls.limits (times_of s.calls.records) in let l : TraceLine = record { side = side; action = Rest; value = 0; end = e } in
       let same : n ≡ earliest_at w limits calls y = ap (λ (m : Limits). earliest_of m (times_of s.calls.records)) lim in
       let soon = soon_is s.calls.limits (times_of s.calls.records) r e test in
       turned w limits calls from x (end_call (take_reading y r)) (record s { calls = call_ended (read_once s.calls) }) lines (l ∷ []) (lines ++ l ∷ []) (x.readings ++ r ∷ []) (ap is_rest rest) before
       (delays x y c r l sv empty (subst (λ (n : ℕ). r < n) same soon.0) (refl, sym soon.1 ∙ ap (λ (n : ℕ). end.TooSoon r n) same)) refl refl
-  soon_tie posts law None s side r c from x lines test rest free empty wired lim polls num spelled ok before sv =
+  soon_tie posts law None s side r c from x lines test rest free empty wired lim polls num spelled old ok before sv =
       let n : ℕ = earliest_of s.calls.limits (times_of s.calls.records) in let t : PlainState = posting c r s in let a : Ask = t.ask in let v : ℕ = found (ask_next a) t.words in
       let same : n ≡ earliest_at w limits calls (calls_at t None x.readings) = ap (λ (m : Limits). earliest_of m (times_of s.calls.records)) lim in
-      let good : AskOk a = begun_back (has_more 0 a.wiring) a (ask_fed a v).steps refl ok in
+      let good : AskOk a = begun_back s.ask c.code c.bytes v rest free old ok in
       let block : a.sent ≡ block_after w c s.ask.shown = ap (λ (z : Wiring × List ℕ). block_header (style_of z.0) z.0 c.code (length c.bytes) ++ words_of (over z.1 c.bytes)) (λ i. (wired i, sym spelled i)) in
-      let left : posts_call w c s.ask.shown ≡ ask_left a = ap (λ (b : List ℕ). post_run w c.code b) (sym block) ∙ (ap (λ (w : Wiring). post_run w c.code a.sent) (sym wired) ∙ sym (posts s.ask c.code c.bytes)) in
+      let left : posts_call w c s.ask.shown ≡ ask_left a = ap (λ (b : List ℕ). post_run w c.code b s.ask.shown) (sym block) ∙ (ap (λ (w : Wiring). post_run w c.code a.sent s.ask.shown) (sym wired) ∙ sym (posts s.ask c.code c.bytes)) in
       let sent : t.calls.sent ≡ Some (sent_by c s.ask.space (reading_at x.readings r)) = ap (λ (n : ℕ). Some (sent_by c s.ask.space (record { at = r; number = n }))) num in
       let run : Running w limits calls t x [] (r ∷ []) = posts_run c r free (subst (λ (o : Option Sent). Serves w limits calls x c (calls_at s o x.readings)) empty sv) sent block (subst (λ (n : ℕ). n ≤ r) same (late_enough s.calls.limits (times_of s.calls.records) r test)) left polls in
-      subst (λ (rs : List ℕ). AskTie w limits calls from (ask_stepped r t).state (lines ++ line_of side (ask_stepped r t) ∷ []) rs) (append-nil (x.readings ++ r ∷ []))
-      (step_tie law t side r good refl wired from x lines [] (r ∷ []) before run)
+      subst (λ (rs : List ℕ). AskTie w limits calls from (ask_stepped r t).state (lines ++ line_of side (ask_stepped r t) ∷ []) rs) (ap (λ (b : Bool). (x.readings ++ r ∷ []) ++ reading_of b r) (no_reading t r s.ask c.code c.bytes refl) ∙ append-nil (x.readings ++ r ∷ []))
+      (step_tie law t side r good (begun_runs s.ask c.code c.bytes) wired from x lines [] (r ∷ []) before run)
 
   served_tie : PostsByTable → LooksByTable → AsksByTable
       → (f : Bool) (s : PlainState) (side : Side) (r : ℕ) (c : Asked) (from x : Calls) (lines : List TraceLine) → s.ask.in_flight ≡ f → s.ask.stage ≡ AskRest
@@ -199,7 +185,7 @@ module _ (w : Wiring) (limits : Limits) (calls : List Asked) where
       subst (λ (rs : List ℕ). AskTie w limits calls from (ask_stepped r t).state (lines ++ line_of side (ask_stepped r t) ∷ []) (rs ++ reading_of (ask_stepped r t).reads r)) (append-nil x.readings)
       (step_tie law t side r (looking_ok s.ask rest flies (left refl) ok) refl wired from x lines [] [] before run)
   served_tie posts looks law false s side r c from x lines free rest ok has left wired lim polls num spelled ok' before sv =
-      soon_tie posts law (soon_end r s.calls) s side r c from x lines refl rest free (subst (λ (f : Bool). IsCarried f s.calls.sent s.ask.code s.ask.input) free has) wired lim polls num spelled ok' before sv
+      soon_tie posts law (soon_end r s.calls) s side r c from x lines refl rest free (subst (λ (f : Bool). IsCarried f s.calls.sent s.ask.code s.ask.input) free has) wired lim polls num spelled ok ok' before sv
 
   begins_tie : PostsByTable → LooksByTable → AsksByTable
       → (o : Option TraceEnd) (s : PlainState) (side : Side) (r : ℕ) (c : Asked) (from : Calls) (lines : List TraceLine) (rs : List ℕ)

@@ -9,7 +9,7 @@ use Rattle.pcc_steps.specs.declared.ask.AskOutcome.{AskOutcome}
 use Rattle.pcc_steps.specs.declared.ask.AskOutcome.TheVariants.{Posted, Clear, Drained}
 use Rattle.pcc_steps.specs.Wires.{sees_done, acknowledges}
 use Rattle.pcc_steps.specs.Agree.{Spells}
-use Rattle.pcc_steps.specs.Asking.{Ask, AskOk, has_more, ask_fed_at, ask_told_at, store_on, look_on, read_on, block_on, line_on, lowered_on, look_told, read_told, end_told, line_told}
+use Rattle.pcc_steps.specs.Asking.{Ask, AskOk, has_more, ask_fed_at, ask_told_at, look_on, read_on, block_on, line_on, lowered_on, look_told, read_told, end_told, line_told}
 use Rattle.channel_plain.specs.WordRuns.{replied}
 
 abbrev pub BlocksAfter : Option AskOutcome → Ask → Ask → Type 0
@@ -17,10 +17,6 @@ BlocksAfter None a b = (b.sent ≡ a.sent) × (b.shown ≡ a.shown)
 BlocksAfter (Some Posted) a b = (b.sent ≡ a.sent) × (b.shown ≡ a.shown)
 BlocksAfter (Some Clear) a b = (b.sent ≡ a.sent) × (b.shown ≡ a.shown)
 BlocksAfter (Some (Drained e)) a b = Unit {0}
-
-stored : (b : Bool) (j : ℕ) (a : Ask) → BlocksAfter None a (store_on b j a)
-stored true j a = (refl, refl)
-stored false j a = (refl, refl)
 
 looked : (b : Bool) (v : ℕ) (a : Ask) → BlocksAfter (look_told b) a (look_on b v a)
 looked true v a = (refl, refl)
@@ -44,7 +40,7 @@ lowers false a = tt
 
 pub blocks_kept : (st : AskStage) (a : Ask) (v : ℕ) → BlocksAfter (ask_told_at st a v) a (ask_fed_at st a v)
 blocks_kept AskRest a v = (refl, refl)
-blocks_kept (PostBlock j) a v = stored (has_more j a.wiring) j a
+blocks_kept (PostBlock j) a v = (refl, refl)
 blocks_kept PostHeader a v = (refl, refl)
 blocks_kept PostUpdateLoad a v = (refl, refl)
 blocks_kept PostUpdateStore a v = (refl, refl)

@@ -32,6 +32,7 @@ use Rattle.channel_plain.specs.Standing.{asker_of, answerer_of, IsCarried, Looks
 use Rattle.channel_plain.specs.Steps.{budget_by}
 use Rattle.pcc_steps.proofs.AskFeeds.{Fed, done_same, fed, stepped, not_rest}
 use Rattle.channel_plain.proofs.Bools.{below, not_false}
+use Rattle.channel_plain.proofs.PostStages.{begun_runs, posted_carries}
 
 -- ---- small facts
 
@@ -268,9 +269,9 @@ module _ (exec : Device) (is_state : List ℕ → Type 0) (room_of : List ℕ �
       long = k.long;
       start = k.start;
       room = k.room;
-      carries = (refl, refl);
+      carries = posted_carries c r (record s { calls = call_begun s.calls });
       runs = λ e. refl;
-      looks = λ e. least;
+      looks = λ e. subst (λ (b : Bool). LooksBegun (both b a.in_flight) a.looks a.budget) (sym (begun_runs a c.code c.bytes)) least;
       own = λ q e. refl;
     },
     record { fits = h.1.fits; taken = λ q n. refl },

@@ -1,6 +1,7 @@
 pub mod Bools
 pub mod Readied
 pub mod Blocks
+pub mod PostStages
 pub mod Keeps
 pub mod AnswerHolds
 pub mod Posts

@@ -1,8 +1,8 @@
 -- A trace that lost the end of a run is refused.
 use Rattle.std.proofs.Common.{◌≡◌, ◌≢◌, ◌⊎◌, inl, inr, ℕ, ◌+◌, Bool, true, false, List, [], ◌∷◌, ◌++◌, refl, sym, ap, ◌∙◌, subst}
-use Rattle.std.specs.Prelude.{Option, Some, None}
+use Rattle.std.specs.Prelude.{◌==◌, if◌then◌else◌, Option, Some, None}
 use Rattle.std.specs.List.{slice_get}
-use Rattle.pcc_history.specs.Channel.{Exchange, over}
+use Rattle.pcc_history.specs.Channel.{Exchange}
 use Rattle.pcc_history.specs.Devices.{Device, bank_exec}
 use Rattle.rate_limit.specs.declared.Limits.{Limits}
 use Rattle.pcc_journal.specs.declared.record.Record.{Record}
@@ -11,13 +11,13 @@ use Rattle.pcc_steps.specs.Wires.{opening_header, style_of}
 use Rattle.pcc_steps.specs.declared.wiring.Wiring.{Wiring}
 use Rattle.pcc_steps.specs.declared.wiring.Action.{Action}
 use Rattle.pcc_steps.specs.declared.wiring.Action.TheVariants.{Load, Store, Swap, Rest}
-use Rattle.pcc_steps.specs.Runs.{Run, ends, loads, stores, swaps, executes, AskEnd, posts, sees_clear, drains, AnswerEnd, finds_none, serves, look_run, post_run}
+use Rattle.pcc_steps.specs.Runs.{Run, ends, loads, stores, swaps, executes, store_changed, stores_header, writes_bell, raises_bell, posting, AskEnd, posts, sees_clear, drains, AnswerEnd, finds_none, serves, look_run, post_run}
 use Rattle.channel_core.specs.declared.sent.Sent.{Sent}
 use Rattle.channel_plain.specs.declared.trace.Asked.{Asked}
 use Rattle.channel_plain.specs.declared.trace.TraceEnd.{TraceEnd}
 use Rattle.channel_plain.specs.declared.trace.TraceEnd.TheVariants as end
 use Rattle.channel_plain.specs.declared.trace.TraceLine.{TraceLine}
-use Rattle.channel_plain.specs.WordRuns.{Answered, Answers, AnswerWalks, Calls, Cut, IsAnswering, IsAsking, IsRun, IsUnfinished, Serves, Turn, Turns, Walks, answer_from, answer_on, answered_end, begins, delays, from_opening, gives_up, goes_on, idles, looking, looks_on, next_of, posts_call, refuses, replied, rest_of, sending, sends, takes, unanswered, whole}
+use Rattle.channel_plain.specs.WordRuns.{Answered, Answers, AnswerWalks, Calls, Cut, IsAnswering, IsAsking, IsRun, IsUnfinished, Serves, Turn, Turns, Walks, answer_from, answer_on, answered_end, begins, block_after, delays, from_opening, gives_up, goes_on, idles, looking, looks_on, next_of, posts_call, refuses, rest_of, sending, sends, takes, unanswered, whole}
 use Rattle.channel_plain.specs.WordRuns.{none, more}
 use Rattle.channel_core.specs.Sendings.{is_late}
 use Rattle.channel_plain.specs.Picks.{drained_end, given_up_end}
@@ -289,9 +289,18 @@ w0 = wired 0 false false
 abbrev free_limits : Limits
 free_limits = record { turnaround = 0; per_minute = 0 }
 
-stores_first : (code : ℕ) (block : List ℕ) → next_of (post_run w0 code block) ≡ Some (Load 0) → ⊥
-stores_first code [] e = cc
-stores_first code (b ∷ bs) e = cc
+-- a post of types 0 to 2 begins with a store: of the first word of the block that changed, or else of the header
+either_first : (b : Bool) (p u : ℕ) (run next : Run AskEnd) → (next_of run ≡ Some (Load 0) → ⊥) → next_of (if b then run else stores p u next) ≡ Some (Load 0) → ⊥
+either_first true p u run next h e = h e
+either_first false p u run next h e = cc
+
+changed_first : (p : ℕ) (block old : List ℕ) (run : Run AskEnd) → (next_of run ≡ Some (Load 0) → ⊥) → next_of (store_changed p block old run) ≡ Some (Load 0) → ⊥
+changed_first p [] old run h e = h e
+changed_first p (b ∷ bs) [] run h e = cc
+changed_first p (b ∷ bs) (o ∷ os) run h e = either_first (b == o) p b (store_changed (p + 1) bs os run) (store_changed (p + 1) bs os run) (changed_first (p + 1) bs os run h) e
+
+stores_first : (code : ℕ) (block old : List ℕ) → next_of (post_run w0 code block old) ≡ Some (Load 0) → ⊥
+stores_first code block old e = changed_first 8 block old (posting (stores_header ∷ writes_bell ∷ raises_bell ∷ []) w0 code block old) (λ q. cc) e
 
 abbrev five : List TraceLine
 five = line System (Store 8 513) 0 end.Open ∷ line System (Store 0 70066062080) 0 end.Open ∷ line System (Load 1) 0 end.Open ∷ line System (Store 1 1) 0 end.Open ∷ line System (Store 2 1) 0 end.Open ∷ []
@@ -318,7 +327,7 @@ look_off : (x : Calls) (ls : List TraceLine) (rs : List ℕ) (m : TraceLine) (ns
     → ((rest : Run AskEnd) → Walks (look_run w0) (m ∷ ns) rest → ends e ≡ rest) → Cut w0 free_limits one_call x ls rs → ls ≡ m ∷ ns → ⊥
 look_off x ls rs m ns k act done (whole _) e = cc
 look_off x ls rs m ns k act done (sending _ s' c r l ms rest sv free le walks left) e = let h : Walks (posts_call w0 c s'.block) (m ∷ ns) rest = subst (λ (z : List TraceLine). Walks (posts_call w0 c s'.block) z rest) e walks in
-    stores_first c.code (words_of (over (replied w0 s'.block) c.bytes)) (h.0 ∙ ap Some act)
+    stores_first c.code (block_after w0 c s'.block) s'.block (h.0 ∙ ap Some act)
 look_off x ls rs m ns k act done (looking _ s' c p l ms rest sv es walks left) e = none_left k rest (done rest (subst (λ (z : List TraceLine). Walks (look_run w0) z rest) e walks)) left
 
 abbrev seen_clear : TraceLine
@@ -347,6 +356,7 @@ abbrev answer_lines : List TraceLine
 answer_lines = line Platform (Swap 2 0) 1 end.Open ∷ line Platform (Load 0) 70066062080 end.Open ∷ line Platform (Load 8) 513 end.Open ∷ line Platform (Store 8 0) 0 end.Open ∷ line Platform (Store 0 281545042772736) 0 end.Open ∷ []
 
 served_walk : (b : Answered) → AnswerWalks bank_exec w0 (answer_from bank_exec w0 (0 ∷ no_bytes) []) answer_lines b → ends serves ≡ b.run
+unfolding word_of
 served_walk b h = ap (λ (x : Answered). x.run) h.2.2.2.2.2
 
 pub served : lost_served

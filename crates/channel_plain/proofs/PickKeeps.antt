@@ -17,6 +17,7 @@ use Rattle.pcc_steps.specs.Carrying.{is_rest}
 use Rattle.channel_plain.specs.Standing.{Stands}
 use Rattle.pcc_steps.proofs.AskFeeds.{Fed, fed, stepped, rest_is}
 use Rattle.channel_plain.proofs.AskPicks.{running}
+use Rattle.channel_plain.proofs.PostStages.{begun_flies, begun_runs, begun_told}
 
 -- the count of the readings, with the one that was taken
 abbrev pub counted_if : Bool → ℕ → ℕ
@@ -83,13 +84,13 @@ soon_kept : (o : Option TraceEnd) (s t : PlainState) (r : ℕ) (c : Asked) → t
     → t.ask.in_flight ≡ false → AskKept s (post_or_soon o c r t)
 soon_kept (Some e) s t r c ws ls rs w st free =
     record { value = refl; words = ws; limits = ls; wiring = w; readings = ap counted rs; rest = ap (λ (z : PlainState). with_asking z (post_or_soon (Some e) c r t).state) st }
-soon_kept None s t r c ws ls rs w st free = let a : Ask = (posting c r t).ask in let v : ℕ = found (ask_next a) t.words in let z : Ask = ask_fed_at a.stage a v in
-    let f : Fed a.stage a (ask_fed a v) (ask_told a v) = stepped a.stage a z (ask_told a v) (ask_fed a v).steps (fed a.stage a v refl free) in record {
-      value = ap (found (ask_next (posting c r t).ask)) ws;
-      words = ap (act (ask_next (posting c r t).ask)) ws;
-      limits = ls;
+soon_kept None s t r c ws ls rs w st free = let a : Ask = (posting c r t).ask in let v : ℕ = found (ask_next a) t.words in let z : Ask = ask_fed_at a.stage a v in let told : Option AskOutcome = ask_told a v in let k : CallsState = (posting c r t).calls in
+    let f : Fed a.stage a (ask_fed a v) told = stepped a.stage a z told (ask_fed a v).steps (fed a.stage a v (begun_runs t.ask c.code c.bytes) (begun_flies t.ask c.code c.bytes free)) in record {
+      value = ap (found (ask_next a)) ws;
+      words = ap (act (ask_next a)) ws;
+      limits = told_limits told r (ask_fed a v) k ∙ ls;
       wiring = f.wiring ∙ w;
-      readings = ap counted rs;
+      readings = told_readings told r (ask_fed a v) k ∙ (ap (λ (o : Option AskOutcome). counted_if (takes_reading o) k.readings) (begun_told t.ask c.code c.bytes v) ∙ ap counted rs);
       rest = ap (λ (z : PlainState). with_asking z (post_or_soon None c r t).state) st;
     }
 

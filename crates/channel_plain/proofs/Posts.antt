@@ -1,14 +1,17 @@
 -- A post that is begun, and a call that is too soon.
 use Rattle.std.proofs.Common.{◌≡◌, ℕ, Bool, true, false, List, refl, sym, ap, ◌∙◌, subst}
 use Rattle.std.specs.Prelude.{Option, Some, None}
-use Rattle.pcc_steps.specs.Asking.{Ask, ask_begun}
+use Rattle.pcc_steps.specs.declared.ask.AskOutcome.{AskOutcome}
+use Rattle.pcc_steps.specs.Asking.{Ask, ask_begun, ask_fed, ask_next, ask_told}
+use Rattle.pcc_steps.specs.Agree.{act, found}
 use Rattle.pcc_steps.specs.declared.wiring.Action.TheVariants.{Rest}
 use Rattle.channel_plain.specs.declared.trace.Asked.{Asked}
 use Rattle.channel_plain.specs.declared.trace.TraceEnd.{TraceEnd}
 use Rattle.channel_plain.specs.declared.pick.Pick.{Pick}
-use Rattle.channel_plain.specs.Picks.{CallsState, PlainState, Picked, ask_stepped, call_begun, call_ended, call_posted, post_or_soon, posting, read_once, served, soon_end}
+use Rattle.channel_plain.specs.Picks.{CallsState, PlainState, Picked, ask_ended, ask_stepped, call_begun, call_ended, call_posted, post_or_soon, posting, read_once, served, soon_end, takes_reading}
 use Rattle.channel_plain.specs.Holding.{Tried, tried_by}
 use Rattle.channel_plain.specs.Steps.{IsPick, begun_by, begun_with, budget_by}
+use Rattle.channel_plain.proofs.PostStages.{begun_told}
 
 -- ---- what the calls report of a post
 
@@ -67,10 +70,21 @@ post_reads begins polls c r s e = ap (λ (p : Picked). p.reads) (by_test None be
 
 -- the first step of a post takes no reading
 pub no_reading : (s : PlainState) (r : ℕ) (a : Ask) (code : ℕ) (bytes : List ℕ) → s.ask ≡ ask_begun a code bytes → (ask_stepped r s).reads ≡ false
-no_reading s r a code bytes e = subst (λ (x : Ask). (ask_stepped r (record s { ask = x })).reads ≡ false) (sym e) refl
+no_reading s r a code bytes e = let b : Ask = ask_begun a code bytes in
+    subst (λ (x : Ask). (ask_stepped r (record s { ask = x })).reads ≡ false) (sym e) (ap takes_reading (begun_told a code bytes (found (ask_next b) s.words)))
+
+-- a step with this outcome
+abbrev step_told : Option AskOutcome → ℕ → PlainState → Picked
+step_told told r s = let action = ask_next s.ask in let v : ℕ = found action s.words in let a : Ask = ask_fed s.ask v in let e = ask_ended told r a s.calls in
+    record { state = record s { words = act action s.words; ask = a; calls = e.calls }; action = action; value = v; end = e.end; reads = takes_reading told }
+
+-- a step that ends no run is the same at every reading
+any_reading : (s : PlainState) (r q : ℕ) → ask_told s.ask (found (ask_next s.ask) s.words) ≡ None → ask_stepped r s ≡ ask_stepped q s
+any_reading s r q e = ap (λ (o : Option AskOutcome). step_told o r s) e ∙ sym (ap (λ (o : Option AskOutcome). step_told o q s) e)
 
 other_reading : (s : PlainState) (r q : ℕ) (a : Ask) (code : ℕ) (bytes : List ℕ) → s.ask ≡ ask_begun a code bytes → ask_stepped r s ≡ ask_stepped q s
-other_reading s r q a code bytes e = subst (λ (x : Ask). ask_stepped r (record s { ask = x }) ≡ ask_stepped q (record s { ask = x })) (sym e) refl
+other_reading s r q a code bytes e = let b : Ask = ask_begun a code bytes in
+    subst (λ (x : Ask). ask_stepped r (record s { ask = x }) ≡ ask_stepped q (record s { ask = x })) (sym e) (any_reading (record s { ask = b }) r q (begun_told a code bytes (found (ask_next b) s.words)))
 
 pub post_pick : (begins : Bool) (polls : ℕ) (c : Asked) (r q : ℕ) (s t s' : PlainState) (k : CallsState) (a : Ask) (pick : Pick) → soon_end r s.calls ≡ None
     → k ≡ call_posted c s.ask.space r (call_begun s.calls) → a ≡ ask_begun (budget_by begins polls s.ask) c.code c.bytes

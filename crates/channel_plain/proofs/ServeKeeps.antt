@@ -27,6 +27,7 @@ use Rattle.pcc_steps.specs.Carrying.{carried, carried_at, is_rest}
 use Rattle.channel_plain.specs.Standing.{IsServing, Serving, Stands, owns}
 use Rattle.pcc_steps.proofs.AskFeeds.{Fed, fed, stepped}
 use Rattle.channel_plain.proofs.Bools.{not_false}
+use Rattle.channel_plain.proofs.PostStages.{begun_flies, begun_runs}
 
 serving_as : (calls : List Asked) (w w' : Wiring) (u u' n n' f f' : ℕ) (b : CallsState) → w' ≡ w → u' ≡ u → n' ≡ n → f' ≡ f → Serving calls w u n f b
     → Serving calls w' u' n' f' b
@@ -77,7 +78,7 @@ step_serving calls r s runs flies own h = let a : Ask = s.ask in let v : ℕ = f
 soon_serving : (o : Option TraceEnd) (calls : List Asked) (c : Asked) (r : ℕ) (s : PlainState) → s.ask.in_flight ≡ false → IsServing calls s
     → IsServing calls (post_or_soon o c r s).state
 soon_serving (Some x) calls c r s free h = λ e. absurd (cc e)
-soon_serving None calls c r s free h = step_serving calls r (posting c r s) refl free (λ q e. refl)
+soon_serving None calls c r s free h = step_serving calls r (posting c r s) (begun_runs s.ask c.code c.bytes) (begun_flies s.ask c.code c.bytes free) (λ q e. refl)
     (λ begun. let v = h begun in record { call = v.call; at = v.at; code = v.code; fits = v.fits; polls = v.polls; room = λ e. absurd (cc e) })
 
 served_serving : (f : Bool) (calls : List Asked) (c : Asked) (r : ℕ) (s : PlainState) → s.ask.in_flight ≡ f → IsServing calls s
