@@ -1,5 +1,5 @@
 -- A pick of the asking side, by the run that is under way and by the call that is served.
-use Rattle.std.proofs.Common.{◌≡◌, ℕ, ◌<◌, ◌^◌, Bool, true, false, ltb, if◌then◌else◌, ◌==◌, List, refl, sym, ◌∙◌, subst, arith}
+use Rattle.std.proofs.Common.{◌≡◌, ℕ, ◌<◌, ◌^◌, Bool, true, false, ltb, if◌then◌else◌, ◌==◌, List, length, refl, sym, ap, ◌∙◌, subst, arith}
 use Rattle.std.specs.Prelude.{Option, Some, None}
 use Rattle.std.specs.List.{slice_get}
 use Rattle.std.proofs.lemmas.Bool.Decides.{nat_tests}
@@ -10,18 +10,26 @@ use Rattle.pcc_steps.specs.declared.wiring.Style.{Style}
 use Rattle.pcc_steps.specs.declared.wiring.Style.TheVariants.{Headed, Joined3, Separate3, Joined4, Separate4, Reduced5}
 use Rattle.pcc_steps.specs.Wires.{style_of}
 use Rattle.pcc_steps.specs.Asking.{CodeFits}
+use Rattle.pcc_steps.specs.Agree.{flying}
 use Rattle.channel_plain.specs.declared.trace.Asked.{Asked}
 use Rattle.std.specs.Prelude.{◌&&◌, nat_lt}
 use Rattle.channel_core.specs.declared.answers.CallRefusal.{CallRefusal}
 use Rattle.channel_core.specs.declared.answers.CallRefusal.TheVariants as refusal
 use Rattle.channel_core.specs.declared.refusals.TheConstants.{GREATEST_CODE}
 use Rattle.channel_core.specs.Refusals.{has_byte_codes}
-use Rattle.channel_plain.specs.Picks.{PlainState, ask_picked_at, ask_stepped, is_wide, refusal_of, refused_end}
+use Rattle.channel_plain.specs.declared.trace.TraceEnd.{TraceEnd}
+use Rattle.channel_plain.specs.Picks.{PlainState, ask_picked_at, ask_stepped, begins, from_rest, is_wide, refusal_of, refused_end}
 use Rattle.channel_plain.specs.Standing.{IsServing}
 
 pub running : (st : AskStage) → (st ≡ AskRest → ⊥) → (calls : List Asked) (r : ℕ) (s : PlainState) → ask_picked_at st calls r s ≡ ask_stepped r s
 running AskRest n calls r s = absurd (n refl)
 running _ n calls r s = refl
+
+-- no run is under way and no call is begun: the next one begins, where nothing refuses it
+pub begins_next : (calls : List Asked) (s : PlainState) (c : Asked) (r : ℕ) → s.calls.begun ≡ false → slice_get calls s.calls.ended ≡ Some c
+    → refusal_of s.ask.wiring c (length s.calls.records) (flying s.ask.in_flight) ≡ None
+    → from_rest s.calls.begun (slice_get calls s.calls.ended) r s ≡ begins None c r s
+begins_next calls s c r idle at free = ap (λ (z : Bool × Option Asked). from_rest z.0 z.1 r s) (λ i. (idle i, at i)) ∙ ap (λ (o : Option TraceEnd). begins o c r s) free
 
 -- ---- what is known of a call that nothing refuses
 
