@@ -44,6 +44,7 @@ use Rattle.channel_plain.specs.Standing.{IsCarried, Stands, answerer_of, asker_o
 use Rattle.channel_plain.specs.Weaving.{Clocked, PicksOnce}
 use Rattle.channel_plain.proofs.AskPicks.{running}
 use Rattle.channel_plain.proofs.PickKeeps.{picked_kept}
+use Rattle.channel_plain.proofs.PostStages.{begun_flies, begun_runs, begun_told, posted_carries}
 use Rattle.pcc_notify.specs.declared.notice.Notice.{Notice}
 use Rattle.pcc_notify.specs.Notices.{command_at, flying_of, handled_of, notice_of, posted_of, posts_by}
 
@@ -203,7 +204,8 @@ free_same false a b e = refl
 soon_posts : (o : Option TraceEnd) (t : PlainState) (r : ℕ) (c : Asked) → t.ask.in_flight ≡ false → PostsNone o → Posts t (post_or_soon o c r t)
 soon_posts (Some e) t r c free none = drops_none (posted_of t) (posts_by e t.ask.wiring t.words) (none t.ask.wiring t.words)
 soon_posts None t r c free none = let u : PlainState = posting c r t in let p : Picked = ask_stepped r u in
-    step_posts u r refl free (refl, refl) (λ e. absurd (cc e))
+    step_posts u r (begun_runs t.ask c.code c.bytes) (begun_flies t.ask c.code c.bytes free) (posted_carries c r t)
+    (λ e. let q : None ≡ Some Posted = sym (begun_told t.ask c.code c.bytes (found (ask_next u.ask) t.words)) ∙ e in absurd (cc q))
     ∙ ap (λ (l : List Notice). (handled_of (exchanges_of t.calls.records) ++ l) ++ posts_by p.end t.ask.wiring p.state.words) (free_same t.ask.in_flight u.calls.sent t.calls.sent free)
 
 served_posts : (f : Bool) (t : PlainState) (r : ℕ) (c : Asked) → t.ask.in_flight ≡ f → IsCarried t.ask.in_flight t.calls.sent t.ask.code t.ask.input
