@@ -334,6 +334,24 @@ fn answer_moved(words: &mut [u64], answer: &mut AnswerState) -> Action
     answer_next(answer)
 }
 
+// Begins a look, where one may begin.
+fn looks(ask: &mut AskState) -> bool {
+    if !ask.in_flight() || ask.looks() >= ask.budget() || ask_next(ask) != Action::Rest {
+        return false;
+    }
+    ask_look(ask);
+    true
+}
+
+// Begins a post without bytes, where one may begin, and returns its first step.
+fn posts_again(ask: &mut AskState) -> Option<Action> {
+    if ask.in_flight() || ask.posts() >= 4096 || ask_next(ask) != Action::Rest {
+        return None;
+    }
+    ask_begin(ask, 16, &[]);
+    Some(ask_next(ask))
+}
+
 #[test]
 fn words_that_the_asking_machine_moves_at_once(rt: HostRuntime) {
     let wiring = with_short_bell(wired(0, 40, false, false));
@@ -371,17 +389,7 @@ fn words_that_the_asking_machine_moves_at_once(rt: HostRuntime) {
     let reply = [0x0001_0010_5043_4300, 0, 0, 0, 0, 0, 0, 0, 5, 6, 7, 8, 9];
     words = reply;
     others = reply;
-    if !ask.in_flight() || ask.looks() >= ask.budget() || ask_next(&ask) != Action::Rest {
-        panic!(rt; "a look can begin");
-    }
-    ask_look(&mut ask);
-    if !stepped.in_flight()
-        || stepped.looks() >= stepped.budget()
-        || ask_next(&stepped) != Action::Rest
-    {
-        panic!(rt; "a look can begin");
-    }
-    ask_look(&mut stepped);
+    assert!(rt; looks(&mut ask) && looks(&mut stepped));
     assert!(rt; ask_until(&mut words, &mut ask, Load(8)).is_none());
     assert!(rt; ask_moved(&mut words, &mut ask) == Load(12));
     assert!(rt; ask_until(&mut others, &mut stepped, Load(12)).is_none());
@@ -391,14 +399,8 @@ fn words_that_the_asking_machine_moves_at_once(rt: HostRuntime) {
     assert!(rt; ask_until(&mut others, &mut stepped, Action::Rest) == Some(drained));
     assert!(rt; words == reply && others == reply && ask.space() == stepped.space());
     // what was loaded is what the next command is compared with
-    if ask.in_flight() || ask.posts() >= 4096 || ask_next(&ask) != Action::Rest {
-        panic!(rt; "a post can begin");
-    }
-    if ask.wiring().kind != 0 || ask.wiring().room != 40 {
-        panic!(rt; "the subspace stays");
-    }
-    ask_begin(&mut ask, 16, &[]);
-    assert!(rt; ask_next(&ask) == Store(0, 0x0000_0010_5043_4300));
+    let first = Store(0, 0x0000_0010_5043_4300);
+    assert!(rt; posts_again(&mut ask) == Some(first));
 }
 
 // A reply of which the words 0, 2 and 3 differ from the input.
